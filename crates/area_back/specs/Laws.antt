@@ -14,7 +14,8 @@ use Rattle.area_rules.specs.Area.{PlainArea, object_at, changed_at, IsArea}
 abbrev pub UnchangedGoesBack : Type 0
 UnchangedGoesBack = (tree : PlainGff) → broken_places tree.top ≡ [] → back tree (objects_of tree.top) ≡ tree
 
--- Objects are alike that have one tag, the same names of resources, and of each type and name the same variable.
+-- Objects are alike that have one tag, the same names of resources, and of each type and name the
+-- same variable.
 pub record AreAlike (object other : AreaObject) : Type 0 where
   pub tag : object.tag ≡ other.tag
   pub scripts : object.scripts ≡ other.scripts

@@ -10,8 +10,8 @@ use Rattle.emission_rules.specs.Expressions.{labels, all_labels}
 abbrev pub extended : LabelledCode → List Line → ℕ → LabelledCode
 extended code lines count = record { lines = code.lines ++ lines; labels = code.labels + count }
 
--- Where so many labels were made, an expression's code can be added at a depth: it keeps the bounds, its calls are of functions
--- that have labels, and depth and labels stay small numbers.
+-- Where so many labels were made, an expression's code can be added at a depth: it keeps the
+-- bounds, its calls are of functions that have labels, and depth and labels stay small numbers.
 pub record IsReady (made : ℕ) (l : Layout) (depth : ℕ) (x : TypedExpr) : Type 0 where
   pub bounded : IsExpr made l x
   pub deep : depth + weight x ≤ depth_limit

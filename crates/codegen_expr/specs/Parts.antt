@@ -1,4 +1,5 @@
--- Places and operators as code holds them, and the code before and behind the value of a prefix operator.
+-- Places and operators as code holds them, and the code before and behind the value of a prefix
+-- operator.
 use Rattle.std.specs.Prelude.{ℕ, ◌+◌, ◌≤◌, List, [], ◌∷◌, Option, None, Some}
 use Rattle.ncs_code.specs.Plain as ops
 use Rattle.ncs_emit.specs.Labelled.{Line, Instruction}

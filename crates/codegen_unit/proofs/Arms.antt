@@ -1,4 +1,5 @@
--- From a statement that is known to its parts: that their code can be added, that they are smaller, and that the statement's code is theirs.
+-- From a statement that is known to its parts: that their code can be added, that they are smaller,
+-- and that the statement's code is theirs.
 use Rattle.std.proofs.Common.{◌≡◌, ◌<◌, ◌≤◌, ◌+◌, ◌^◌, ℕ, true, List, [], ◌++◌, Option, Some, None, Result, Ok, Err, arith, ap, sym, ◌∙◌, subst}
 use Rattle.std.specs.Option.{option_map}
 use Rattle.std.specs.Result.{OnOk}

@@ -83,7 +83,8 @@ pub record SwitchReady (made : ℕ) (l : Layout) (depth : ℕ) (around : Exits) 
   pub labelled : made + all_stmt_labels xs < 2 ^ 32
   pub continue_made : IsMade made around.continue_to
 
--- The labels of a switch from a number on were made and are placed nowhere: as many as these statements place.
+-- The labels of a switch from a number on were made and are placed nowhere: as many as these
+-- statements place.
 pub record AreOpen (made : ℕ) (lines : List Line) (at : ℕ) (xs : TypedStmts) : Type 0 where
   pub inside : at + count_labels xs ≤ made
   pub unplaced : (label : ℕ) → at ≤ label → label < at + count_labels xs → placements lines label ≡ 0

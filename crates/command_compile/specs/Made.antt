@@ -1,4 +1,5 @@
--- What clauses say of a file while it is made, whatever the files tell that its script was read from.
+-- What clauses say of a file while it is made, whatever the files tell that its script was read
+-- from.
 use Rattle.std.specs.Prelude.{◌≡◌, ℕ, List}
 use Rattle.nwq_value.specs.Engine.{EngineTable}
 use Rattle.nss_tree.specs.Source.{SourceTree}
@@ -9,7 +10,8 @@ use Rattle.typing_rules.specs.Meaning.{TypesUnit}
 use Rattle.typing_laws.specs.Laws.{HasCode}
 use Rattle.emission_rules.specs.Units.{unit_file}
 
--- These are the bytes of the file of a unit that is typed under a header, from a tree that some tokens have.
+-- These are the bytes of the file of a unit that is typed under a header, from a tree that some
+-- tokens have.
 pub record IsUnitFile (header : EngineTable) (bytes : List ℕ) : Type 0 where
   pub tokens : List Symbol
   pub tree : SourceTree

@@ -67,7 +67,8 @@ abbrev pub plain_answer : Result CheckedCode Status → Result (List PlainOp) St
 plain_answer (Ok checked) = Ok checked.code
 plain_answer (Err status) = Err status
 
--- what stops a check: the header or the file isn't there, is too long or refused, or the work is cut
+-- what stops a check: the header or the file isn't there, is too long or refused, or the work is
+-- cut
 abbrev pub StopsCheck : Status → Type 0
 StopsCheck Code = Unit {0}
 StopsCheck status = StopsSource status

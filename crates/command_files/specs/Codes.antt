@@ -22,7 +22,8 @@ load_flaw (fault.At at op.Short) = Some (flaw.Short at)
 load_flaw (fault.Target at) = Some (flaw.Target at)
 load_flaw fault.NoMemory = None
 
--- what comes of a file's bytes: the instructions that they are the file of, or what is wrong with them
+-- what comes of a file's bytes: the instructions that they are the file of, or what is wrong with
+-- them
 pub data CodeFate : Type 0 where
   Whole : (ops : List PlainOp) → CodeFate
   Faulty : (why : CodeFlaw) → CodeFate

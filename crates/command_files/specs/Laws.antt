@@ -10,7 +10,8 @@ use Rattle.command_files.specs.Commands.{shows_tree, disassembles, assembles}
 abbrev pub SureBytes : Type 0
 SureBytes = (name bytes : List ℕ) → IsSure (code_in name bytes)
 
--- what the files hold decides what comes of a GFF file, of a file of bytecode, and of an assembler text
+-- what the files hold decides what comes of a GFF file, of a file of bytecode, and of an assembler
+-- text
 abbrev pub SureTrees : Type 0
 SureTrees = (name : List ℕ) → IsSure (tree_named name)
 

@@ -1,4 +1,5 @@
--- The parts of the command, one after another, where the header is the built-in one and the source is that of the number.
+-- The parts of the command, one after another, where the header is the built-in one and the source
+-- is that of the number.
 use Rattle.std.proofs.Common.{◌≡◌, ℕ, List, codes, Result, Ok, ap, ◌∙◌, subst}
 use Rattle.nwq_value.specs.Engine.{EngineTable}
 use Rattle.nwq_value.specs.HeaderTable.{header_table}

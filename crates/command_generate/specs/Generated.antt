@@ -1,4 +1,5 @@
--- The command `generate`: the play that is made from a number is compiled, checked and played, and a summary of it is put.
+-- The command `generate`: the play that is made from a number is compiled, checked and played, and
+-- a summary of it is put.
 use Rattle.std.specs.Prelude.{◌≡◌, ◌≤◌, ℕ, ◌*◌, ◌==◌, List, [], ◌∷◌, ◌++◌, length, count_by, codes, Result, Ok}
 use Rattle.std.specs.FinMap as map
 use Rattle.std.specs.Fmt.{decimal}
@@ -97,7 +98,8 @@ checks_made cell n file = then (loaded_in header_table (codes "beat.ncs") file) 
 unfoldable pub generates : CellLookup → ℕ → Work Finished
 generates cell n = then (source_compiled (play_of n).source) (checks_made cell n)
 
--- What stops it: a limit ended the play, or the work is cut. The source is never refused, nor its file.
+-- What stops it: a limit ended the play, or the work is cut. The source is never refused, nor its
+-- file.
 abbrev pub StopsGenerate : Status → Type 0
 StopsGenerate Limit = Unit {0}
 StopsGenerate status = CutsShort status

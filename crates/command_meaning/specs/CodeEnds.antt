@@ -1,4 +1,5 @@
--- How a play of files ends, where a stack fault of the machine is an end of its own; and that no play of checked files has it.
+-- How a play of files ends, where a stack fault of the machine is an end of its own; and that no
+-- play of checked files has it.
 use Rattle.std.specs.Prelude.{◌≡◌, ℕ, zero, suc, ◌-◌, ◌==◌, if◌then◌else◌, List, [], ◌∷◌, Option, None, Some}
 use Rattle.std.specs.List.{AllByRecursion}
 use Rattle.nwq_value.specs.Engine.{EngineTable, IsTable}
@@ -67,7 +68,8 @@ code_ends host limit bounds (suc left) p =
     if p.entries == bounds.entries then Ends (full (begin bounds.until p.world))
     else next_ends host limit (begin bounds.until p.world) p (code_ends host limit bounds left)
 
--- a play that goes on from here: at most so many instructions in an entry, and as far as the bounds allow
+-- a play that goes on from here: at most so many instructions in an entry, and as far as the bounds
+-- allow
 abbrev pub code_end : Host (World Saved) → ℕ → Bounds → Progress Saved → CodeEnd
 code_end host limit bounds p = code_ends host limit bounds (bounds.stop - p.entries) p
 
@@ -91,7 +93,8 @@ CheckedPlaysGoOn =
     (cell : CellLookup) (header : EngineTable) (scripts : List Script) (tables : Tables) (limit : ℕ) (bounds : Bounds) (p : Progress Saved)
     → IsTable header → AllMeet header scripts tables → StatesFit scripts tables p.world → GoesWithoutFault (host_of cell header scripts) limit bounds p
 
--- So does every one from the world of an area and of what is planned in it, in which no state is captured.
+-- So does every one from the world of an area and of what is planned in it, in which no state is
+-- captured.
 abbrev pub CheckedPlaysHaveNoFault : Type 0
 CheckedPlaysHaveNoFault =
     (cell : CellLookup) (header : EngineTable) (scripts : List Script) (limit : ℕ) (bounds : Bounds) (area : PlainArea) (random : List ℕ) (events : List Planned) (version : ℕ)

@@ -12,7 +12,8 @@ use Rattle.command_work.specs.Work.{Does, Finished}
 use Rattle.command_plays.specs.Scripts.{plays_code, plays_file}
 use Rattle.command_meaning.specs.Units.{code_of, IsUnitOf}
 
--- A typed unit's file, under the name of its script, was loaded, checked and played, from these contents and taken bytes on.
+-- A typed unit's file, under the name of its script, was loaded, checked and played, from these
+-- contents and taken bytes on.
 pub record PlaysFile (cell : CellLookup) (header : EngineTable) (name : List ℕ) (u : TypedUnit) (c : Contents) (t : List ℕ) (r : Result Finished Status)
     (c' : Contents) (t' : List ℕ) : Type 0 where
   pub table : IsTable header

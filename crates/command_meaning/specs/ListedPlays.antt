@@ -1,4 +1,5 @@
--- The plays of listed typed units, of their code and of their source, from worlds that are alike, however far they go.
+-- The plays of listed typed units, of their code and of their source, from worlds that are alike,
+-- however far they go.
 use Rattle.std.specs.Prelude.{◌≡◌, ◌≤◌, ℕ, ◌*◌, List, map, Some, slice_get}
 use Rattle.nwq_value.specs.Engine.{EngineTable, IsTable}
 use Rattle.saved_state.specs.declared.saved.Saved.{Saved}
@@ -25,21 +26,24 @@ AreUnitsOf header scripts = (script : ℕ) (l : Listed) → slice_get scripts sc
 abbrev pub machine_of : Setting → MachineHost
 machine_of s = host_of s.tables s.table (map script_of s.scripts)
 
--- Where each entry of the sources ends in n steps, the code ends as they do, with 16 instructions for each of these.
+-- Where each entry of the sources ends in n steps, the code ends as they do, with 16 instructions
+-- for each of these.
 abbrev pub ListedPlaysEnd : Type 0
 ListedPlaysEnd =
     (s : Setting) → IsTable s.table → AreUnitsOf s.table s.scripts → (n limit : ℕ) (bounds : Bounds) → step_cost * n ≤ limit
     → (w : World Saved) (v : World Deferred) → Alike (Carries s) w v
     → PlayEnds (Carries s) (play_on (code_runner (machine_of s) limit) bounds (unplayed w)) (play_on (runner s n) bounds (unplayed v))
 
--- Where no entry of the code is stopped, it ends as the sources do, whose entries may take as many steps. Where one is, it tells a beginning.
+-- Where no entry of the code is stopped, it ends as the sources do, whose entries may take as many
+-- steps. Where one is, it tells a beginning.
 abbrev pub ListedPlaysStop : Type 0
 ListedPlaysStop =
     (s : Setting) → IsTable s.table → AreUnitsOf s.table s.scripts → (limit : ℕ) (bounds : Bounds) → (w : World Saved) (v : World Deferred) → Alike (Carries s) w v
     → PlayStops (Carries s) (code_runner (machine_of s) limit) bounds limit (unplayed w) (play_on (code_runner (machine_of s) limit) bounds (unplayed w))
     (play_on (runner s limit) bounds (unplayed v))
 
--- Plays that are alike have one text of their end, with the number of instructions that the code made.
+-- Plays that are alike have one text of their end, with the number of instructions that the code
+-- made.
 abbrev pub ListedTextsAgree : Type 0
 ListedTextsAgree = (s : Setting) (code : Played Saved) (source : Played Deferred) → PlaysAlike (Carries s) code source
     → code_end_text (map script_of s.scripts) code ≡ source_end_text s code.last.count source

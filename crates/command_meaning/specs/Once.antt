@@ -24,7 +24,8 @@ evaluated cell header name u n = event_entry (runner (setting_of cell header nam
 abbrev pub played_once : List ℕ → Entered Deferred → Played Deferred
 played_once name e = after_entry e.stopped (further e (unplayed (source_world name))) (λ p. record { ending = Done; last = p })
 
--- Where the evaluation of a script's start leaves nothing on the agenda, the play of its source has that one entry, and tells what it tells.
+-- Where the evaluation of a script's start leaves nothing on the agenda, the play of its source has
+-- that one entry, and tells what it tells.
 abbrev pub PlaysOnce : CellLookup → EngineTable → List ℕ → TypedUnit → Type 0
 PlaysOnce cell header name u =
     (n : ℕ) → (evaluated cell header name u n).world.agenda.entries ≡ [] → source_played cell header name u n ≡ played_once name (evaluated cell header name u n)

@@ -64,8 +64,9 @@ EndsAreAnswered =
     (e : PlayEnd) (c : Contents) (t : List ℕ) (r : Result Finished Status) (c' : Contents) (t' : List ℕ) → (IsCut r → ⊥) → Does (ends_by e) c t r c' t'
     → (r ≡ answer_by e) × Stays c c' t t'
 
--- The lines that a play of source tells were put, and then the text of its end, with the number of instructions that were made: at least one
--- and at most 16 for each of its steps. The answer is as the play ends, and no file has changed.
+-- The lines that a play of source tells were put, and then the text of its end, with the number of
+-- instructions that were made: at least one and at most 16 for each of its steps. The answer is as
+-- the play ends, and no file has changed.
 pub record TellsMeaning (s : Setting) (code : Played Saved) (source : Played Deferred) (c : Contents) (t : List ℕ) (r : Result Finished Status)
     (c' : Contents) (t' : List ℕ) : Type 0 where
   pub alike : PlaysAlike (Carries s) code source
@@ -73,8 +74,8 @@ pub record TellsMeaning (s : Setting) (code : Played Saved) (source : Played Def
   pub answer : r ≡ answer_by source.ending
   pub contents : c' ≡ c
 
--- The play was stopped in its last entry, for which all the instructions were made that it may take. The lines that were put are a beginning of those
--- that the play of source tells.
+-- The play was stopped in its last entry, for which all the instructions were made that it may
+-- take. The lines that were put are a beginning of those that the play of source tells.
 pub record TellsBeginning (cell : CellLookup) (header : EngineTable) (name : List ℕ) (u : TypedUnit) (c : Contents) (t : List ℕ) (r : Result Finished Status)
     (c' : Contents) (t' : List ℕ) : Type 0 where
   pub stopped : StoppedAt (code_runner (host_of cell header (listed name (code_of u))) default_instruction_limit) (whole default_entry_limit default_until) default_instruction_limit
@@ -93,7 +94,8 @@ FewStepsEndAsMeant =
     → PlaysFile cell header name u c t r c' t' → (IsCut r → ⊥) → (source_played cell header name u sure_steps).ending ≢ StoppedInside
     → TellsMeaning (setting_of cell header name u) (code_played cell header name u) (source_played cell header name u sure_steps) c t r c' t'
 
--- Where no entry of the code was stopped, the play is told as the source means whose entries may take 131,072 steps.
+-- Where no entry of the code was stopped, the play is told as the source means whose entries may
+-- take 131,072 steps.
 abbrev pub UnstoppedRunsEndAsMeant : Type 0
 UnstoppedRunsEndAsMeant =
     (cell : CellLookup) (header : EngineTable) (name : List ℕ) (u : TypedUnit) (c : Contents) (t : List ℕ) (r : Result Finished Status) (c' : Contents) (t' : List ℕ)

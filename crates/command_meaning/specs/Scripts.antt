@@ -19,7 +19,8 @@ use Rattle.command_meaning.specs.Files.{PlaysFile}
 abbrev pub HoldBytes : Contents → Type 0
 HoldBytes c = (name bytes : List ℕ) → fin_map.get c (file_name name) ≡ Some bytes → All (λ b. b < 256) bytes
 
--- The script of this name has this unit under a header: its tokens, with those of its includes, have a tree that is typed so.
+-- The script of this name has this unit under a header: its tokens, with those of its includes,
+-- have a tree that is typed so.
 pub record IsScript (header : EngineTable) (c : Contents) (name : List ℕ) (u : TypedUnit) : Type 0 where
   pub script : PlainScript
   pub is : IsUnitFate (fin_map.get c) name (Whole script)
@@ -44,7 +45,8 @@ pub record PlaysScript (cell : CellLookup) (header : EngineTable) (name : List �
   pub script : IsScript header c name unit
   pub plays : PlaysFile cell header name unit c t r c' t'
 
--- A script that is compiled under a header and played ends as it is compiled, or its unit's file is played.
+-- A script that is compiled under a header and played ends as it is compiled, or its unit's file is
+-- played.
 abbrev pub ScriptsPlayUnits : Type 0
 ScriptsPlayUnits =
     (cell : CellLookup) (header : EngineTable) (name file : List ℕ) (c : Contents) (t : List ℕ) (r : Result Finished Status) (c' : Contents) (t' : List ℕ)

@@ -21,7 +21,8 @@ use Rattle.emission_laws.specs.WellTyped.{IsWellTyped}
 abbrev pub code_of : TypedUnit → List PlainOp
 code_of u = program (unit_code u).lines
 
--- A unit that is typed under a header, from a tree that its tokens have: at most 100,000 tokens, each literal of which has a value.
+-- A unit that is typed under a header, from a tree that its tokens have: at most 100,000 tokens,
+-- each literal of which has a value.
 pub record IsUnitOf (header : EngineTable) (u : TypedUnit) : Type 0 where
   pub tokens : List Symbol
   pub tree : SourceTree
@@ -34,7 +35,8 @@ pub record IsUnitOf (header : EngineTable) (u : TypedUnit) : Type 0 where
 abbrev pub UnitsAreWellTyped : Type 0
 UnitsAreWellTyped = (header : EngineTable) (u : TypedUnit) → IsTable header → IsUnitOf header u → IsWellTyped header u
 
--- The file of a unit loads, with the instructions of its code, and these are well stacked under the header.
+-- The file of a unit loads, with the instructions of its code, and these are well stacked under the
+-- header.
 pub record Passes (header : EngineTable) (u : TypedUnit) : Type 0 where
   pub loads : IsCode (code_of u)
   pub stacked : WellStacked header (code_of u)
@@ -43,6 +45,7 @@ pub record Passes (header : EngineTable) (u : TypedUnit) : Type 0 where
 abbrev pub UnitsPass : Type 0
 UnitsPass = (header : EngineTable) (u : TypedUnit) → IsTable header → IsUnitOf header u → length (unit_file u) ≤ file_limit → Passes header u
 
--- Under the table of a header the engine's answers have the routines' types, whatever tables cells are looked up in.
+-- Under the table of a header the engine's answers have the routines' types, whatever tables cells
+-- are looked up in.
 abbrev pub TablesAnswerInTypes : Type 0
 TablesAnswerInTypes = (header : EngineTable) (cell : CellLookup) → IsTable header → AnswersAreTyped header cell

@@ -1,4 +1,5 @@
--- What the play of a plan writes, by what its parts write. No contract speaks of these lemmas; they serve the proofs of commands that play.
+-- What the play of a plan writes, by what its parts write. No contract speaks of these lemmas; they
+-- serve the proofs of commands that play.
 use mathlib.Core.Path.{◌∙◌, subst}
 use mathlib.Core.Logic.{inl, inr}
 use Rattle.std.specs.Prelude.{◌≡◌, ℕ, List, [], ◌∷◌}

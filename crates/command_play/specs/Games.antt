@@ -1,4 +1,5 @@
--- The play of a plan: the files that it needs are read, scripts are listed, and what the play comes to is told and written.
+-- The play of a plan: the files that it needs are read, scripts are listed, and what the play comes
+-- to is told and written.
 use Rattle.std.specs.Prelude.{ℕ, List}
 use Rattle.nwq_value.specs.Engine.{EngineTable}
 use Rattle.area_rules.specs.Area.{PlainArea}
@@ -22,7 +23,8 @@ use Rattle.command_plays.specs.Plays.{played}
 
 -- ---- what is told and written
 
--- a play that is done leaves its area in the file of this name, and then its end is told; where a limit ended it, it is told alone
+-- a play that is done leaves its area in the file of this name, and then its end is told; where a
+-- limit ended it, it is told alone
 abbrev pub ends_by : PlayEnd → List ℕ → PlainArea → List ℕ → Work Finished
 ends_by Done to area text = then (final_written to (tree_back area)) (λ done. puts text)
 ends_by OutOfEntries to area text = Puts text (Ends Limit)

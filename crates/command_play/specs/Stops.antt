@@ -1,4 +1,5 @@
--- What stops the parts of a play stops the play. No contract speaks of these lemmas; they serve the proofs of commands that play.
+-- What stops the parts of a play stops the play. No contract speaks of these lemmas; they serve the
+-- proofs of commands that play.
 use mathlib.Core.Path.{sym, subst}
 use mathlib.Core.Logic.{inl, inr}
 use Rattle.command_work.specs.declared.status.Status.{Status}

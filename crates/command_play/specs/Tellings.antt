@@ -17,7 +17,8 @@ pub record IsCodeFile (name : List ℕ) : Type 0 where
 abbrev pub IsGameFile : List ℕ → List ℕ → Type 0
 IsGameFile to name = IsCodeFile name ⊎ (name ≡ to)
 
--- what stops the play of a plan: a file isn't there or is too long, one is refused, a limit was reached, or the work is cut
+-- what stops the play of a plan: a file isn't there or is too long, one is refused, a limit was
+-- reached, or the work is cut
 abbrev pub StopsGame : Status → Type 0
 StopsGame Script = Unit {0}
 StopsGame Code = Unit {0}

@@ -1,4 +1,5 @@
--- Plays as commands make them: the play of a plan's lines, and how a command ends by the end of its play.
+-- Plays as commands make them: the play of a plan's lines, and how a command ends by the end of its
+-- play.
 use Rattle.std.specs.Prelude.{ℕ, List, min}
 use Rattle.nwq_value.specs.Engine.{EngineTable}
 use Rattle.plan_text.specs.declared.plan.Plan.{Plan}
@@ -28,11 +29,13 @@ Limits = ℕ × ℕ × ℕ
 abbrev pub limits_of : Plan → Limits
 limits_of plan = (plan.limit, plan.entries, plan.until)
 
--- the play that goes on after so many entries and instructions, and is broken off once so many entries were taken in all
+-- the play that goes on after so many entries and instructions, and is broken off once so many
+-- entries were taken in all
 abbrev pub played_on : CellLookup → EngineTable → Limits → List Script → ℕ → ℕ → ℕ → World Saved → Played Saved
 played_on cell header limits scripts stop taken done w = code_play_on (host_of cell header scripts) limits.0 limits.1 limits.2 stop taken done w
 
--- the play of a plan, which is broken off once so many entries were taken, or as many as it may take
+-- the play of a plan, which is broken off once so many entries were taken, or as many as it may
+-- take
 abbrev pub played_first : CellLookup → EngineTable → Plan → List Script → ℕ → World Saved → Played Saved
 played_first cell header plan scripts n w = played_on cell header (limits_of plan) scripts (min n plan.entries) 0 0 w
 

@@ -1,4 +1,5 @@
--- The play of one script: its instructions under a header, in a world that has nothing but a start of it.
+-- The play of one script: its instructions under a header, in a world that has nothing but a start
+-- of it.
 use Rattle.std.specs.Prelude.{ℕ, List, [], ◌∷◌}
 use Rattle.nwq_value.specs.Engine.{EngineTable}
 use Rattle.nwq_value.specs.Limits.{default_instruction_limit, default_entry_limit, default_until}

@@ -17,7 +17,8 @@ runs_under cell script header = then (compiled_named header script) (plays_file 
 unfoldable pub runs : CellLookup → List ℕ → List ℕ → Work Finished
 runs cell header script = then (table_of header) (runs_under cell script)
 
--- What stops a run: its header or script, or a limit that ended its play. The check passes every compiled file.
+-- What stops a run: its header or script, or a limit that ended its play. The check passes every
+-- compiled file.
 abbrev pub StopsRun : Status → Type 0
 StopsRun Limit = Unit {0}
 StopsRun status = StopsSource status

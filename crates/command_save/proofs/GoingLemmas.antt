@@ -1,4 +1,5 @@
--- A play that was broken off, and whose world was then left without its lines and its running event, goes on as the unbroken one.
+-- A play that was broken off, and whose world was then left without its lines and its running
+-- event, goes on as the unbroken one.
 use Rattle.std.proofs.Common.{arith, ◌≡◌, ◌≢◌, ◌<◌, ◌≤◌, ◌+◌, ◌-◌, ℕ, ℤ, pos, zero, suc, Bool, true, false, List, [], ◌∷◌, ◌++◌, Option, None, Some, refl, ap, sym, subst, ◌∙◌, ⊎_elim}
 use mathlib.Core.List.{append_assoc, append-nil}
 use Rattle.std.specs.Prelude.{◌==◌, if◌then◌else◌}

@@ -1,4 +1,5 @@
--- What a state goes on from that keeps all rules: its scripts are well stacked, and each captured state fits.
+-- What a state goes on from that keeps all rules: its scripts are well stacked, and each captured
+-- state fits.
 use Rattle.std.proofs.Common.{◌≡◌, ℕ, zero, suc, List, [], ◌∷◌, map, Some, refl, sym, subst, ap, ◌∙◌}
 use Rattle.std.specs.Prelude.{slice_get}
 use Rattle.std.specs.List.{AllByRecursion}

@@ -1,4 +1,5 @@
--- A saved play that is resumed goes on as the unbroken one: from what the commands did to what they told.
+-- A saved play that is resumed goes on as the unbroken one: from what the commands did to what they
+-- told.
 use Rattle.std.proofs.Common.{◌≡◌, ◌≢◌, ◌≤◌, ◌+◌, ℕ, Bool, true, false, inl, inr, List, [], ◌∷◌, ◌++◌, length, map, Option, Some, None, Result, Ok, Err, refl, ap, sym, subst, ◌∙◌, ltb-false}
 use mathlib.Core.List.{append_assoc, append-nil}
 use Rattle.std.specs.Prelude.{min, nat_lt}

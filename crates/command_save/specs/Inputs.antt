@@ -1,4 +1,5 @@
--- The header and the area of a play that may be saved: beside what a play needs of them, the bytes of their files, as they were read.
+-- The header and the area of a play that may be saved: beside what a play needs of them, the bytes
+-- of their files, as they were read.
 use Rattle.std.specs.Prelude.{ℕ, Bool, true, false, List, codes, bytes_eq, None, Some}
 use Rattle.nwq_value.specs.Engine.{EngineTable}
 use Rattle.nwq_value.specs.HeaderTable.{header_table}

@@ -36,7 +36,8 @@ SureResumes = (cell : CellLookup) (name to : List ℕ) → IsSure (resumes cell 
 
 -- ---- a saved play goes on as the unbroken one
 
--- Of an unbroken play the saved one told the front, and the resumed one the rest; both end alike, and leave the same in the file of the area.
+-- Of an unbroken play the saved one told the front, and the resumed one the rest; both end alike,
+-- and leave the same in the file of the area.
 pub record GoOn (name to : List ℕ) (c2 c3 : Contents) (t t1 t2 t3 t4 : List ℕ) (r2 r3 : Result Finished Status) : Type 0 where
   pub front : List ℕ
   pub rest : List ℕ
@@ -47,8 +48,8 @@ pub record GoOn (name to : List ℕ) (c2 c3 : Contents) (t t1 t2 t3 t4 : List �
   pub answer : r2 ≡ r3
   pub area : IsOk r3 → map.get c2 to ≡ map.get c3 to
 
--- A play was saved after some entries, and resumed from the files as they stood then. Neither it nor the unbroken play from the same files
--- was cut.
+-- A play was saved after some entries, and resumed from the files as they stood then. Neither it
+-- nor the unbroken play from the same files was cut.
 abbrev pub SavedPlaysGoOn : Type 0
 SavedPlaysGoOn = (cell : CellLookup) (header area plan name to : List ℕ) (n : ℕ) (c c1 c2 c3 : Contents) (t t1 t2 t3 t4 : List ℕ)
     (done : Finished) (r2 r3 : Result Finished Status)
@@ -85,7 +86,8 @@ FrontsGoOn = (cell : CellLookup) (header : EngineTable) (plan : Plan) (scripts :
 
 -- ---- what a state goes on from
 
--- a state from which a play can go on tells what it goes on from: scripts that are well stacked, and a world in which each captured state fits
+-- a state from which a play can go on tells what it goes on from: scripts that are well stacked,
+-- and a world in which each captured state fits
 pub record GoesSafely (g : Going) : Type 0 where
   pub tables : Tables
   pub meet : AllMeet g.table g.scripts tables

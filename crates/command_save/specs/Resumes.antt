@@ -20,8 +20,8 @@ use Rattle.command_save.specs.Saves.{file_of, AreSpelled}
 
 -- ---- the state in a file
 
--- what comes of bytes: a state from which a play can go on, the place at which they stop being those of a state, or the first rule that
--- the state breaks
+-- what comes of bytes: a state from which a play can go on, the place at which they stop being
+-- those of a state, or the first rule that the state breaks
 pub data StateFate : Type 0 where
   Whole : (s : Parts) → StateFate
   Stops : (place : ℕ) → StateFate

@@ -63,7 +63,8 @@ abbrev pub state_by : Bool → List ℕ → List ℕ → ℕ → Work Finished
 state_by true name bytes entries = Refused (BadArea name (flaw.Large (length bytes)))
 state_by false name bytes entries = state_told name bytes entries
 
--- the bytes of a state are written under this name, unless they are more than a file may have; and then it is told
+-- the bytes of a state are written under this name, unless they are more than a file may have; and
+-- then it is told
 unfoldable pub state_written : List ℕ → Parts → Work Finished
 state_written name s = state_by (nat_lt file_limit (length (parts_bytes s))) name (parts_bytes s) s.taken
 

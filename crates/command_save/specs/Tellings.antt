@@ -56,8 +56,8 @@ pub record MayGoOn (o : Opened) : Type 0 where
 abbrev pub rest_of : CellLookup → Opened → Played Saved
 rest_of cell o = played_on cell o.table o.limits (scripts_of o.scripts) (o.limits.1 + 1) o.taken o.done o.world.world
 
--- What stops a play that is resumed: the state isn't there or is too long, it is refused or the area is, a limit was reached, or the work
--- is cut.
+-- What stops a play that is resumed: the state isn't there or is too long, it is refused or the
+-- area is, a limit was reached, or the work is cut.
 abbrev pub StopsResume : Status → Type 0
 StopsResume Limit = Unit {0}
 StopsResume status = StopsArea status

@@ -1,4 +1,5 @@
--- Statements about the parts that read sources. Each stands on the contract of a function of `laws`.
+-- Statements about the parts that read sources. Each stands on the contract of a function of
+-- `laws`.
 use Rattle.std.specs.Prelude.{ℕ, List}
 use Rattle.command_work.specs.Outcomes.{IsSure}
 use Rattle.command_sources.specs.Headers.{table_of}

@@ -52,15 +52,17 @@ at_token script i why = at_spot why (spot_at script.files script.tokens i)
 
 -- ---- what comes of a script
 
--- its unit with its tree; a file of the unit that isn't there or is too long; or why the unit is refused, and where
+-- its unit with its tree; a file of the unit that isn't there or is too long; or why the unit is
+-- refused, and where
 pub data UnitFate : Type 0 where
   Whole : (script : PlainScript) → UnitFate
   Lacks : (name : List ℕ) → UnitFate
   Exceeds : (name : List ℕ) → UnitFate
   Faulty : (why : Cause) (spot : Spot) → UnitFate
 
--- The faults of the unit itself come in the order of its tokens. Of a whole unit the first token whose nest passes the limit comes first,
--- also where a fault of syntax stands before it; then the exact place at which there is no tree.
+-- The faults of the unit itself come in the order of its tokens. Of a whole unit the first token
+-- whose nest passes the limit comes first, also where a fault of syntax stands before it; then the
+-- exact place at which there is no tree.
 pub data IsUnitFate (lookup : Lookup) (name : List ℕ) : UnitFate → Type 0 where
   lacks : (tokens : List Lexeme) (files : List Source) (file : List ℕ) → IsUnit lookup name tokens files (Some (fault.Missing file))
       → IsUnitFate lookup name (Lacks file)

@@ -18,7 +18,8 @@ heads_same x y xs ys e = cc
 tails_same : (x y : List ℕ) (xs ys : List (List ℕ)) → x ∷ xs ≡ y ∷ ys → xs ≡ ys
 tails_same x y xs ys e = cc
 
--- Of a list that is parted at two lines: they are the same, or one lies in the part before the other.
+-- Of a list that is parted at two lines: they are the same, or one lies in the part before the
+-- other.
 abbrev PartedTwice : List (List ℕ) → List ℕ → List (List ℕ) → List ℕ → Type 0
 PartedTwice before line other next =
     (length before ≡ length other)

@@ -19,8 +19,8 @@ pub ruleset more_tables = (names_more, cut_here)
 
 -- ---- all tables
 
--- The names of the tables so far and of those that are left are all names, and what is left does from here what the whole does from the
--- start.
+-- The names of the tables so far and of those that are left are all names, and what is left does
+-- from here what the whole does from the start.
 pub record SoFar (files_tell sink_tells : Bool) (names rest : List (List ℕ)) (tables : List Named) (c0 c : Contents) (t0 t : List ℕ) : Type 0 where
   pub all : map (λ t. t.name) tables ++ rest ≡ names
   pub by : IsTrue files_tell → IsTrue sink_tells → (r : Result (List Named) Status) (c' : Contents) (t' : List ℕ)

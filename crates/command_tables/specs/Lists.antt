@@ -15,8 +15,8 @@ use Rattle.command_tables.specs.declared.list.ListFault.TheVariants as fault
 abbrev pub table_limit : ℕ
 table_limit = 64
 
--- whether a line may be the next name behind these: it is 1 to 16 of the characters a to z, 0 to 9 and `_`, is none of them, and is not one
--- too many
+-- whether a line may be the next name behind these: it is 1 to 16 of the characters a to z, 0 to 9
+-- and `_`, is none of them, and is not one too many
 unfoldable pub may_follow : List (List ℕ) → List ℕ → Bool
 may_follow names line = is_script_name line && not (list_any (λ other. same_name other line) names) && nat_lt (length names) table_limit
 

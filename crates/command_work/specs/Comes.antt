@@ -1,5 +1,6 @@
--- What comes of a part of a command: it gives a value, is refused, or is cut. So of a file that is read, and of two parts one after the other.
--- Like those of Parts these are lemmas for the proofs of laws above: no contract speaks of them.
+-- What comes of a part of a command: it gives a value, is refused, or is cut. So of a file that is
+-- read, and of two parts one after the other. Like those of Parts these are lemmas for the proofs
+-- of laws above: no contract speaks of them.
 use mathlib.Core.Path.{sym, refl, ap, subst, ◌∙◌}
 use mathlib.Core.Logic.{inl, inr}
 use Rattle.std.specs.Prelude.{◌≡◌, ℕ, nat_lt, Bool, true, false, List, ◌++◌, length, Option, Some, None, Result, Ok, Err}

@@ -28,9 +28,10 @@ FaultCounted (Counted files puts) (Counted files' puts') = (Rose Faults files fi
 abbrev pub MemoryCounted : Counts → Counts → Type 0
 MemoryCounted (Counted files puts) (Counted files' puts') = RefusesOne files files' × (puts' ≡ puts)
 
--- How the counts stand where a part ended with this status. A call that was refused outside is the last one, and the status says which it
--- was: with every other status each count is as before. Only a call outside, or want of memory, may fail after an absent or long file was
--- counted, while its line is put.
+-- How the counts stand where a part ended with this status. A call that was refused outside is the
+-- last one, and the status says which it was: with every other status each count is as before. Only
+-- a call outside, or want of memory, may fail after an absent or long file was counted, while its
+-- line is put.
 abbrev pub TalliesEnd : Status → Counts → Counts → Type 0
 TalliesEnd Done before now = ⊥
 TalliesEnd Words before now = now ≡ before
@@ -70,17 +71,20 @@ StopsRead Fault = Unit {0}
 StopsRead Memory = Unit {0}
 StopsRead _ = ⊥
 
--- what stops a part that reads a source text: it isn't there, is too long or refused, or the work is cut
+-- what stops a part that reads a source text: it isn't there, is too long or refused, or the work
+-- is cut
 abbrev pub StopsSource : Status → Type 0
 StopsSource Script = Unit {0}
 StopsSource status = StopsRead status
 
--- what stops a part that reads a file of bytecode or an assembler text: it isn't there, is too long or refused, or the work is cut
+-- what stops a part that reads a file of bytecode or an assembler text: it isn't there, is too long
+-- or refused, or the work is cut
 abbrev pub StopsCode : Status → Type 0
 StopsCode Code = Unit {0}
 StopsCode status = StopsRead status
 
--- what stops a part that reads a GFF file, its area or a plan: it isn't there, is too long or refused, or the work is cut
+-- what stops a part that reads a GFF file, its area or a plan: it isn't there, is too long or
+-- refused, or the work is cut
 abbrev pub StopsArea : Status → Type 0
 StopsArea Area = Unit {0}
 StopsArea status = StopsRead status

@@ -1,5 +1,6 @@
--- What works come to: two that were not cut agree, and what was put by one that was cut is a prefix of what is put whole. Like the lemmas
--- of Parts these hold of every work; laws over the forms of a command are made of them.
+-- What works come to: two that were not cut agree, and what was put by one that was cut is a prefix
+-- of what is put whole. Like the lemmas of Parts these hold of every work; laws over the forms of a
+-- command are made of them.
 use mathlib.Core.Path.{sym, ap, ◌∙◌, subst}
 use mathlib.Core.Logic.{inl, inr}
 use mathlib.Core.List.{append_assoc, append-nil}

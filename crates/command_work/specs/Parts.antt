@@ -1,5 +1,5 @@
--- How a work is done part by part. These hold of every work, and works live in `Type 1`, where no clause reaches: so they are lemmas, each
--- by cases on the work.
+-- How a work is done part by part. These hold of every work, and works live in `Type 1`, where no
+-- clause reaches: so they are lemmas, each by cases on the work.
 use mathlib.Core.Path.{sym, refl, ap, ◌∙◌, subst}
 use mathlib.Core.Logic.{inl, inr}
 use mathlib.Core.List.{append-nil}
@@ -15,7 +15,8 @@ abbrev pub PutsWhole : List ℕ → List ℕ → Result Finished Status → List
 PutsWhole text t (Ok done) t' = t' ≡ t ++ text
 PutsWhole text t (Err cut) t' = CutsShort cut × TookPrefix text t t'
 
--- the line of a refusal was put and its status answered, or the work was cut with a prefix of the line taken
+-- the line of a refusal was put and its status answered, or the work was cut with a prefix of the
+-- line taken
 abbrev pub Refuses : Refusal → List ℕ → Status → List ℕ → Type 0
 Refuses refusal t answer t' =
     ((answer ≡ status_of refusal) × (t' ≡ t ++ line_of refusal)) ⊎ (CutsShort answer × TookPrefix (line_of refusal) t t')

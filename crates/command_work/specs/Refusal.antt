@@ -1,4 +1,5 @@
--- Why a command refuses what it was given: its line and its status are functions of it. A further line form is one more constructor.
+-- Why a command refuses what it was given: its line and its status are functions of it. A further
+-- line form is one more constructor.
 use Rattle.std.specs.Prelude.{ℕ, List, ◌++◌, codes, decimal}
 use Rattle.nwq_text.specs.Escape.{escaped}
 use Rattle.command_work.specs.declared.cause.Cause.{Cause}

@@ -1,5 +1,5 @@
--- What the two parts of a work did that was done one after the other. Like the lemmas of Parts these hold of every work, and serve the proofs
--- of laws above: no contract speaks of them.
+-- What the two parts of a work did that was done one after the other. Like the lemmas of Parts
+-- these hold of every work, and serve the proofs of laws above: no contract speaks of them.
 use mathlib.Core.Path.{sym, refl, ap, subst}
 use mathlib.Core.Logic.{inl, inr}
 use Rattle.std.specs.Prelude.{◌≡◌, ℕ, List, ◌++◌, Result, Ok, Err}

@@ -7,8 +7,9 @@ use Rattle.command_work.specs.declared.status.Status.{Status}
 use Rattle.command_work.specs.declared.status.Status.TheVariants.{Done, Fault, Memory}
 use Rattle.command_work.specs.Refusal.{Refusal, Absent, TooLong, line_of, status_of}
 
--- The work of a command, or of a part of one that gives an A. What it needs to know of the files it finds: some value for which a relation
--- holds of their contents at that point. So it goes on by what is read, also where that is known by a relation alone.
+-- The work of a command, or of a part of one that gives an A. What it needs to know of the files it
+-- finds: some value for which a relation holds of their contents at that point. So it goes on by
+-- what is read, also where that is known by a relation alone.
 pub data Work (A : Type 0) : Type 1 where
   Gives : (a : A) → Work A
   Refused : (refusal : Refusal) → Work A  -- puts the line of the refusal, and ends with its status
@@ -46,7 +47,8 @@ pub record Found {B : Type 0} (P : B → Type 0) (Goes : B → Type 0) : Type 0 
   pub is : P found
   pub goes : Goes found
 
--- From contents c and taken bytes t the work answers r and leaves c' and t'. Every work may be cut as it begins.
+-- From contents c and taken bytes t the work answers r and leaves c' and t'. Every work may be cut
+-- as it begins.
 abbrev pub Does : {A : Type 0} → Work A → Contents → List ℕ → Result A Status → Contents → List ℕ → Type 0
 Does (Gives a) c t r c' t' = ((r ≡ Ok a) ⊎ IsCut r) × Stays c c' t t'
 Does (Refused refusal) c t r c' t' =

@@ -7,7 +7,8 @@ use Rattle.ncs_code.specs.File.{begins, file_length, op_at}
 use Rattle.decoded_code.specs.declared.step.Step.{Step}
 use Rattle.decoded_code.specs.declared.step.Step.TheVariants as steps
 
--- A text with zeros in place of so many bytes behind it, which no text has: only a full text leaves any out.
+-- A text with zeros in place of so many bytes behind it, which no text has: only a full text leaves
+-- any out.
 abbrev pub whole : List ℕ → ℕ → List ℕ
 whole text left_out = text ++ replicate (if nat_lt (length text) text_limit then 0 else left_out) 0
 
@@ -61,12 +62,14 @@ op_of steps.RestoreBp = RestoreBp
 op_of (steps.StoreState globals locals) = StoreState globals locals
 op_of steps.Nop = Nop
 
--- An instruction, but for the bytes of its string that no text has: those are zeros. The machine does the same in it.
+-- An instruction, but for the bytes of its string that no text has: those are zeros. The machine
+-- does the same in it.
 abbrev pub kept : PlainOp → PlainOp
 kept (Const (Text bytes)) = Const (Text (take text_limit bytes ++ replicate (length bytes - text_limit) 0))
 kept op = op
 
--- Each instruction of a file is decoded at half its place: since none is shorter than two bytes, no two meet there.
+-- Each instruction of a file is decoded at half its place: since none is shorter than two bytes, no
+-- two meet there.
 abbrev pub AreSteps : List PlainOp → List Step → Type 0
 AreSteps ops all = (at : ℕ) (op : PlainOp) → op_at ops at ≡ Some op → option_map op_of (slice_get all (at / 2)) ≡ Some (kept op)
 

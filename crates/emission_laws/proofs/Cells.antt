@@ -19,7 +19,8 @@ use Rattle.emission_laws.specs.Spots.{Way, Spot}
 
 -- ---- types on other slots
 
--- what a routine stands on: the slots beneath its types, those beneath BP, and what each SAVEBP has put aside
+-- what a routine stands on: the slots beneath its types, those beneath BP, and what each SAVEBP has
+-- put aside
 pub record Ground : Type 0 where
   pub way : Way
   pub mid : List Slot

@@ -67,8 +67,8 @@ main_body = stmts (s.expression 0 (e.call t.Void (Engine 1) (args (
     int 1 ∷ e.call t.Void (Engine 0) (args (e.call t.Int (InUnit 0) (args (e.name t.Int (Global 0) ∷ [])) [] ∷ [])) [] ∷ [])) []) ∷ [])
 
 -- int g = 1;
--- int f(int n) { while (n < g) n++; switch (n) { case 1: return n; default: int k = 2; n = k; } return f(n - 1); }
--- void main() { Delay(1, Print(f(g))); }
+-- int f(int n) { while (n < g) n++; switch (n) { case 1: return n; default: int k = 2; n = k; }
+-- return f(n - 1); } void main() { Delay(1, Print(f(g))); }
 abbrev script : TypedUnit
 script = record {
   items = unit.global 0 t.Int (declared 0 (int 1) ∷ [])

@@ -1,4 +1,5 @@
--- The code of an expression flows, wherever it stands and whatever lies beneath: with the types of its value on top at its end.
+-- The code of an expression flows, wherever it stands and whatever lies beneath: with the types of
+-- its value on top at its end.
 use Rattle.std.proofs.Common.{arith, ◌≡◌, ◌≤◌, ◌<◌, ◌+◌, ◌-◌, ◌⊎◌, inl, inr, cond, ℕ, pos, List, [], ◌∷◌, ◌++◌, length, map, reverse, Option, Some, None, Bool, true, false, slice_get, sym, ◌∙◌, ap, refl, subst, append_assoc, append-nil, option_map}
 use Rattle.std.proofs.lemmas.Bool.Decides.{nat_tests}
 use Rattle.std.proofs.lemmas.List.{reverse-append, length-reverse, length-append, length-map}

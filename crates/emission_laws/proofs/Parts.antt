@@ -28,7 +28,8 @@ labelled_both spot_of n (x ∷ xs) ys h =
     ((h.0, rest.0), subst (λ m. Labelled spot_of m ys) (omega arith) rest.1)
 
 module _ (header : EngineTable) (total : ℕ) (callee_of : ℕ → Option Callee) where
-  -- Lines that flow where this holds of the labels' spots, once their own labels, so many from this one on, have some spots.
+  -- Lines that flow where this holds of the labels' spots, once their own labels, so many from this
+  -- one on, have some spots.
   pub record Flows (P : (ℕ → Spot) → Type 0) (n count place : ℕ) (spot out : Option Spot) (lines : List Line) : Type 0 where
     pub spots : List Spot
     pub many : length spots ≡ count

@@ -302,7 +302,8 @@ module _ (header : EngineTable) (functions : List Function) (x : Site) (bodies t
 
     -- ---- statements
 
-    -- the labels that stand among these statements, from this one on, have the spot in front of them
+    -- the labels that stand among these statements, from this one on, have the spot in front of
+    -- them
     pub record LabelsKnown (P : (ℕ → Spot) → Type 0) (at : ℕ) (xs : TypedStmts) (ts : List Ty) : Type 0 where
       pub known : (k : ℕ) → k < count_labels xs → Knows P (at + k) ts
       pub first : LabelsFirst xs

@@ -14,7 +14,8 @@ use Rattle.emission_laws.proofs.Cells.{Ground, over, spot_over}
 use Rattle.emission_laws.proofs.Ops.{Turns, test_turns}
 use Rattle.emission_laws.proofs.Parts.{Flows, both, and_line, line_and, nothing, one, back, jump, test, mark, with_label, with_two, with_three}
 
--- Lines that take these types and give those, where so many states are pending before them and so many behind them.
+-- Lines that take these types and give those, where so many states are pending before them and so
+-- many behind them.
 pub record Turn (header : EngineTable) (total : ℕ) (callee_of : ℕ → Option Callee) (P : (ℕ → Spot) → Type 0) (g : Ground) (p q n count place : ℕ) (before after : List Ty) (lines : List Line) : Type 0 where
   pub by : Flows header total callee_of P n count place (Some (spot_over g p before)) (Some (spot_over g q after)) lines
 

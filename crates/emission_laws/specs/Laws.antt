@@ -11,7 +11,8 @@ use Rattle.stack_rules.specs.Rules.{WellStacked}
 use Rattle.source_meaning.specs.Scripts.{Function, functions, global_names}
 use Rattle.emission_laws.specs.WellTyped.{AllFitSwitches, NamesCallEngine, IsWellTyped}
 
--- For the code of each unit that keeps the bounds and whose values have their types, some table of shapes meets the rules.
+-- For the code of each unit that keeps the bounds and whose values have their types, some table of
+-- shapes meets the rules.
 abbrev pub UnitsAreWellStacked : Type 0
 UnitsAreWellStacked = (header : EngineTable) (u : TypedUnit) → IsBounded u → IsWellTyped header u → WellStacked header (program (unit_code u).lines)
 

@@ -1,4 +1,5 @@
--- What is known of the stack in front of a line of labelled code, and lines in a row that go on with what the line before them leaves.
+-- What is known of the stack in front of a line of labelled code, and lines in a row that go on
+-- with what the line before them leaves.
 use Rattle.std.specs.Prelude.{◌≡◌, ◌<◌, ℕ, ◌+◌, ℤ, List, [], ◌∷◌, ◌++◌, Option, Some}
 use Rattle.nwq_value.specs.Engine.{EngineTable}
 use Rattle.ncs_code.specs.Plain.{PlainOp}
@@ -13,7 +14,8 @@ use Rattle.stack_shape.specs.Stored.{TopShape, stored_types, stored_shape}
 use Rattle.stack_shape.specs.Rule.{rule}
 use Rattle.stack_rules.specs.Tables.{Callee}
 
--- The routine that a line belongs to: the script's start, what is called at a label, or what the STORE_STATE at a place stores.
+-- The routine that a line belongs to: the script's start, what is called at a label, or what the
+-- STORE_STATE at a place stores.
 pub data Way : Type 0 where
   Starts : Way
   Runs : ℕ → Way
@@ -42,7 +44,8 @@ IsTest Jnz = Unit {0}
 
 -- Where labels have these spots, and what is called at labels takes and gives this.
 module _ (header : EngineTable) (total : ℕ) (callee_of : ℕ → Option Callee) where
-  -- RETN in a routine that is called: the cells are those that it gives, each SAVEBP is ended, and no state is pending.
+  -- RETN in a routine that is called: the cells are those that it gives, each SAVEBP is ended, and
+  -- no state is pending.
   pub record GivesBack (label : ℕ) (shape : TopShape) : Type 0 where
     pub callee : Callee
     pub known : callee_of label ≡ Some callee
@@ -67,8 +70,8 @@ module _ (header : EngineTable) (total : ℕ) (callee_of : ℕ → Option Callee
     pub gives : callee.given ≡ Some given
     pub left : after ≡ record before { cells = given ++ rest }
 
-  -- Lines that begin at a place and, from the spot in front of them on, go by the rules up to the spot behind them. Behind RETN and
-  -- behind a jump the next spot is free.
+  -- Lines that begin at a place and, from the spot in front of them on, go by the rules up to the
+  -- spot behind them. Behind RETN and behind a jump the next spot is free.
   pub data Flow (spot_of : ℕ → Spot) : ℕ → Option Spot → List Line → Option Spot → Type 0 where
     ends : (place : ℕ) (spot : Option Spot) → Flow spot_of place spot [] spot
     goes : (place : ℕ) (way : Way) (before after : TopShape) (op : PlainOp) (lines : List Line) (out : Option Spot)

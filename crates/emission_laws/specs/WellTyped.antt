@@ -1,4 +1,5 @@
--- What the typed tree of a unit keeps, as far as the shapes of its code need it: values have the types that stand at their nodes.
+-- What the typed tree of a unit keeps, as far as the shapes of its code need it: values have the
+-- types that stand at their nodes.
 use Rattle.std.specs.Prelude.{◌≡◌, ◌⊎◌, ℕ, false, List, [], ◌∷◌, Option, None, Some, slice_get}
 use Rattle.nss_tree.specs.Statements.{block, empty, expression, if_only, if_else, while_loop, do_loop, for_loop, switch, break_off, continue_on, return_from, declaration, case_label, default_label, no_stmt, more_stmts}
 use Rattle.nwq_value.specs.declared.value.Ty.{Ty}

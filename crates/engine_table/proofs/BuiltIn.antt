@@ -1,4 +1,5 @@
--- The text of the built-in header has the table of its data: its tokens and what they come to are computed.
+-- The text of the built-in header has the table of its data: its tokens and what they come to are
+-- computed.
 use Rattle.std.proofs.Common.{◌≡◌, ◌≢◌, List, length, Option, Some, None, Result, Ok, Err, refl, subst}
 use Rattle.nwq_value.specs.Engine.{EngineTable, routine_named, constant_named}
 use Rattle.nwq_value.specs.Header.{header_text, header_constants, header_routines}

@@ -1,5 +1,5 @@
--- The grammar of a header, line by line. What a line may be depends on what the lines before it made known: the names that defines
--- made type words, and the constants in sight.
+-- The grammar of a header, line by line. What a line may be depends on what the lines before it
+-- made known: the names that defines made type words, and the constants in sight.
 use Rattle.std.specs.Prelude.{◌≡◌, ℕ, zero, suc, ◌+◌, ◌-◌, ◌<◌, Bool, true, false, ◌==◌, nat_lt, List, [], ◌∷◌, ◌++◌, length, take, drop, codes, bytes_eq, Option, None, Some, if◌then◌else◌}
 use Rattle.std.specs.Int.{cast_signed, w32, int_wrapping_neg}
 use Rattle.nss_lexer.specs.Bytes.{is_decimal}
@@ -58,8 +58,9 @@ structure_of name =
     if nat_lt (length name) 17 then None
     else (if bytes_eq (take 17 name) (codes "ENGINE_STRUCTURE_") then digit_of (drop 17 name) else None)
 
--- What a define declares whose value is this, of an engine's structure or of something else. Structure 0 is `effect`, structure 1
--- is `event`, and any other has a name of its own, which becomes a type word.
+-- What a define declares whose value is this, of an engine's structure or of something else.
+-- Structure 0 is `effect`, structure 1 is `event`, and any other has a name of its own, which
+-- becomes a type word.
 abbrev pub defined : Option ℕ → Symbol → Option Declaration
 defined None (symbol.Name n) = Some Passed
 defined (Some d) (symbol.Name n) = if nat_lt 1 d then Some (TypeWord n) else None
@@ -89,7 +90,8 @@ abbrev pub of_type : Ty → Option Const → Option Const
 of_type t None = None
 of_type t (Some c) = if has_type c t then Some c else None
 
--- the constant of a type that a token is by itself: a literal, or the name of an earlier constant of that type
+-- the constant of a type that a token is by itself: a literal, or the name of an earlier constant
+-- of that type
 abbrev pub constant_in : List Constant → Ty → Symbol → Option Const
 constant_in constants ty.Int (symbol.Int n) = Some (const.Int (cast_signed w32 n))
 constant_in constants ty.Text (symbol.Text bytes) = Some (const.Text bytes)
@@ -101,8 +103,8 @@ constant_in constants t _ = None
 abbrev pub negative : ℕ → Const
 negative n = const.Int (int_wrapping_neg w32 (cast_signed w32 n))
 
--- How many brackets are open behind a token of a value of another type, inside so many; None where the token ends the value,
--- as `,`, `)` and `;` do outside brackets.
+-- How many brackets are open behind a token of a value of another type, inside so many; None where
+-- the token ends the value, as `,`, `)` and `;` do outside brackets.
 abbrev pub brackets : ℕ → Symbol → Option ℕ
 brackets zero (symbol.Sign sign.Comma) = None
 brackets zero (symbol.Sign sign.Close) = None
@@ -118,7 +120,8 @@ pub data Loose : ℕ → List Placed → Type 0 where
   none : Loose zero []
   more : (d e : ℕ) (xs : List Placed) (p : ℕ) (s : Symbol) → Loose d xs → brackets d s ≡ Some e → Loose e (xs ++ at p s ∷ [])
 
--- A value of a type, and the constant that it stands for; a value of a type without constants is any tokens, and forgotten.
+-- A value of a type, and the constant that it stands for; a value of a type without constants is
+-- any tokens, and forgotten.
 pub data Value (constants : List Constant) : Ty → Option Const → List Placed → Type 0 where
   constant : (t : Ty) (c : Const) (p : ℕ) (s : Symbol) → has_constants t ≡ true → constant_in constants t s ≡ Some c
       → Value constants t (Some c) (at p s ∷ [])
@@ -156,7 +159,8 @@ pub data ParameterList (k : Known) : List Param → List Placed → Type 0 where
   absent : ParameterList k [] []
   present : (ps : List Param) (xs : List Placed) → Parameters k ps xs → ParameterList k ps xs
 
--- "#" "define" name ( name | word | int ), [ "const" ] type name "=" value ";" and type name "(" [ parameters ] ")" ";"
+-- "#" "define" name ( name | word | int ), [ "const" ] type name "=" value ";" and type name "(" [
+-- parameters ] ")" ";"
 pub data Line (k : Known) : Declaration → List Placed → Type 0 where
   define : (h d p q : ℕ) (n : List ℕ) (s : Symbol) (makes : Declaration) → defined (structure_of n) s ≡ Some makes
       → Line k makes (sign_at h sign.Hash ∷ at d (symbol.Name (codes "define")) ∷ at p (symbol.Name n) ∷ at q s ∷ [])

@@ -92,8 +92,8 @@ IsClear k (TypeWord n) = Unit {0}
 IsClear k (IsConstant d c) = (constant_fault k d ≡ None) × (value_fault k d c ≡ None)
 IsClear k (IsFunction f) = function_fault k f.head ≡ None
 
--- A line that begins with these tokens is at fault, whatever follows. A value of a type without constants was read where the token
--- stands that ends it.
+-- A line that begins with these tokens is at fault, whatever follows. A value of a type without
+-- constants was read where the token stands that ends it.
 pub data Clashes (k : Known) : HeaderFault → List Placed → Type 0 where
   function : (d : Declared) (f : HeaderFault) (hs : List Placed) (o : ℕ) → Heading k false d hs → function_fault k d ≡ Some f
       → Clashes k f (hs ++ sign_at o sign.Open ∷ [])
@@ -133,7 +133,8 @@ pub record IsInside (k : Known) (xs : List Placed) : Type 0 where
   pub no_line : (d : Declaration) → Line k d xs → ⊥
   pub no_clash : (f : HeaderFault) (ys zs : List Placed) → xs ≡ ys ++ zs → Clashes k f ys → ⊥
 
--- the tokens before this one are inside a line, and with it nothing makes a line of them, and they clash with nothing
+-- the tokens before this one are inside a line, and with it nothing makes a line of them, and they
+-- clash with nothing
 pub record IsMisfit (k : Known) (xs : List Placed) (s : Placed) : Type 0 where
   pub inside : IsInside k xs
   pub through : IsPrefix k (xs ++ s ∷ []) → ⊥
@@ -176,7 +177,8 @@ IsRefused bytes (Twice place) = IsFaulty bytes (Twice place)
 IsRefused bytes (Many place) = IsFaulty bytes (Many place)
 IsRefused bytes NoMemory = Unit {0}
 
--- the fault's place is in a text of so many bytes; a text that ends inside a line is at fault at its end
+-- the fault's place is in a text of so many bytes; a text that ends inside a line is at fault at
+-- its end
 abbrev pub IsWithin : ℕ → HeaderFault → Type 0
 IsWithin size (Bad place) = place < size
 IsWithin size (Header place) = place ≤ size

@@ -1,5 +1,5 @@
--- How many bytes the strings of a table have, and how many they may have. A short line can name a long constant, so that without this a
--- header could ask for a thousand times its size.
+-- How many bytes the strings of a table have, and how many they may have. A short line can name a
+-- long constant, so that without this a header could ask for a thousand times its size.
 use Rattle.std.specs.Prelude.{◌≡◌, ℕ, ◌+◌, ◌≤◌, List, [], ◌∷◌, length, Option, None, Some}
 use Rattle.nwq_value.specs.declared.engine.Const.{Const}
 use Rattle.nwq_value.specs.declared.engine.Const.TheVariants.{Text}

@@ -1,4 +1,5 @@
--- What is promised of headers beside what reading one answers. Each statement stands on the contract of a function of `laws`.
+-- What is promised of headers beside what reading one answers. Each statement stands on the
+-- contract of a function of `laws`.
 use Rattle.std.specs.Prelude.{◌≡◌, ◌<◌, ◌≤◌, List, length, None, IfSome}
 use Rattle.nwq_value.specs.Engine.{EngineTable, IsConstant, IsNoStruct, AreConstants, AreParams, routine_named, constant_named}
 use Rattle.nwq_value.specs.Header.{header_text}
@@ -16,7 +17,8 @@ use Rattle.engine_table.specs.Headers.{HasTable, IsClear}
 abbrev pub BuiltInHasTable : Type 0
 BuiltInHasTable = HasTable header_text header_table
 
--- a function's name is free, there is room for it, and its types and defaults are what a routine may have
+-- a function's name is free, there is room for it, and its types and defaults are what a routine
+-- may have
 pub record IsNewFunction (t : EngineTable) (f : Function) : Type 0 where
   pub routine : routine_named f.head.name t.routines ≡ None
   pub constant : constant_named f.head.name t.constants ≡ None
@@ -31,7 +33,8 @@ IsAdmissible t (declaration.Constant d c) = (routine_named d.name t.routines ≡
 IsAdmissible t (declaration.Function f) = IsNewFunction t f
 IsAdmissible t _ = Unit {0}
 
--- what a clear line declares, the table of the lines before it may take, where the literals are within bounds
+-- what a clear line declares, the table of the lines before it may take, where the literals are
+-- within bounds
 abbrev pub ClearLinesAreAdmissible : Type 0
 ClearLinesAreAdmissible =
     (k : Known) (d : Declaration) (xs : List Placed) → AreConstants k.table.constants → AreSymbols xs → Line k d xs → IsClear k d → IsAdmissible k.table d

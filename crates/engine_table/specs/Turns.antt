@@ -1,5 +1,5 @@
--- What a token does to a line that has come so far, as the code does it. No public clause names this: it is proved to find exactly
--- what the grammar has.
+-- What a token does to a line that has come so far, as the code does it. No public clause names
+-- this: it is proved to find exactly what the grammar has.
 use Rattle.std.specs.Prelude.{◌≡◌, ℕ, zero, ◌+◌, ◌≤◌, ◌<◌, Bool, true, false, nat_lt, List, [], ◌∷◌, ◌++◌, length, codes, bytes_eq, Option, None, Some, IfSome, if◌then◌else◌, Result, Ok, Err}
 use Rattle.nwq_value.specs.declared.value.Ty.{Ty}
 use Rattle.nwq_value.specs.declared.value.Ty.TheVariants as ty

@@ -1,4 +1,5 @@
--- The tokens of a source round its two numbers, piece by piece: which they are doesn't depend on what stands before or behind.
+-- The tokens of a source round its two numbers, piece by piece: which they are doesn't depend on
+-- what stands before or behind.
 use Rattle.std.proofs.Common.{◌≡◌, ℕ, zero, suc, ◌+◌, Bool, true, false, ◌&&◌, not, List, [], ◌∷◌, ◌++◌, Option, Some, None, refl, ap, ◌∙◌, codes, append_assoc}
 use Rattle.std.specs.Prelude.{option_map}
 use Rattle.std.specs.List.{list_all, AllByRecursion}

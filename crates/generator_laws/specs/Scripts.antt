@@ -1,4 +1,5 @@
--- The source that is made from a number has a typed unit under the built-in header, and its file is small enough.
+-- The source that is made from a number has a typed unit under the built-in header, and its file is
+-- small enough.
 use Rattle.std.specs.Prelude.{◌≡◌, ◌≤◌, ℕ, length, Some, codes}
 use Rattle.std.specs.FinMap as fin_map
 use Rattle.nwq_value.specs.HeaderTable.{header_table}
@@ -10,7 +11,8 @@ use Rattle.emission_rules.specs.Units.{unit_file}
 use Rattle.play_generator.specs.Made.{number_limit, play_of}
 use Rattle.command_sources.specs.Units.{PlainScript, Whole, IsUnitFate}
 
--- the script `beat` of these files has a unit that is typed under the built-in header, and whose file is not too large
+-- the script `beat` of these files has a unit that is typed under the built-in header, and whose
+-- file is not too large
 pub record BeatCompiles (c : Contents) : Type 0 where
   pub script : PlainScript
   pub is : IsUnitFate (fin_map.get c) (codes "beat") (Whole script)

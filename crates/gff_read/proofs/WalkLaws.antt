@@ -93,7 +93,8 @@ not_false : (a : Bool) → not a ≡ true → a ≡ false
 not_false true e = absurd cc
 not_false false e = refl
 
--- what a reading of structs gives is what they stand for, with uses that were not marked, and the other way round
+-- what a reading of structs gives is what they stand for, with uses that were not marked, and the
+-- other way round
 pub record Agrees (count : ℕ) (one : Reading) (stands : Meaning) : Type 0 where
   pub sound : (n : ℕ) (marks : Marks) (seen : List ℕ) (node : PlainNode) (after : Marks) → Marked count marks seen → one n marks ≡ Ok (node, after) →
       (uses : List ℕ) × stands n node uses × (differ_after nat_eq seen uses ≡ true) × Marked count after (seen ++ uses)

@@ -1,4 +1,5 @@
--- What the reader charges for a tree, in bytes: about the memory that its parts take while it is read.
+-- What the reader charges for a tree, in bytes: about the memory that its parts take while it is
+-- read.
 use Rattle.std.specs.Prelude.{ℕ, ◌+◌, ◌*◌, List, [], ◌∷◌, length}
 use Rattle.gff_tree.specs.declared.tree.LocPart.{LocPart}
 use Rattle.gff_tree.specs.Tree.{Scalar, Str, Res, Localized, Void, PlainNode, PlainFields, PlainLeaf, PlainNodes, Struct, NoField, MoreFields, Holds, Child, Children, NoNode, MoreNodes}

@@ -1,4 +1,5 @@
--- The rows that the walk keeps of a struct before it goes down, as the plain rows that the definitions speak of.
+-- The rows that the walk keeps of a struct before it goes down, as the plain rows that the
+-- definitions speak of.
 use Rattle.gff_read.specs.declared.row.Shape.{Shape}
 use Rattle.gff_read.specs.declared.row.Shape.TheVariants as shape
 use Rattle.gff_read.specs.declared.row.Row.{Row}

@@ -1,4 +1,5 @@
--- The fields that a struct of the file lists, read one after the other: the first test that fails, or the rows.
+-- The fields that a struct of the file lists, read one after the other: the first test that fails,
+-- or the rows.
 use Rattle.std.specs.Prelude.{◌≡◌, ℕ, zero, suc, ◌+◌, ◌*◌, ◌%◌, ◌==◌, nat_lt, if◌then◌else◌, Bool, List, [], ◌∷◌, ◌++◌, map, length, take, drop, slice_get, Option, Some, None, Result, Ok, Err}
 use Rattle.std.specs.Int.{w8, w16, w32, w64, cast_signed, to_le_bytes}
 use Rattle.std.specs.List.{list_any}
@@ -81,7 +82,8 @@ abbrev pub parts_in : ℕ → ℕ → List ℕ → Result (List LocPart) TreeFau
 parts_in field zero bytes = Ok []
 parts_in field (suc n) bytes = part_in field bytes >>= λ p. (parts_in field n p.1 >>= λ parts. Ok (p.0 ∷ parts))
 
--- a localized string in the bytes that its total size counts; what is left behind its texts is passed over
+-- a localized string in the bytes that its total size counts; what is left behind its texts is
+-- passed over
 unfoldable pub localized_in : ℕ → List ℕ → Result Loc TreeFault
 localized_in field bytes =
     if nat_lt (length bytes) 8 then bad_data field

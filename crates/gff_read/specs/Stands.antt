@@ -23,8 +23,8 @@ NumberStands bytes place width n = (read : List ℕ) × (data_at bytes place wid
 abbrev pub CountedStands : List ℕ → ℕ → ℕ → ℕ → List ℕ → Type 0
 CountedStands bytes place width count text = NumberStands bytes place width count × (data_at bytes (place + width) count ≡ Ok text)
 
--- texts in a row, each behind its number and its length; bytes may follow them. A length whose sign is set
--- is greater than any file.
+-- texts in a row, each behind its number and its length; bytes may follow them. A length whose sign
+-- is set is greater than any file.
 abbrev pub PartsStand : List ℕ → List LocPart → Type 0
 PartsStand bytes [] = Unit {0}
 PartsStand bytes (part ∷ parts) =
@@ -131,7 +131,8 @@ abbrev pub NodeStands : ℕ → List ℕ → Meaning
 NodeStands zero bytes n node uses = ⊥
 NodeStands (suc depth) bytes n (Struct kind fields) uses = StructStands (NodeStands depth bytes) bytes n kind fields uses
 
--- the bytes are a GFF file, and its struct 0 stands for the top, within the levels that a tree may have; no struct is used twice
+-- the bytes are a GFF file, and its struct 0 stands for the top, within the levels that a tree may
+-- have; no struct is used twice
 pub record Stands (bytes : List ℕ) (gff : PlainGff) : Type 0 where
   pub uses : List ℕ
   pub opens : open_fault bytes ≡ None

@@ -40,8 +40,8 @@ entered depth bytes n marks =
     placed (struct_row bytes n) >>= λ row. (if slice_index_or marks n false then Err (fault.Shared n)
     else (if depth == 0 then Err (fault.Deep n) else Ok row))
 
--- the struct of a number, with so many levels left: it is entered, all its fields are read, then the structs
--- below it
+-- the struct of a number, with so many levels left: it is entered, all its fields are read, then
+-- the structs below it
 unfoldable pub node_at : ℕ → List ℕ → Reading
 node_at zero bytes n marks = entered 0 bytes n marks >>= λ row. Err (fault.Deep n)
 node_at (suc depth) bytes n marks =

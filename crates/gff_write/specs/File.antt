@@ -155,7 +155,8 @@ written_rows file_type rows =
 abbrev pub written : PlainGff → List ℕ
 written gff = written_rows gff.file_type (rows_of 0 gff.top)
 
--- what writing gives: the file, or that it would be too large, with its size as a number of 64 bits can tell it
+-- what writing gives: the file, or that it would be too large, with its size as a number of 64 bits
+-- can tell it
 unfoldable pub outcome_of : List ℕ → Result (List ℕ) WriteFault
 outcome_of bytes = if nat_lt file_limit (length bytes) then Err (fault.Large (min (length bytes) (2 ^ 64 - 1))) else Ok bytes
 

@@ -1,4 +1,5 @@
--- A tree as the list of its structs in preorder, each with its fields, structs below it by their numbers.
+-- A tree as the list of its structs in preorder, each with its fields, structs below it by their
+-- numbers.
 use Rattle.std.specs.Prelude.{ℕ, ◌+◌, ◌-◌, ◌%◌, ◌^◌, List, [], ◌∷◌, ◌++◌, length, replicate}
 use Rattle.std.specs.Int.{w8, w16, w32, w64, cast_unsigned, from_le_bytes}
 use Rattle.std.specs.List.{flat_map}

@@ -39,7 +39,8 @@ IsScalar (tree.Res text) = Unit {0}
 IsScalar (tree.Localized loc) = (loc.str_ref < 4294967296) × AreParts loc.parts
 IsScalar (tree.Void bytes) = Unit {0}
 
--- each number of a struct in the range of its type, and each label one of at most 16 bytes without a zero byte
+-- each number of a struct in the range of its type, and each label one of at most 16 bytes without
+-- a zero byte
 abbrev mutual
   pub IsNode : PlainNode → Type 0
   IsNode (Struct kind fields) = (kind < 4294967296) × AreFields fields

@@ -22,8 +22,8 @@ own_count (MoreFields label holds rest) = 1 + own_count rest
 abbrev pub scalar_bytes : Scalar → ℕ
 scalar_bytes scalar = length (data_of (scalar_content scalar))
 
--- what a struct and all below it have in the file, its labels aside: 12 bytes a struct and a field, the field data, and the words
--- of the field indices and of the list indices
+-- what a struct and all below it have in the file, its labels aside: 12 bytes a struct and a field,
+-- the field data, and the words of the field indices and of the list indices
 abbrev mutual
   pub node_bytes : PlainNode → ℕ
   node_bytes (Struct kind fields) = 12 + index_bytes (own_count fields) + fields_bytes fields

@@ -41,7 +41,8 @@ unary_of unary.Not = negation
 unary_of unary.Inc = one_more
 unary_of unary.Dec = one_less
 
--- The operation of an instruction that is for two ints alone, behind its type byte. One without a type byte has that of ints.
+-- The operation of an instruction that is for two ints alone, behind its type byte. One without a
+-- type byte has that of ints.
 abbrev pub operation_of : PlainOp → Option (ℕ × Binary)
 operation_of ops.LogAnd = Some (0x20, binary.LogAnd)
 operation_of ops.LogOr = Some (0x20, binary.LogOr)

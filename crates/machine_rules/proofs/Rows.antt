@@ -1,4 +1,5 @@
--- Whole entries, computed: the code of small scripts, as this project's compiler writes it, under the built-in header.
+-- Whole entries, computed: the code of small scripts, as this project's compiler writes it, under
+-- the built-in header.
 use Rattle.std.proofs.Common.{◌≡◌, ℕ, List, [], ◌∷◌, ◌++◌, Option, Some, None, refl}
 use Rattle.std.specs.Prelude.{ℤ, pos, negsuc, codes, ◌==◌, ◌||◌, ◌*◌, neg_ℤ}
 use Rattle.nwq_value.specs.declared.value.Value.{Value}
@@ -69,7 +70,8 @@ record Seen : Type 0 where
 abbrev seen : Ran World → Seen
 seen r = record { ending = r.ending; count = r.count; trace = r.last.world.trace }
 
--- a script that runs from its start on object 0, and then what it has delayed, each entry with a trace of its own
+-- a script that runs from its start on object 0, and then what it has delayed, each entry with a
+-- trace of its own
 record Played : Type 0 where
   first : Seen
   later : List Seen
@@ -138,7 +140,8 @@ abbrev divide_code : List PlainOp
 divide_code =
     ops.Jsr (pos 8) ∷ ops.Retn ∷ int (pos 7) ∷ print ∷ int (pos 1) ∷ int (pos 0) ∷ ops.Div 0x20 ∷ print ∷ int (pos 8) ∷ print ∷ ops.Retn ∷ []
 
--- `int f(int a, int b) { if (a==0) return b; return f(a-1,b+1); } void main() { PrintInteger(f(3,4)); }`
+-- `int f(int a, int b) { if (a==0) return b; return f(a-1,b+1); } void main() {
+-- PrintInteger(f(3,4)); }`
 abbrev recursive_code : List PlainOp
 recursive_code =
     ops.Jsr (pos 118) ∷ ops.Retn

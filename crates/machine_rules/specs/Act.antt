@@ -1,4 +1,5 @@
--- What one instruction does in a running script. No world is looked at: an engine call says what it asks.
+-- What one instruction does in a running script. No world is looked at: an engine call says what it
+-- asks.
 use Rattle.std.specs.Prelude.{ℕ, ℤ, pos, ◌+◌, List, [], ◌∷◌, length, slice_get, Option, None, Some, Bool, true, false, not, ◌&&◌, ◌==◌, nat_le, if◌then◌else◌}
 use Rattle.std.specs.Option.{option_map, option_and_then}
 use Rattle.nwq_value.specs.declared.value.Value.{Value}
@@ -49,7 +50,8 @@ one_less n = difference n (pos 1)
 abbrev pub bp_range : StackView → ℤ → ℕ → Option CellRange
 bp_range s offset size = option_and_then (from_bp s) (range_at offset size)
 
--- The cells after an instruction of a script that runs with this object as self: none where it doesn't fit the cells.
+-- The cells after an instruction of a script that runs with this object as self: none where it
+-- doesn't fit the cells.
 unfoldable pub cells_after : PlainOp → ℕ → StackView → Option (List Cell)
 cells_after (ops.CpDownSp offset size) self s = range_written (range_at offset size) s.cells
 cells_after (ops.RsAdd kind) self s = value_pushed (starting_value kind) s.cells
@@ -119,7 +121,8 @@ place_after op at cells = next_place at op
 pub data Act : Type 0 where
   -- the script goes on
   Moves : Frame → Act
-  -- the engine is called: the routine's number, the arguments that are values, the action, and the frame without them
+  -- the engine is called: the routine's number, the arguments that are values, the action, and the
+  -- frame without them
   Asks : ℕ → List Value → Option Saved → Frame → Act
   -- the script of this name is to run at once with this object as self
   Executes : List ℕ → ℕ → Frame → Act

@@ -15,7 +15,8 @@ use Rattle.stack_shape.specs.Ranges.{cell_count}
 
 -- ---- values
 
--- The values of so many cells from the top, the top one first: none where the cells end before, or one is a base.
+-- The values of so many cells from the top, the top one first: none where the cells end before, or
+-- one is a base.
 abbrev pub values_on : ℕ → List Cell → Option (List Value)
 values_on zero cells = Some []
 values_on (suc n) [] = None

@@ -51,12 +51,14 @@ pub record HasEffect (op : PlainOp) (self : ℕ) (s : StackView) (e : StackEffec
   pub are : cells_after op self s ≡ Some cells
   pub outlines : outlines cells ≡ outlines_after e (outlines s.cells)
 
--- Where an instruction has a stack effect on the slots of a stack, it has a case there, and its effect is this one.
+-- Where an instruction has a stack effect on the slots of a stack, it has a case there, and its
+-- effect is this one.
 abbrev pub EffectsAreFollowed : Type 0
 EffectsAreFollowed = (op : PlainOp) (self : ℕ) (s : StackView) (e : StackEffect) → s.bp ≤ length s.cells
     → stack_effect op (slots_under s) (slots s.cells) ≡ Some e → HasEffect op self s e
 
--- What a call with this effect takes: values of its parameters' types, so many of the pending states, and of these the newest as its action.
+-- What a call with this effect takes: values of its parameters' types, so many of the pending
+-- states, and of these the newest as its action.
 pub record TakesArguments (r : Routine) (count : ℕ) (cells : List Cell) (pending : List Saved) (e : StackEffect) : Type 0 where
   pub taken : Taken
   pub are : arguments r count cells pending ≡ Some taken
@@ -66,12 +68,14 @@ pub record TakesArguments (r : Routine) (count : ℕ) (cells : List Cell) (pendi
   pub cells_left : outlines taken.cells ≡ drop e.pops (outlines cells)
   pub pushes : e.pushes ≡ result_types r.result
 
--- Where a call has a stack effect on the slots of cells and the count of pending states, what it takes is there.
+-- Where a call has a stack effect on the slots of cells and the count of pending states, what it
+-- takes is there.
 abbrev pub CallsAreFollowed : Type 0
 CallsAreFollowed = (r : Routine) (count : ℕ) (cells : List Cell) (pending : List Saved) (e : StackEffect)
     → call_effect r count (length pending) (slots cells) ≡ Some e → TakesArguments r count cells pending e
 
--- What STORE_STATE captures where it finds these types: a state that resumes on cells of these types, the globals beneath BP.
+-- What STORE_STATE captures where it finds these types: a state that resumes on cells of these
+-- types, the globals beneath BP.
 pub record CapturesTypes (globals locals : ℕ) (f : Frame) (t : StoredTypes) : Type 0 where
   pub saved : Saved
   pub is : stored globals locals f ≡ Some (Moves (record f { place = next_place f.place (StoreState globals locals); pending = saved ∷ f.pending }))

@@ -22,12 +22,14 @@ pub record Script : Type 0 where
   pub name : List ℕ
   pub code : List PlainOp
 
--- what the engine gives to a call: a value, where the routine has a result, and the world after the call
+-- what the engine gives to a call: a value, where the routine has a result, and the world after the
+-- call
 pub record Answered (W : Type 0) : Type 0 where
   pub value : Option Value
   pub world : W
 
--- What a machine runs in: the listed scripts, the header's routines, and an engine over any kind of world.
+-- What a machine runs in: the listed scripts, the header's routines, and an engine over any kind of
+-- world.
 pub record Host (W : Type 0) : Type 0 where
   pub scripts : List Script
   pub table : EngineTable
@@ -39,7 +41,8 @@ pub record Host (W : Type 0) : Type 0 where
   pub no_script : ℕ → List ℕ → W → W
   pub too_deep : ℕ → List ℕ → W → W
 
--- An entry that is running: the script that runs, those that wait for it, the newest first, and the world.
+-- An entry that is running: the script that runs, those that wait for it, the newest first, and the
+-- world.
 pub record State (W : Type 0) : Type 0 where
   pub running : Frame
   pub waiting : List Frame
@@ -69,7 +72,8 @@ answered a f s = record s { running = with_answer a.value f; world = a.world }
 abbrev pub script_named : List Script → List ℕ → Option ℕ
 script_named scripts name = position (λ s. bytes_eq (map to_ascii_lowercase name) s.name) scripts
 
--- The script begins, and this frame waits for it: unless it isn't listed, or as many scripts wait as may.
+-- The script begins, and this frame waits for it: unless it isn't listed, or as many scripts wait
+-- as may.
 abbrev pub begun : {W : Type 0} → Host W → Option ℕ → List ℕ → ℕ → Frame → State W → State W
 begun host None name target f s = record s { running = f; world = host.no_script target name s.world }
 begun host (Some script) name target f s =
@@ -102,6 +106,7 @@ followed host s Divides = Divided
 abbrev pub next_op : List Script → Frame → Option PlainOp
 next_op scripts f = option_and_then (λ (script : Script). op_at script.code f.place) (slice_get scripts f.script)
 
--- One instruction: none where no instruction begins at the place, or where it has no case. That is a stack fault.
+-- One instruction: none where no instruction begins at the place, or where it has no case. That is
+-- a stack fault.
 unfoldable pub step : {W : Type 0} → Host W → State W → Option (Next W)
 step host s = option_and_then (λ op. option_map (followed host s) (act host.table op s.running)) (next_op host.scripts s.running)

@@ -13,8 +13,8 @@ pub data Ending : Type 0 where
   OutOfInstructions : Ending
   StackFault : Ending
 
--- A run: how it ended; how many instructions it took in all its scripts, one that divides by 0 among them; and the state in which
--- its last instruction stood, or the next one would.
+-- A run: how it ended; how many instructions it took in all its scripts, one that divides by 0
+-- among them; and the state in which its last instruction stood, or the next one would.
 pub record Ran (W : Type 0) : Type 0 where
   pub ending : Ending
   pub count : ℕ

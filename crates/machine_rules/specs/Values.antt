@@ -9,7 +9,8 @@ use Rattle.ncs_code.specs.Plain.{PlainLit}
 use Rattle.ncs_code.specs.Plain as ops
 use Rattle.stack_shape.specs.StackEffects.{type_of_one}
 
--- what CONST pushes in a script that runs with this object as self: object 0 is self, and every other number is the invalid object
+-- what CONST pushes in a script that runs with this object as self: object 0 is self, and every
+-- other number is the invalid object
 abbrev pub literal_value : ℕ → PlainLit → Option Value
 literal_value self (ops.Int n) = Some (Int n)
 literal_value self (ops.Float bytes) = None

@@ -2,7 +2,8 @@
 use Rattle.std.specs.Prelude.{◌≡◌, ◌≢◌, ℕ, Bool, ◌&&◌, not, ◌+◌, ◌-◌, ◌<◌, ◌≤◌, ◌⊎◌, nat_lt, nat_le, List, length, slice_index, slice_range, count_by}
 use Rattle.std.specs.Str.{IsUtf8}
 
--- the line of a place begins there: at the text's beginning or behind a newline, and no newline stands between
+-- the line of a place begins there: at the text's beginning or behind a newline, and no newline
+-- stands between
 pub record IsLineStart (bytes : List ℕ) (at start : ℕ) : Type 0 where
   pub within : start ≤ at
   pub begins : (start ≡ 0) ⊎ (slice_index bytes (start - 1) ≡ 10)

@@ -7,7 +7,8 @@ use Rattle.nwq_text.specs.Escape.{escaped}
 use Rattle.message_text.specs.declared.window.Window.{Window}
 use Rattle.message_text.specs.Place.{is_inner, IsLineStart, IsLineEnd}
 
--- a byte that is shown as it is, in a line that is UTF-8 or isn't: a tab, printable ASCII, or a byte of another character
+-- a byte that is shown as it is, in a line that is UTF-8 or isn't: a tab, printable ASCII, or a
+-- byte of another character
 abbrev pub is_shown_plain : Bool → ℕ → Bool
 is_shown_plain text b = if nat_lt b 128 then (if b == 9 then true else nat_le 32 b && nat_lt b 127) else text
 
@@ -15,7 +16,8 @@ is_shown_plain text b = if nat_lt b 128 then (if b == 9 then true else nat_le 32
 unfoldable pub shown_byte : Bool → ℕ → List ℕ
 shown_byte text b = if is_shown_plain text b then b ∷ [] else escaped (b ∷ [])
 
--- what stands under a byte that is shown as it is: a tab, nothing under a byte that begins no character, or a blank
+-- what stands under a byte that is shown as it is: a tab, nothing under a byte that begins no
+-- character, or a blank
 abbrev pub plain_blank : ℕ → List ℕ
 plain_blank b = if b == 9 then 9 ∷ [] else if is_inner b then [] else 32 ∷ []
 
@@ -30,14 +32,16 @@ points cut = if cut then codes "..." else []
 abbrev pub points_blank : Bool → List ℕ
 points_blank cut = if cut then codes "   " else []
 
--- where a line ends for a reader: before the carriage return in front of its newline, unless that stands before the place
+-- where a line ends for a reader: before the carriage return in front of its newline, unless that
+-- stands before the place
 pub record IsShownEnd (bytes : List ℕ) (at end : ℕ) : Type 0 where
   pub line_end : ℕ
   pub ends : IsLineEnd bytes at line_end
   pub cut : at < line_end → slice_index bytes (line_end - 1) ≡ 13 → end + 1 ≡ line_end
   pub whole : (at < line_end → slice_index bytes (line_end - 1) ≢ 13) → end ≡ line_end
 
--- the first place from one on, and up to a limit, at which a character begins; past three bytes that begin none, the fourth
+-- the first place from one on, and up to a limit, at which a character begins; past three bytes
+-- that begin none, the fourth
 pub record IsPast (bytes : List ℕ) (from limit at : ℕ) : Type 0 where
   pub behind : from ≤ at
   pub within : at ≤ limit
@@ -45,11 +49,13 @@ pub record IsPast (bytes : List ℕ) (from limit at : ℕ) : Type 0 where
   pub inner : (k : ℕ) → from ≤ k → k < at → IsTrue (is_inner (slice_index bytes k))
   pub stops : at < limit → at < from + 3 → IsTrue (not (is_inner (slice_index bytes at)))
 
--- how many bytes of a line are shown at most on each side of a place, but for the rest of a character behind it
+-- how many bytes of a line are shown at most on each side of a place, but for the rest of a
+-- character behind it
 abbrev pub most_bytes : ℕ
 most_bytes = 70
 
--- where the shown part begins of a line that begins at start: there, if so many bytes reach back to it
+-- where the shown part begins of a line that begins at start: there, if so many bytes reach back to
+-- it
 pub record IsShownFrom (bytes : List ℕ) (at start from : ℕ) : Type 0 where
   pub whole : at ≤ start + most_bytes → from ≡ start
   pub cut : start + most_bytes < at → IsPast bytes (at - most_bytes) at from
@@ -59,7 +65,8 @@ pub record IsShownTo (bytes : List ℕ) (at end to : ℕ) : Type 0 where
   pub whole : end ≤ at + most_bytes → to ≡ end
   pub cut : at + most_bytes < end → IsPast bytes (at + most_bytes) end to
 
--- the part of its line that is shown of a place: the whole line where it is short enough, else up to so many bytes on each side; on each side it is told whether something of the line is left out
+-- the part of its line that is shown of a place: the whole line where it is short enough, else up
+-- to so many bytes on each side; on each side it is told whether something of the line is left out
 pub record IsWindow (bytes : List ℕ) (at : ℕ) (w : Window) : Type 0 where
   pub start : ℕ
   pub begins : IsLineStart bytes at start
@@ -70,7 +77,8 @@ pub record IsWindow (bytes : List ℕ) (at : ℕ) (w : Window) : Type 0 where
   pub before : (IsTrue w.before) ↔ (start < w.from)
   pub behind : (IsTrue w.behind) ↔ (w.to < end)
 
--- the part of a line that is shown, and the line under it with a caret under the place, for lines that are UTF-8 or not
+-- the part of a line that is shown, and the line under it with a caret under the place, for lines
+-- that are UTF-8 or not
 abbrev pub line_text : Bool → List ℕ → Window → List ℕ
 line_text text bytes w =
     points w.before ++ flat_map (shown_byte text) (slice_range bytes w.from w.to) ++ points w.behind ++ codes "\n"
@@ -78,7 +86,8 @@ line_text text bytes w =
 abbrev pub caret_text : Bool → List ℕ → ℕ → Window → List ℕ
 caret_text text bytes at w = points_blank w.before ++ flat_map (blank_byte text) (slice_range bytes w.from at) ++ codes "^\n"
 
--- the text shows the place: in a window around it, whose bytes are shown as characters exactly where they are UTF-8
+-- the text shows the place: in a window around it, whose bytes are shown as characters exactly
+-- where they are UTF-8
 pub record ShowsPlace (bytes : List ℕ) (at : ℕ) (text : List ℕ) : Type 0 where
   pub window : Window
   pub around : IsWindow bytes at window

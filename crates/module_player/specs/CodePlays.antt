@@ -15,8 +15,8 @@ use Rattle.ncs_machine.specs.Host.{engine_view, host, scripts_of}
 abbrev pub host_of : List Loaded → EngineTable → List Known → Host (World Saved)
 host_of scripts table hooks = host (scripts_of scripts) (engine_view table hooks)
 
--- How an entry's scripts end by how the machine's run does, with the object as which the last script ran. Scripts that were checked never
--- come to a stack fault.
+-- How an entry's scripts end by how the machine's run does, with the object as which the last
+-- script ran. Scripts that were checked never come to a stack fault.
 abbrev pub ending_of : runs.Ending → ℕ → Ending
 ending_of runs.Over self = Over
 ending_of runs.ZeroDivisor self = Divided self
@@ -35,11 +35,13 @@ code_runner host limit = record {
   stored = λ saved self w. run_of (runs.run_stored host limit saved self w);
 }
 
--- the play of files from a world on: at most so many instructions in an entry, so many entries, and those that are due by this time
+-- the play of files from a world on: at most so many instructions in an entry, so many entries, and
+-- those that are due by this time
 abbrev pub code_play : Host (World Saved) → ℕ → ℕ → ℕ → World Saved → Played Saved
 code_play host limit entries until w = play (code_runner host limit) entries until w
 
--- a world in which so many entries were taken and so many instructions counted, before any line is told
+-- a world in which so many entries were taken and so many instructions counted, before any line is
+-- told
 abbrev pub played_before : ℕ → ℕ → World Saved → Progress Saved
 played_before entries count w = record { entries = entries; count = count; trace = []; world = w }
 

@@ -34,7 +34,8 @@ pub record HasRun (s : Scene) (limit : ℕ) (ended : Ended) (count : ℕ) (r : R
 abbrev pub entered : Entered → World Saved → plays.Entered Saved
 entered e w = record { stopped = e.stopped; count = e.count; world = w }
 
--- whatever fits a list of scripts and their tables, all states in the one world do, where those of the other do
+-- whatever fits a list of scripts and their tables, all states in the one world do, where those of
+-- the other do
 abbrev pub KeepsFits : World Saved → World Saved → Type 0
 KeepsFits w v = (scripts : List Script) (tables : Tables) → StatesFit scripts tables w → StatesFit scripts tables v
 

@@ -16,7 +16,8 @@ use Rattle.world_rules.specs.Plays.{Progress, StoppedInside}
 use Rattle.ncs_machine.specs.declared.scripts.Loaded.{Loaded}
 use Rattle.module_player.specs.CodePlays.{code_play_on, host_of}
 
--- a world from which a plan's play goes on till a time: it is between entries, inside a plan's limits
+-- a world from which a plan's play goes on till a time: it is between entries, inside a plan's
+-- limits
 pub record CanGoOn (until : ℕ) (w : World Saved) : Type 0 where
   pub between : IsBetween w
   pub version : (w.version ≡ 1) ⊎ (w.version ≡ 2)
@@ -24,7 +25,8 @@ pub record CanGoOn (until : ℕ) (w : World Saved) : Type 0 where
   pub clock : w.clock ≤ until
   pub due : IsDueBy time_limit w
 
--- a play between two entries that can be saved: its area comes from this file, and it is inside its limits
+-- a play between two entries that can be saved: its area comes from this file, and it is inside its
+-- limits
 pub record CanRest (tree : PlainGff) (most until : ℕ) (p : Progress Saved) : Type 0 where
   pub file : p.world.area.tree ≡ tree
   pub version : (p.world.version ≡ 1) ⊎ (p.world.version ≡ 2)

@@ -35,15 +35,16 @@ WhereCut Divide fact = Unit {0}
 WhereCut Limit fact = Unit {0}
 WhereCut NoMemory fact = fact
 
--- A run from this state took just so many instructions, and was cut short in the next one: the world is the one between the two, or
--- already as the next one's engine call left it.
+-- A run from this state took just so many instructions, and was cut short in the next one: the
+-- world is the one between the two, or already as the next one's engine call left it.
 pub record IsCut (h : Host (World Saved)) (instructions self : ℕ) (first : State (World Saved)) (v : World Saved) : Type 0 where
   pub ending : (run h instructions first).ending ≡ OutOfInstructions
   pub counted : (run h instructions first).count ≡ instructions
   pub own : self ≡ (run h instructions first).last.running.self
   pub world : IsHalfway (run h instructions first).last.world (run h (suc instructions) first).last.world v
 
--- What so many instructions leave of a world: objects and clock, an entry posted for each at most, and objects that act act on.
+-- What so many instructions leave of a world: objects and clock, an entry posted for each at most,
+-- and objects that act act on.
 pub record IsLeft {X : Type 0} (instructions : ℕ) (w v : World X) : Type 0 where
   pub objects : count v ≡ count w
   pub clock : v.clock ≡ w.clock

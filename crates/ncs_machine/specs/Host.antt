@@ -1,4 +1,5 @@
--- What the machine runs in here: listed scripts that were checked, a header's routines, and the engine over a world.
+-- What the machine runs in here: listed scripts that were checked, a header's routines, and the
+-- engine over a world.
 use Rattle.std.specs.Prelude.{ℕ, List, map, Option, None, Some, slice_get}
 use Rattle.nwq_value.specs.declared.value.Value.{Value}
 use Rattle.nwq_value.specs.Engine.{EngineTable}

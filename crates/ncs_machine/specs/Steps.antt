@@ -50,7 +50,8 @@ world_behind (Some (Goes t)) w = t.world
 world_behind (Some Ends) w = w
 world_behind (Some Divided) w = w
 
--- What is left of the world before a step that was cut short: it is as it was, or already as the step's engine call left it.
+-- What is left of the world before a step that was cut short: it is as it was, or already as the
+-- step's engine call left it.
 pub data IsHalfway (before behind v : World Saved) : Type 0 where
   Untouched : v ≡ before → IsHalfway before behind v
   Called : v ≡ behind → IsHalfway before behind v

@@ -1,4 +1,5 @@
--- What stands behind the name and the type byte of an instruction, and the bytes of its spelling that this stands for.
+-- What stands behind the name and the type byte of an instruction, and the bytes of its spelling
+-- that this stands for.
 use Rattle.std.specs.Prelude.{◌≡◌, ℕ, ℤ, pos, negsuc, zero, suc, ◌+◌, ◌*◌, ◌<◌, ◌^◌, List, [], ◌∷◌, ◌++◌, length, ◌&&◌, ◌||◌, ◌==◌, nat_lt, if◌then◌else◌, Option, Some, None}
 use Rattle.std.specs.Option.{option_map}
 use Rattle.nwq_text.specs.Number.{number_of}
@@ -75,7 +76,8 @@ hex_bytes (high ∷ low ∷ digits) = together (hex_byte high low) (hex_bytes di
 abbrev pub reach : ℕ
 reach = 2147483648
 
--- How far a jump at one place has to lead to come to another. Where that is out of reach, it leads back as far as it can, to before the file.
+-- How far a jump at one place has to lead to come to another. Where that is out of reach, it leads
+-- back as far as it can, to before the file.
 unfoldable pub offset_to : ℕ → ℕ → ℤ
 offset_to at place = if nat_lt at reach && nat_lt place reach then distance at place else negsuc 2147483647
 
@@ -125,7 +127,8 @@ pub record IsParted (First Others : List ℕ → List ℕ → Type 0) (text byte
   pub first : First field front
   pub behind : Others rest others
 
--- Arguments with a space between them, and the bytes that they stand for together. The last one takes the rest of the line.
+-- Arguments with a space between them, and the bytes that they stand for together. The last one
+-- takes the rest of the line.
 abbrev pub AreFields : ℕ → Argument → List Argument → List ℕ → List ℕ → Type 0
 AreFields at argument [] text bytes = IsArgument at argument text bytes
 AreFields at argument (following ∷ others) text bytes = IsParted (IsArgument at argument) (AreFields at following others) text bytes

@@ -19,7 +19,8 @@ hex_pair b = hex_digit (b / 16) ∷ hex_digit (b % 16) ∷ []
 abbrev pub heading : PlainOp → List ℕ
 heading op = name_of op ++ 32 ∷ hex_pair (type_byte op)
 
--- The line stands for the instruction, where that stands at this place: the name, the type byte and the arguments, whose bytes are those of the spelling.
+-- The line stands for the instruction, where that stands at this place: the name, the type byte and
+-- the arguments, whose bytes are those of the spelling.
 pub record Writes (at : ℕ) (line : List ℕ) (op : PlainOp) : Type 0 where
   pub is_op : IsOp op
   pub text : List ℕ
@@ -48,7 +49,8 @@ pub record IsAssembled (text file : List ℕ) : Type 0 where
 
 -- ---- why there is none
 
--- The n-th line is no line of an assembler text, and each before it is one: it is no remark, and stands for no instruction at its place.
+-- The n-th line is no line of an assembler text, and each before it is one: it is no remark, and
+-- stands for no instruction at its place.
 pub record StopsAt (n : ℕ) (text : List ℕ) : Type 0 where
   pub before : List (List ℕ)
   pub line : List ℕ

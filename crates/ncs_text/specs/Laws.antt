@@ -17,6 +17,7 @@ ListedAgain = (ops : List PlainOp) → IsCode ops → IsAssembled (listing ops) 
 abbrev pub OneAnswer : Type 0
 OneAnswer = (text : List ℕ) (a b : Result (List ℕ) AsmFault) → Answers text a → Answers text b → a ≢ Err NoMemory → b ≢ Err NoMemory → a ≡ b
 
--- A jump leads to a beginning of an instruction exactly where one begins at the place that its line names.
+-- A jump leads to a beginning of an instruction exactly where one begins at the place that its line
+-- names.
 abbrev pub TargetIsMeant : Type 0
 TargetIsMeant = (ops : List PlainOp) (at place : ℕ) → at ≤ file_limit → file_length ops ≤ file_limit → begins ops (jump_place at (offset_to at place)) ≡ begins ops place

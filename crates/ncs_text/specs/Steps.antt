@@ -71,7 +71,8 @@ pub record Passes (stop : ℕ) (lines : List (List ℕ)) (ops : List PlainOp) : 
   pub writes : Writes (file_length first) line op
   pub within : file_length first ≤ stop
 
--- So many lines were read: all, or those up to the one that passes this place. The spellings are kept where the file may be so large.
+-- So many lines were read: all, or those up to the one that passes this place. The spellings are
+-- kept where the file may be so large.
 pub record IsPassed (text : List ℕ) (stop : ℕ) (body : List ℕ) (size number : ℕ) : Type 0 where
   pub met : List (List ℕ)
   pub left : List (List ℕ)

@@ -1,4 +1,5 @@
--- From steps to pieces: what a file goes on with at a place are its pieces there, and what its steps come to, its pieces come to.
+-- From steps to pieces: what a file goes on with at a place are its pieces there, and what its
+-- steps come to, its pieces come to.
 use Rattle.std.proofs.Common.{◌≡◌, ℕ, zero, suc, ◌+◌, Bool, true, false, ◌&&◌, List, [], ◌∷◌, ◌++◌, length, Option, Some, None, refl, sym, ap, subst, ◌∙◌, append_assoc, append-nil}
 use Rattle.std.proofs.lemmas.Option.{same_Some, none-some}
 use Rattle.std.specs.List.{slice_get}

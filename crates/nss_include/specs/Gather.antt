@@ -26,7 +26,8 @@ Claims (Tokens spot) P = P
 Claims (Include spot) P = P
 Claims NoMemory P = Unit {0}
 
--- What the counts of files are after such an answer: none rose but that of the fault of the outside which it gives.
+-- What the counts of files are after such an answer: none rose but that of the fault of the outside
+-- which it gives.
 abbrev pub CountsGathered : {A : Type 0} → Result A GatherFault → FileCounts → FileCounts → Type 0
 CountsGathered (Ok a) before now = NoneRose before now
 CountsGathered (Err (Missing name)) before now = Rose Absences before now

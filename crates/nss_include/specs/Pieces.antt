@@ -6,8 +6,9 @@ use Rattle.nss_lexer.specs.Splitting.{Lexeme, Splits}
 use Rattle.nss_lexer.specs.Strings.{string_value}
 use Rattle.nss_include.specs.Names.{is_include_name}
 
--- A piece of a file: a token; a directive with the place of its `#` and the name of its include; one that names no include,
--- by the place of its `#`; a place where no token, blank or closed comment begins.
+-- A piece of a file: a token; a directive with the place of its `#` and the name of its include;
+-- one that names no include, by the place of its `#`; a place where no token, blank or closed
+-- comment begins.
 pub data Piece : Type 0 where
   Token : (t : Lexeme) → Piece
   Directive : (hash : ℕ) (name : List ℕ) → Piece
@@ -42,8 +43,9 @@ abbrev pub cut_directive : ℕ → Option ℕ → Piece
 cut_directive hash None = BadDirective hash
 cut_directive hash (Some place) = BadByte place
 
--- The pieces of a file by its tokens, up to its end or to the place where nothing begins. A `#` with the name `include`
--- behind it begins a directive of three tokens; each other token is a piece of its own.
+-- The pieces of a file by its tokens, up to its end or to the place where nothing begins. A `#`
+-- with the name `include` behind it begins a directive of three tokens; each other token is a piece
+-- of its own.
 abbrev pub pieces : List Lexeme → Option ℕ → List Piece
 pieces [] ending = last_pieces ending
 pieces (t ∷ []) ending = Token t ∷ last_pieces ending

@@ -1,5 +1,5 @@
--- A unit while it is read: the files that are open, the innermost first, and what is left to come of them. No public contract
--- names this.
+-- A unit while it is read: the files that are open, the innermost first, and what is left to come
+-- of them. No public contract names this.
 use Rattle.std.specs.Prelude.{◌≡◌, ℕ, ◌+◌, ◌-◌, ◌*◌, ◌<◌, ◌≤◌, Bool, IsTrue, List, [], ◌∷◌, ◌++◌, length, slice_get, take, Option, Some, None, IsSomeAnd}
 use Rattle.std.specs.List.{AllByRecursion}
 use Rattle.nwq_value.specs.Limits.{file_limit, text_limit, token_limit}
@@ -56,8 +56,8 @@ pub record IsOpen (files : List Source) (here : Open) : Type 0 where
   pub file : here.file < length files
   pub place : here.at ≤ length (bytes_of (slice_get files here.file))
 
--- the open files are of the unit, each of its tokens was counted, and each file but the script was paid for by a directive; no two
--- files have one name
+-- the open files are of the unit, each of its tokens was counted, and each file but the script was
+-- paid for by a directive; no two files have one name
 pub record IsReady (r : Gatherer) : Type 0 where
   pub places : AllByRecursion (IsOpen r.unit.files) r.stack
   pub few : r.count ≤ token_limit

@@ -1,5 +1,5 @@
--- What a file goes on with at a place, as the code finds it: a token, an include, a fault or its end. No public contract
--- names this: a unit is proved to be what its pieces come to.
+-- What a file goes on with at a place, as the code finds it: a token, an include, a fault or its
+-- end. No public contract names this: a unit is proved to be what its pieces come to.
 use Rattle.std.specs.Prelude.{◌≡◌, ℕ, ◌-◌, ◌≤◌, Bool, true, false, List, length, take, drop, codes, bytes_eq, if◌then◌else◌, Option, Some, None}
 use Rattle.nss_lexer.specs.Lexemes.{IsLexeme}
 use Rattle.nss_lexer.specs.Strings.{string_value}
@@ -30,14 +30,15 @@ begins_include (BadAt place) = false
 unfoldable pub named_step : ℕ → List ℕ → ℕ → Step
 named_step hash text end = if is_include_name (string_value text) then Mentions hash (string_value text) end else Misses hash
 
--- A directive whose `#` stands at this place goes on so, where this stands first behind its `include`.
+-- A directive whose `#` stands at this place goes on so, where this stands first behind its
+-- `include`.
 abbrev pub directive_step : ℕ → First → Step
 directive_step hash AtEnd = Misses hash
 directive_step hash (BadAt place) = Breaks place
 directive_step hash (Found t) = if is_string t.kind then named_step hash t.text t.end else Misses hash
 
--- What a file, by its bytes and number, goes on with at a place. A `#` with the name `include` behind it, in the same
--- file, begins a directive.
+-- What a file, by its bytes and number, goes on with at a place. A `#` with the name `include`
+-- behind it, in the same file, begins a directive.
 pub data IsStep (bytes : List ℕ) (file : ℕ) : ℕ → Step → Type 0 where
   ends : (at : ℕ) → IsFirst bytes file at AtEnd → IsStep bytes file at Ends
   breaks : (at place : ℕ) → IsFirst bytes file at (BadAt place) → IsStep bytes file at (Breaks place)
@@ -49,8 +50,8 @@ pub data IsStep (bytes : List ℕ) (file : ℕ) : ℕ → Step → Type 0 where
       → IsFirst bytes file t.end (Found u) → is_include u ≡ true → IsFirst bytes file u.end x
       → step ≡ directive_step t.start x → IsStep bytes file at step
 
--- What stands behind a token with this text and end: the end of the name `include`, where the token is a `#` and
--- that name stands first behind it.
+-- What stands behind a token with this text and end: the end of the name `include`, where the token
+-- is a `#` and that name stands first behind it.
 pub data Behind (bytes : List ℕ) (file : ℕ) (text : List ℕ) (end : ℕ) : Option ℕ → Type 0 where
   no_hash : bytes_eq text (codes "#") ≡ false → Behind bytes file text end None
   no_include : (x : First) → IsFirst bytes file end x → begins_include x ≡ false → Behind bytes file text end None

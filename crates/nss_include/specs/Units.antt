@@ -1,5 +1,5 @@
--- The unit of a script: the tokens of its file, with each directive replaced by the tokens of the file that it names,
--- at the first mention, and by nothing later.
+-- The unit of a script: the tokens of its file, with each directive replaced by the tokens of the
+-- file that it names, at the first mention, and by nothing later.
 use Rattle.std.specs.Prelude.{◌≡◌, ◌≢◌, ℕ, ◌+◌, ◌≤◌, Bool, true, false, nat_lt, nat_le, if◌then◌else◌, List, [], ◌∷◌, ◌++◌, length, take, bytes_eq, Option, Some, None}
 use Rattle.std.specs.List.{list_any, AllByRecursion}
 use Rattle.nwq_value.specs.Limits.{file_limit, text_limit, token_limit}
@@ -46,8 +46,8 @@ with_directive held = record held { count = held.count + 3 }
 abbrev pub with_file : Held → List ℕ → List ℕ → Held
 with_file held name bytes = record { files = held.files ++ source name bytes ∷ []; count = held.count + 3 }
 
--- What a directive with its `#` there fails with: the count of tokens comes first, and then a file that is not in the unit yet
--- is read.
+-- What a directive with its `#` there fails with: the count of tokens comes first, and then a file
+-- that is not in the unit yet is read.
 abbrev pub include_fault : Lookup → Held → Source → ℕ → List ℕ → Option GatherFault
 include_fault lookup held file hash name =
     if nat_lt token_limit (held.count + 3) then Some (Tokens (spot_in file hash))
@@ -60,8 +60,8 @@ piece_fault lookup held file (Directive hash name) = include_fault lookup held f
 piece_fault lookup held file (BadDirective hash) = Some (Include (spot_in file hash))
 piece_fault lookup held file (BadByte place) = Some (Bad (spot_in file place))
 
--- From what is held before, these pieces of a file come to these tokens and to what is held after them: all of them, or
--- those up to the first fault.
+-- From what is held before, these pieces of a file come to these tokens and to what is held after
+-- them: all of them, or those up to the first fault.
 pub data Unfolds (lookup : Lookup) : Source → List Piece → Held → List Lexeme → Held → Option GatherFault → Type 0 where
   ends : (file : Source) (held : Held) → Unfolds lookup file [] held [] held None
   fails : (file : Source) (piece : Piece) (more : List Piece) (held : Held) (fault : GatherFault)

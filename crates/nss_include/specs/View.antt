@@ -36,12 +36,13 @@ pub record StandsIn (files : List Source) (t : Lexeme) : Type 0 where
   pub order : t.start ≤ t.end
   pub within : t.end ≤ length (bytes_of (slice_get files t.file))
 
--- files of a unit, as many as have a number of 16 bits. A unit never comes to so many, since each include takes three of its
--- tokens.
+-- files of a unit, as many as have a number of 16 bits. A unit never comes to so many, since each
+-- include takes three of its tokens.
 abbrev pub file_count_limit : ℕ
 file_count_limit = 65536
 
--- what every unit keeps: its files have the size of files, its tokens are few, and its spans lie in its files
+-- what every unit keeps: its files have the size of files, its tokens are few, and its spans lie in
+-- its files
 pub record IsSound (files : List Source) (spans : List Span) : Type 0 where
   pub sizes : AllByRecursion (λ f. length f.bytes ≤ file_limit) files
   pub few : length files ≤ file_count_limit

@@ -1,5 +1,5 @@
--- What the steps of a file come to, with those of the files that it includes. No public contract names this: a unit is proved
--- to be what its pieces come to.
+-- What the steps of a file come to, with those of the files that it includes. No public contract
+-- names this: a unit is proved to be what its pieces come to.
 use Rattle.std.specs.Prelude.{◌≡◌, ℕ, ◌+◌, true, false, nat_lt, if◌then◌else◌, List, [], ◌∷◌, ◌++◌, length, slice_get, Option, Some, None}
 use Rattle.nwq_value.specs.Limits.{token_limit}
 use Rattle.nss_lexer.specs.Splitting.{Lexeme}
@@ -26,8 +26,9 @@ step_fault lookup files count file (Gives span) = if nat_lt count token_limit th
 step_fault lookup files count file (Mentions at name after) = include_fault lookup files count file at (file_name name)
 step_fault lookup files count file (Misses place) = Some (Include (spot_in file place))
 
--- From a place of a file on, where these files are in the unit and so many tokens were counted, the steps come to these
--- tokens, with the files and the count at their end: up to the file's end, or up to a fault.
+-- From a place of a file on, where these files are in the unit and so many tokens were counted, the
+-- steps come to these tokens, with the files and the count at their end: up to the file's end, or
+-- up to a fault.
 pub data Walks (lookup : Lookup) : ℕ → ℕ → List Source → ℕ → List Lexeme → List Source → ℕ → Option GatherFault → Type 0 where
   ends : (number at : ℕ) (files : List Source) (count : ℕ) (file : Source) → slice_get files number ≡ Some file
       → IsStep file.bytes number at Ends → Walks lookup number at files count [] files count None

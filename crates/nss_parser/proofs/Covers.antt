@@ -1,4 +1,5 @@
--- What is said of a tree by the tokens that spell it: it is no larger than they are many, and where they are literals, it is known.
+-- What is said of a tree by the tokens that spell it: it is no larger than they are many, and where
+-- they are literals, it is known.
 use Rattle.std.proofs.Common.{◌≡◌, ℕ, suc, ◌+◌, ◌≤◌, List, [], ◌∷◌, ◌++◌, length, arith, length-append}
 use Rattle.std.specs.List.{AllByRecursion}
 use Rattle.nss_symbols.specs.Symbols.{Numbered, IsLiteral}

@@ -1,5 +1,5 @@
--- Reading of types, constants and declared names depends on the tokens that it passes and the next one, and more
--- depth changes nothing.
+-- Reading of types, constants and declared names depends on the tokens that it passes and the next
+-- one, and more depth changes nothing.
 use Rattle.std.proofs.Common.{ℕ, zero, suc, ◌≤◌, List, [], ◌∷◌, ◌++◌, Option, None, Some, arith}
 use Rattle.nss_tree.specs.Source.{SourceDeclared}
 use Rattle.nss_tree.specs.declared.constants.TypeName.{TypeName}

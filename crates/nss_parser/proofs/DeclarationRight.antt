@@ -1,4 +1,5 @@
--- What is read as a type, a constant or declared names is spelled so, what stops is a prefix, and the depth lasts.
+-- What is read as a type, a constant or declared names is spelled so, what stops is a prefix, and
+-- the depth lasts.
 use Rattle.std.proofs.Common.{◌≡◌, ℕ, zero, suc, ◌≤◌, Bool, true, false, ◌⊎◌, inl, inr, List, [], ◌∷◌, ◌++◌, length, append_assoc, append-nil, Option, None, Some, refl, sym, ap, subst, arith}
 use Rattle.std.specs.Int.{cast_signed, w32}
 use Rattle.nss_tree.specs.Source.{SourceDeclared}

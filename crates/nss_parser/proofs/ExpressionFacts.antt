@@ -129,8 +129,8 @@ level_below binary.Multiply = omega arith
 level_below binary.Divide = omega arith
 level_below binary.Remainder = omega arith
 
--- What may follow. No operator of level k or tighter; nothing that goes on a postfix expression; neither of
--- these and no assignment.
+-- What may follow. No operator of level k or tighter; nothing that goes on a postfix expression;
+-- neither of these and no assignment.
 abbrev pub NoOperator : ℕ → List Numbered → Type 0
 NoOperator k i = (o : BinaryOperator) → binary_of (first i) ≡ Some o → level_of o < k
 

@@ -1,4 +1,5 @@
--- Reading of expressions depends on the tokens that it passes and the next one, and more depth changes nothing.
+-- Reading of expressions depends on the tokens that it passes and the next one, and more depth
+-- changes nothing.
 use Rattle.std.proofs.Common.{ℕ, zero, suc, ◌+◌, ◌≤◌, List, Option, None, Some, arith, nat_lt}
 use Rattle.std.specs.Prelude.{◌==◌}
 use Rattle.nss_tree.specs.declared.operators.PrefixOperator.{PrefixOperator}

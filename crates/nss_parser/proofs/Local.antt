@@ -1,4 +1,5 @@
--- Reading depends on the tokens that it passes and on the next one alone, and more depth changes nothing.
+-- Reading depends on the tokens that it passes and on the next one alone, and more depth changes
+-- nothing.
 use Rattle.std.proofs.Common.{◌≡◌, Bool, true, false, List, [], ◌∷◌, ◌++◌, Option, None, Some, refl, sym, ap, ◌∙◌, append_assoc}
 use Rattle.nss_symbols.specs.Symbols as symbol
 use Rattle.nss_symbols.specs.Symbols.{Symbol, Numbered}

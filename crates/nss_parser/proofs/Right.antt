@@ -8,8 +8,8 @@ use Rattle.nss_symbols.specs.declared.terminal.Terminal.{Terminal}
 use Rattle.nss_symbols.specs.Outcome.{Outcome, Got, Stuck, Deep, Parser, and_then, ◌>>=◌, first, take, same_terminal, is_terminal, sees, branch, choice, stuck, expect, name, name_by}
 use Rattle.nss_parser.proofs.Completions.{Completion, symbols, symbols_append}
 
--- P of what was read, its tokens and what follows; V of the tokens before the place that stopped; D where
--- the depth ran out.
+-- P of what was read, its tokens and what follows; V of the tokens before the place that stopped; D
+-- where the depth ran out.
 abbrev pub RightOf : {A : Type 0} → (A → List Numbered → List Numbered → Type 0) → (List Numbered → Type 0) → Type 0 → List Numbered → Outcome A → Type 0
 RightOf P V D i (Got x rest) = (xs : List Numbered) × (i ≡ xs ++ rest) × P x xs rest
 RightOf P V D i (Stuck left) = (xs : List Numbered) × (i ≡ xs ++ left) × V xs
@@ -42,8 +42,8 @@ pub further : {A : Type 0} {Q : A → List Numbered → List Numbered → Type 0
     → Right (λ y ys end. Q y (xs ++ ys) end) (λ ys. W (xs ++ ys)) E rest o → Right Q W E i o
 further {Q = Q} {W = W} {E = E} {i = i} {rest = rest} {o = o} xs e r = record { by = further_of Q W E i xs rest o e r.by }
 
--- one reader after another: the first part, the rest after each answer of it, how a prefix of the part is a
--- prefix of the whole, and the depth
+-- one reader after another: the first part, the rest after each answer of it, how a prefix of the
+-- part is a prefix of the whole, and the depth
 then_of : {A B : Type 0} (P : A → List Numbered → List Numbered → Type 0) (V : List Numbered → Type 0) (D : Type 0) (Q : B → List Numbered → List Numbered → Type 0) (W : List Numbered → Type 0) (E : Type 0)
     (i : List Numbered) (o : Outcome A) (f : A → Parser B) → RightOf P V D i o
     → ((x : A) (xs rest : List Numbered) → P x xs rest → i ≡ xs ++ rest → Right (λ y ys end. Q y (xs ++ ys) end) (λ ys. W (xs ++ ys)) E rest (f x rest))
@@ -169,7 +169,8 @@ viable_done N x xs p n = ([], x, subst (λ (z : List Numbered). N x z) (sym (app
 pub viable_under : {A : Type 0} (N : A → List Numbered → Type 0) (ps xs : List Numbered) → Viable (λ x ys. N x (ps ++ ys)) xs → Viable N (ps ++ xs)
 viable_under N ps xs v n = let (more, x, p) = v n in (more, x, subst (λ (z : List Numbered). N x z) (sym (append_assoc ps xs (numbered_from n (symbols more)))) p)
 
--- A part, and then a terminal: how what the part needs for its tokens to be a prefix shows the whole's.
+-- A part, and then a terminal: how what the part needs for its tokens to be a prefix shows the
+-- whole's.
 pub then_fixed : {A B : Type 0} {P : A → List Numbered → List Numbered → Type 0} {V : List Numbered → Type 0} {D : Type 0} {Q : B → List Numbered → List Numbered → Type 0} {W : List Numbered → Type 0} {E : Type 0}
     {i : List Numbered} {o : Outcome A} {f : A → ℕ → Parser B} (m : Terminal) → Right P V D i o
     → ((x : A) (xs rest : List Numbered) (k : ℕ) (r : List Numbered) → P x xs rest → rest ≡ fixed k m ∷ r → i ≡ xs ++ rest → Right (λ y ys end. Q y (xs ++ fixed k m ∷ ys) end) (λ ys. W (xs ++ fixed k m ∷ ys)) E r (f x k r))

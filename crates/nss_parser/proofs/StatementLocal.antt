@@ -1,4 +1,5 @@
--- Reading of statements depends on the tokens that it passes and the next one, and more depth changes nothing.
+-- Reading of statements depends on the tokens that it passes and the next one, and more depth
+-- changes nothing.
 use Rattle.std.proofs.Common.{ℕ, zero, suc, ◌≤◌, Bool, true, false, Option, None, Some, arith}
 use Rattle.nss_tree.specs.Source.{SourceStmt, SourceStmts}
 use Rattle.nss_tree.specs.Expressions.{PlainExpr}

@@ -22,7 +22,8 @@ use Rattle.nss_parser.proofs.StatementComplete.{begins_entry, starts_entry, join
 use Rattle.nss_parser.proofs.Right.{Right, right_got, right_pure, right_stuck, right_deep, then, then_fixed, right_as, right_choice, after_take, then_expect, Viable, viable_then, viable_as, viable_done, viable_under, rest_length}
 use Rattle.nss_parser.proofs.Completions.{by_name, by_terminal, by_zero, some_name}
 
--- A statement that ends in an `if` without `else` is not followed by `else`: reading takes each that it sees.
+-- A statement that ends in an `if` without `else` is not followed by `else`: reading takes each
+-- that it sees.
 abbrev pub ElseFree : SourceStmt → List Numbered → Type 0
 ElseFree s rest = sees terminal.Else rest ≡ true → ends_open s ≡ false
 

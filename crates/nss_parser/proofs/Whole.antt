@@ -1,4 +1,5 @@
--- A list of tokens has at most one tree, reading gives it, and where reading stops is the exact place.
+-- A list of tokens has at most one tree, reading gives it, and where reading stops is the exact
+-- place.
 use Rattle.std.proofs.Common.{◌≡◌, ℕ, suc, ◌+◌, ◌-◌, ◌<◌, ◌≤◌, false, List, [], ◌∷◌, ◌++◌, length, take, refl, sym, ap, subst, ◌∙◌, arith, append_assoc, append-nil, length-append, inl, inr, ◌⊎◌}
 use Rattle.std.proofs.lemmas.List.{append_cancel_right}
 use Rattle.nss_tree.specs.Source.{SourceItems, SourceStmts, SourceTree}
@@ -113,7 +114,8 @@ prefix_of tokens xs left e v =
       };
     }
 
--- No longer list has a tree that begins with the tokens through the place: it would be read, and reading stops there.
+-- No longer list has a tree that begins with the tokens through the place: it would be read, and
+-- reading stops there.
 dead_of : (tokens : List Symbol) (d : ℕ) (xs r : List Numbered) (s : Numbered) → numbered_from 0 tokens ≡ xs ++ s ∷ r
     → ((e : ℕ) → d ≤ e → (other : List Numbered) → next other ≡ next (s ∷ r) → unit e (xs ++ other) ≡ Stuck other) → IsDead (take (length xs + 1) tokens)
 dead_of tokens d xs r s is h more y p =

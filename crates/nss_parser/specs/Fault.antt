@@ -7,7 +7,8 @@ use Rattle.nss_symbols.specs.Symbols.{Symbol}
 use Rattle.nss_symbols.specs.Nest.{IsFirstOver, IsWithinNest}
 use Rattle.nss_parser.specs.Sentence.{IsPlace, Parses}
 
--- The first token whose nest passes the limit stands before a fault of syntax, also where the latter comes earlier.
+-- The first token whose nest passes the limit stands before a fault of syntax, also where the
+-- latter comes earlier.
 abbrev pub Refuses : List Symbol → ParseFault → Type 0
 Refuses tokens (Nested i) = IsFirstOver tokens i
 Refuses tokens (Syntax i) = IsWithinNest tokens × IsPlace tokens i

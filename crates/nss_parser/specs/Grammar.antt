@@ -1,5 +1,5 @@
--- The grammar of expressions and statements: which tree a list of tokens spells. One constructor is one
--- production, and an operator's level is a number.
+-- The grammar of expressions and statements: which tree a list of tokens spells. One constructor is
+-- one production, and an operator's level is a number.
 use Rattle.std.specs.Prelude.{◌≡◌, ℕ, suc, Bool, true, false, List, [], ◌∷◌, ◌++◌, Option, None, Some}
 use Rattle.std.specs.Int.{cast_signed, w32}
 use Rattle.nss_tree.specs.Source.{SourceDeclared, SourceStmt, SourceStmts}
@@ -49,7 +49,8 @@ mutual
         → Postfix x xs → Postfix (tree.postfix n o x) (xs ++ fixed n m ∷ [])
     primary : {x : PlainExpr} {xs : List Numbered} → Primary x xs → Postfix x xs
 
-  -- primary = int | float | string | OBJECT_SELF | OBJECT_INVALID | name | name "(" [ expr { "," expr } ] ")" | "(" expr ")"
+  -- primary = int | float | string | OBJECT_SELF | OBJECT_INVALID | name | name "(" [ expr { ","
+  -- expr } ] ")" | "(" expr ")"
   pub data Primary : PlainExpr → List Numbered → Type 0 where
     int : (n v : ℕ) → Primary (tree.int n (cast_signed w32 v)) (at n (symbol.Int v) ∷ [])
     float : (n : ℕ) → Primary (tree.float n) (at n symbol.Float ∷ [])
@@ -78,7 +79,8 @@ pub data TypeTokens : ℕ → TypeName → List Numbered → Type 0 where
   word : (n : ℕ) (m : Terminal) (t : TypeName) → type_word m ≡ Some t → TypeTokens n t (fixed n m ∷ [])
   structure : (n k : ℕ) (f : List ℕ) → TypeTokens n (type.Struct f) (fixed n terminal.Struct ∷ at k (symbol.Name f) ∷ [])
 
--- constant = [ "-" ] int | [ "-" ] float | string | name | OBJECT_SELF | OBJECT_INVALID, with the number of the literal
+-- constant = [ "-" ] int | [ "-" ] float | string | name | OBJECT_SELF | OBJECT_INVALID, with the
+-- number of the literal
 pub data ConstantTokens : Constant → List Numbered → Type 0 where
   int : (n v : ℕ) → ConstantTokens (constant.Int n false (cast_signed w32 v)) (at n (symbol.Int v) ∷ [])
   minus_int : (k n v : ℕ) → ConstantTokens (constant.Int n true (cast_signed w32 v)) (fixed k terminal.Minus ∷ at n (symbol.Int v) ∷ [])

@@ -119,7 +119,8 @@ module _ (d : ℕ) (level : ℕ → Parser PlainExpr) where
   unfoldable pub after_first : ℕ → PlainExpr → Parser PlainExpr
   after_first least left = branch (least == 0) (assigned left) (climb d least left)
 
--- An expression of a level: 0 may be an assignment, then the operators' levels, and the last is unary.
+-- An expression of a level: 0 may be an assignment, then the operators' levels, and the last is
+-- unary.
 unfoldable pub level : ℕ → ℕ → Parser PlainExpr
 level zero least = deep
 level (suc d) least = prefix d (level d) >>= after_first d (level d) least

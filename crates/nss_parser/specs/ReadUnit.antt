@@ -1,5 +1,5 @@
--- Reading of structs, const lines, globals, functions and units, over a reader of what follows the `{` of a
--- function's body, its `}` included.
+-- Reading of structs, const lines, globals, functions and units, over a reader of what follows the
+-- `{` of a function's body, its `}` included.
 use Rattle.std.specs.Prelude.{ℕ, zero, suc, Bool, true, false, List, [], ◌∷◌, ◌++◌, Option, None, Some}
 use Rattle.nss_tree.specs.Source.{SourceItem, SourceItems, SourceLine, SourceParameter, SourceStmts}
 use Rattle.nss_tree.specs.declared.constants.TypeName.{TypeName}

@@ -1,4 +1,5 @@
--- How large a source tree is, as a number of its tokens, and that the numbers and texts in it are those of literals.
+-- How large a source tree is, as a number of its tokens, and that the numbers and texts in it are
+-- those of literals.
 use Rattle.std.specs.Prelude.{ℕ, ◌+◌, ◌≤◌, List, [], ◌∷◌, Option, None, Some, length, FitsSigned}
 use Rattle.std.specs.List.{AllByRecursion}
 use Rattle.std.specs.Int.{w32}

@@ -7,8 +7,8 @@ use Rattle.nss_tree.specs.Places.{places}
 use Rattle.nss_symbols.specs.Symbols.{Symbol}
 use Rattle.nss_parser.specs.Sentence.{Parses}
 
--- The tree has at most as many nodes, variables, structs and bodies as the unit has tokens, and each node's token is
--- one of the unit's.
+-- The tree has at most as many nodes, variables, structs and bodies as the unit has tokens, and
+-- each node's token is one of the unit's.
 pub record IsWithinTokens (x : SourceTree) : Type 0 where
   pub nodes : length (places x) ≤ x.count
   pub variables : in_all variables_of x.items ≤ x.count

@@ -9,8 +9,8 @@ use Rattle.typing_rules.specs.Verdicts.{unit_faults}
 use Rattle.nss_types.specs.declared.unit.TypeFault.{TypeFault}
 use Rattle.nss_types.specs.declared.unit.TypeFault.TheVariants as refused
 
--- It is a node at fault, and no other one has a lesser token; of those with its token it is the first in the order of the walk, each
--- node behind its parts.
+-- It is a node at fault, and no other one has a lesser token; of those with its token it is the
+-- first in the order of the walk, each node behind its parts.
 pub record IsKeptFault (table : EngineTable) (u : SourceTree) (f : Fault) : Type 0 where
   pub least : IsLeast (FaultInUnit table u) f
   pub first : kept None (unit_faults table u) ≡ Some f

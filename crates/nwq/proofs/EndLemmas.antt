@@ -1,4 +1,5 @@
--- What may end the program before a command begins: the tables are refused, or there is no memory for the hooks.
+-- What may end the program before a command begins: the tables are refused, or there is no memory
+-- for the hooks.
 use Rattle.std.proofs.Common.{◌≡◌, ℕ, List, Option, None, Result, Ok, Err, sym, refl, subst}
 use Rattle.table_2da.specs.declared.tables.Named.{Named}
 use Rattle.command_work.specs.declared.status.Status.{Status}

@@ -9,7 +9,8 @@ pub record Written : Type 0 where
   pub faults : ℕ
   pub known : Option (List ℕ)
 
--- a put that is answered so handed the whole piece to the writer; of one that failed nothing is said
+-- a put that is answered so handed the whole piece to the writer; of one that failed nothing is
+-- said
 abbrev pub Hands : List ℕ → Option (List ℕ) → Option (List ℕ) → Done → Type 0
 Hands piece before after done.Ok = Appends before after piece
 Hands piece before after done.Failed = Unit {0}

@@ -1,5 +1,6 @@
--- What the files of a play come to, which are read in order: its plan, its header, the scripts that the plan lists, and its area. A play needs
--- the table of its header, and its area; one that is saved needs the bytes of their files too.
+-- What the files of a play come to, which are read in order: its plan, its header, the scripts that
+-- the plan lists, and its area. A play needs the table of its header, and its area; one that is
+-- saved needs the bytes of their files too.
 use Rattle.std.proofs.Common.{◌≡◌, ℕ, List, [], ◌++◌, Result, Ok, Err, sym, subst, ap}
 use Rattle.nwq_value.specs.Engine.{EngineTable}
 use Rattle.nwq_outside.specs.Outside.{Contents, AreBytes}
@@ -29,7 +30,8 @@ use Rattle.nwq_top.proofs.PlansAndAreas.{plan_does, plan_refuses, plan_comes}
 use Rattle.nwq_top.proofs.Listing.{scripts_do, scripts_refuse, Listings, all_listed, one_refused, scripts_come}
 use Rattle.nwq_top.proofs.Running.{source_bytes}
 
--- How a header is read: what is read of it, its table in that, and that the work finds it where it is there and refuses it where it isn't.
+-- How a header is read: what is read of it, its table in that, and that the work finds it where it
+-- is there and refuses it where it isn't.
 pub record ReadsHeaderBy {H : Type 0} (table_in : H → EngineTable) (w : Work H) (header : List ℕ) (Has : Contents → H → Type 0) : Type 1 where
   pub does : (c : Contents) (t : List ℕ) (h : H) → Has c h → Does w c t (Ok h) c t
   pub refuses : (c : Contents) (t : List ℕ) (why : Refusal) → RefusesHeader c header why → Does w c t (Err (status_of why)) c (t ++ line_of why)

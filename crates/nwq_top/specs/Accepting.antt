@@ -1,4 +1,5 @@
--- What a command accepts, by what the files hold: headers, scripts, binaries, assembler texts, plans, trees and areas.
+-- What a command accepts, by what the files hold: headers, scripts, binaries, assembler texts,
+-- plans, trees and areas.
 use Rattle.std.specs.Prelude.{◌≡◌, ◌≤◌, ℕ, true, false, List, [], ◌∷◌, length, codes, bytes_eq}
 use Rattle.std.specs.FinMap as fin_map
 use Rattle.nwq_value.specs.Limits.{file_limit}
@@ -37,8 +38,9 @@ pub data HasHeader (c : Contents) (word : List ℕ) : EngineTable → Type 0 whe
 
 -- ---- scripts
 
--- The source of this name has this unit under a header. Its file isn't too large, and it passes the stack checker: it loads, to the
--- instructions of the unit's code, and some table of shapes meets the rules for these.
+-- The source of this name has this unit under a header. Its file isn't too large, and it passes the
+-- stack checker: it loads, to the instructions of the unit's code, and some table of shapes meets
+-- the rules for these.
 pub record Compiles (header : EngineTable) (c : Contents) (name : List ℕ) (unit : TypedUnit) : Type 0 where
   pub script : IsScript header c name unit
   pub small : length (unit_file unit) ≤ file_limit
@@ -65,7 +67,8 @@ pub record HasCode (header : EngineTable) (c : Contents) (name : List ℕ) (ops 
 abbrev pub with_file : Contents → List ℕ → TypedUnit → Contents
 with_file c name unit = fin_map.insert c (code_name name) (unit_file unit)
 
--- A line of a plan lists this script, and the files hold that then: a source is compiled and its file written at once, a binary is read.
+-- A line of a plan lists this script, and the files hold that then: a source is compiled and its
+-- file written at once, a binary is read.
 pub data HasLine (header : EngineTable) (c : Contents) (line : ScriptLine) : Script → Contents → Type 0 where
   source : line.binary ≡ false → (unit : TypedUnit) → Compiles header c line.name unit
       → HasLine header c line (playable line (code_of unit)) (with_file c line.name unit)

@@ -20,8 +20,8 @@ abbrev pub MayLeave : Result Finished Status → Type 0
 MayLeave (Ok done) = Unit {0}
 MayLeave (Err status) = CutsShort status
 
--- `play` and `save` change the files of the plan's sources, and these and `resume` their last word's file only where something may have been
--- left there; the others change what they may write
+-- `play` and `save` change the files of the plan's sources, and these and `resume` their last
+-- word's file only where something may have been left there; the others change what they may write
 abbrev pub MayChange : Form → Contents → Result Finished Status → List ℕ → Type 0
 MayChange (Run header script) c r name = MayWrite (Run header script) name
 MayChange (Compile header script) c r name = MayWrite (Compile header script) name

@@ -35,7 +35,8 @@ work_of cell NoForm = Refused refusal.NoForm
 abbrev pub work_with : Form → List Named → Work Finished
 work_with form tables = work_of (cell_of tables) form
 
--- the work of the whole program: the tables that the words give are read first, and cells are looked up in them
+-- the work of the whole program: the tables that the words give are read first, and cells are
+-- looked up in them
 unfoldable pub whole_work : Form → Work Finished
 whole_work form = then (tables_given (list_of form)) (work_with form)
 

@@ -21,7 +21,8 @@ pub data Comes {A : Type 0} (Has : A → Type 0) (Refuses : Refusal → Type 0) 
   has : (a : A) → Has a → Comes Has Refuses
   refuses : (why : Refusal) → Refuses why → Comes Has Refuses
 
--- the one or the other; where it is refused, its line is put and its status answered; and else this is done with what is there
+-- the one or the other; where it is refused, its line is put and its status answered; and else this
+-- is done with what is there
 pub record MeansRead {A : Type 0} (Has : A → Type 0) (Refuses : Refusal → Type 0) (Done : A → Type 0) (c : Contents) (t : List ℕ) (r : Result Finished Status)
     (c' : Contents) (t' : List ℕ) : Type 0 where
   pub comes : Comes Has Refuses
@@ -46,7 +47,8 @@ pub record IsWritten (name bytes line : List ℕ) (c : Contents) (t : List ℕ) 
 abbrev pub MeansTree : List ℕ → Contents → List ℕ → Result Finished Status → Contents → List ℕ → Type 0
 MeansTree file c t r c' t' = MeansRead (ReadsTree c file) (RefusesTree c file) (λ tree. IsPut (tree_text tree) c t r c' t') c t r c' t'
 
--- the header has a table, under which some table of shapes meets the rules for the file's instructions
+-- the header has a table, under which some table of shapes meets the rules for the file's
+-- instructions
 pub record PassesCheck (header file : List ℕ) (c : Contents) (ops : List PlainOp) : Type 0 where
   pub table : EngineTable
   pub has_header : HasHeader c header table

@@ -37,7 +37,8 @@ made_files n = files_with (play_of n).source
 abbrev pub beat_of : TypedUnit → List Listed
 beat_of unit = record { name = codes "beat"; unit = unit } ∷ []
 
--- what its source means, over the area and the plan of the number, where an entry may take so many steps
+-- what its source means, over the area and the plan of the number, where an entry may take so many
+-- steps
 abbrev pub source_made : CellLookup → ℕ → TypedUnit → ℕ → Played Deferred
 source_made cell n unit k = source_plan_played cell header_table (made_area n) (plan_of n) (beat_of unit) k
 
@@ -52,7 +53,8 @@ source_summary n count p =
 
 -- ---- what is told of it
 
--- the summary of a play of source was put, with the number of instructions that were made, and the answer is as it ends
+-- the summary of a play of source was put, with the number of instructions that were made, and the
+-- answer is as it ends
 pub record TellsMade (n : ℕ) (s : Setting) (code : Played Saved) (source : Played Deferred) (c : Contents) (t : List ℕ) (r : Result Finished Status)
     (c' : Contents) (t' : List ℕ) : Type 0 where
   pub alike : PlaysAlike (Carries s) code source
@@ -60,7 +62,8 @@ pub record TellsMade (n : ℕ) (s : Setting) (code : Played Saved) (source : Pla
   pub answer : r ≡ answer_by source.ending
   pub contents : c' ≡ c
 
--- the play was stopped in its last entry, for which all the instructions were made that it may take; its lines are a beginning of the source's
+-- the play was stopped in its last entry, for which all the instructions were made that it may
+-- take; its lines are a beginning of the source's
 pub record TellsMadeBeginning (cell : CellLookup) (n : ℕ) (unit : TypedUnit) (c : Contents) (t : List ℕ) (r : Result Finished Status)
     (c' : Contents) (t' : List ℕ) : Type 0 where
   pub stopped : StoppedAt (code_runner (host_of cell header_table (script_of (record { name = codes "beat"; unit = unit }) ∷ [])) (plan_of n).limit)
@@ -83,8 +86,8 @@ pub record MeansMade (cell : CellLookup) (n : ℕ) (unit : TypedUnit) (c : Conte
   pub no_fault : EndsWithoutFault (host_of cell header_table (map script_of (beat_of unit))) (plan_of n).limit (plan_of n).entries (plan_of n).until
       (plan_world (made_area n) (plan_of n))
 
--- What `generate N` does, unless a failed call or want of memory cut it: the source has a typed unit, whose file passes the stack checker, and
--- its play is told as the source means.
+-- What `generate N` does, unless a failed call or want of memory cut it: the source has a typed
+-- unit, whose file passes the stack checker, and its play is told as the source means.
 pub record MeansGenerate (cell : CellLookup) (n : ℕ) (c : Contents) (t : List ℕ) (r : Result Finished Status) (c' : Contents) (t' : List ℕ) : Type 0 where
   pub unit : TypedUnit
   pub compiles : Compiles header_table (made_files n) (codes "beat") unit

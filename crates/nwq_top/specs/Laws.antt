@@ -11,7 +11,8 @@ use Rattle.nwq_top.specs.Command.{MayWrite, work_of, whole_work}
 use Rattle.nwq_top.specs.Changes.{MayChange}
 use Rattle.nwq_top.specs.Cuts.{IsFrontOf}
 
--- What a command does by the files and the bytes taken, where it isn't cut, is one thing: its answer, what it leaves, what it puts.
+-- What a command does by the files and the bytes taken, where it isn't cut, is one thing: its
+-- answer, what it leaves, what it puts.
 abbrev pub OneOutcome : Type 0
 OneOutcome = (cell : CellLookup) (form : Form) (r s : Result Finished Status) (c d e : Contents) (t u v : List ℕ) → (IsCut r → ⊥) → (IsCut s → ⊥)
     → Does (work_of cell form) c t r d u → Does (work_of cell form) c t s e v → Agrees r s d e u v
@@ -30,7 +31,8 @@ abbrev pub WholePrefixes : Type 0
 WholePrefixes = (form : Form) (r s : Result Finished Status) (c d e : Contents) (t u v : List ℕ) → (IsCut s → ⊥)
     → Does (whole_work form) c t r d u → Does (whole_work form) c t s e v → IsPrefix u v
 
--- What a command puts and leaves, cut or not, is a front of what it puts and leaves where it isn't cut.
+-- What a command puts and leaves, cut or not, is a front of what it puts and leaves where it isn't
+-- cut.
 abbrev pub CutsLeaveFronts : Type 0
 CutsLeaveFronts = (cell : CellLookup) (form : Form) (r : Result Finished Status) (c c' : Contents) (t t' : List ℕ)
     → Does (work_of cell form) c t r c' t' → IsFrontOf (work_of cell form) c t c' t'

@@ -19,8 +19,8 @@ use Rattle.command_words.specs.Words.{Form, Run, Compile, Tree, Check, Disassemb
 use Rattle.nwq_top.specs.Command.{work_of, whole_work}
 use Rattle.nwq_top.specs.GivenTables.{GivesTables, RefusesGiven, TablesCome}
 
--- What a command does, from what the files hold and the bytes taken to those after it: in the words of the language, of trees, tables of
--- shapes and listings, where cells of tables are looked up so.
+-- What a command does, from what the files hold and the bytes taken to those after it: in the words
+-- of the language, of trees, tables of shapes and listings, where cells of tables are looked up so.
 abbrev pub Means : CellLookup → Form → Contents → List ℕ → Result Finished Status → Contents → List ℕ → Type 0
 Means cell (Run header script) c t r c' t' = MeansRun cell header script c t r c' t'
 Means cell (Compile header script) c t r c' t' = MeansCompile header script c t r c' t'
@@ -34,14 +34,16 @@ Means cell (Save header area plan entries state list) c t r c' t' = MeansSave ce
 Means cell (Resume state to list) c t r c' t' = MeansResume cell state to c t r c' t'
 Means cell NoForm c t r c' t' = IsRefused refusal.NoForm c t r c' t'
 
--- whatever does the work of words does what they mean, where the files hold bytes, unless a failed call or want of memory cut it
+-- whatever does the work of words does what they mean, where the files hold bytes, unless a failed
+-- call or want of memory cut it
 abbrev pub WorkMeans : Type 0
 WorkMeans = (cell : CellLookup) (form : Form) (c : Contents) (t : List ℕ) (r : Result Finished Status) (c' : Contents) (t' : List ℕ) → AreBytes c → (IsCut r → ⊥)
     → Does (work_of cell form) c t r c' t' → Means cell form c t r c' t'
 
--- What the whole program does, unless a failed call or want of memory cut it. It reads the tables that its words give, which changes no file
--- and puts nothing. Where they are refused, it puts the one line of that and does no more. Else it does what the words mean, from the same
--- files and bytes taken, where cells are looked up in exactly these tables.
+-- What the whole program does, unless a failed call or want of memory cut it. It reads the tables
+-- that its words give, which changes no file and puts nothing. Where they are refused, it puts the
+-- one line of that and does no more. Else it does what the words mean, from the same files and
+-- bytes taken, where cells are looked up in exactly these tables.
 pub record MeansWhole (form : Form) (c : Contents) (t : List ℕ) (r : Result Finished Status) (c' : Contents) (t' : List ℕ) : Type 0 where
   pub comes : TablesCome c (list_of form)
   pub refused : (why : Refusal) → RefusesGiven c (list_of form) why → IsRefused why c t r c' t'

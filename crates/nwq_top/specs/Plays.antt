@@ -28,7 +28,8 @@ use Rattle.nwq_top.specs.Refusing.{RefusesPlan, RefusesHeader, RefusesScripts, R
 
 -- ---- what is given
 
--- all is accepted: the plan, the header, the scripts that the plan lists, whose files are written, and the area that is there then
+-- all is accepted: the plan, the header, the scripts that the plan lists, whose files are written,
+-- and the area that is there then
 pub record AcceptsPlay (header area plan : List ℕ) (c : Contents) (table : EngineTable) (p : Plan) (scripts : List Script) (a : PlainArea) (left : Contents) : Type 0 where
   pub reads_plan : ReadsPlan c plan p
   pub has_header : HasHeader c header table
@@ -42,7 +43,8 @@ pub record AcceptsSources (header area plan : List ℕ) (c : Contents) (table : 
   pub lists : HasSources table p.scripts c listed left
   pub reads_area : ReadsArea left area a
 
--- the first of these is refused: the plan, the header, a script, the area; the files that were written till then are left
+-- the first of these is refused: the plan, the header, a script, the area; the files that were
+-- written till then are left
 pub data RefusesPlay (header area plan : List ℕ) (c : Contents) : Refusal → Contents → Type 0 where
   of_plan : (why : Refusal) → RefusesPlan c plan why → RefusesPlay header area plan c why c
   of_header : (p : Plan) (why : Refusal) → ReadsPlan c plan p → RefusesHeader c header why → RefusesPlay header area plan c why c
@@ -59,27 +61,32 @@ pub data PlayComes (header area plan : List ℕ) (c : Contents) : Type 0 where
 
 -- ---- what is told and left
 
--- A play of source was done: its lines and the text of its end were put, and the one file of its area is left under this name.
+-- A play of source was done: its lines and the text of its end were put, and the one file of its
+-- area is left under this name.
 pub record IsDone (to : List ℕ) (s : Setting) (count : ℕ) (source : Played Deferred) (bytes : List ℕ) (c : Contents) (t : List ℕ)
     (r : Result Finished Status) (c' : Contents) (t' : List ℕ) : Type 0 where
   pub answer : r ≡ Ok tt
   pub taken : t' ≡ t ++ (trace_text source.last.trace ++ source_end_text s count source)
   pub contents : c' ≡ fin_map.insert c to bytes
 
--- What is told, and left of the area, of the play of the listed sources, which `source_plan_played` gives with so many steps for an entry.
--- The play of their files is `code_plan_played`, with the plan's own limit of instructions.
+-- What is told, and left of the area, of the play of the listed sources, which `source_plan_played`
+-- gives with so many steps for an entry. The play of their files is `code_plan_played`, with the
+-- plan's own limit of instructions.
 pub record MeansSources (cell : CellLookup) (table : EngineTable) (a : PlainArea) (p : Plan) (listed : List Listed) (to : List ℕ)
     (c : Contents) (t : List ℕ) (r : Result Finished Status) (c' : Contents) (t' : List ℕ) : Type 0 where
-  -- where each entry of the sources ends in n steps, and 16 n is within the limit, all is as the sources mean
+  -- where each entry of the sources ends in n steps, and 16 n is within the limit, all is as the
+  -- sources mean
   pub few : (n : ℕ) → step_cost * n ≤ p.limit → (source_plan_played cell table a p listed n).ending ≢ StoppedInside
       → DoesMeaning to (listing_of cell table listed) (code_plan_played cell table a p listed) (source_plan_played cell table a p listed n) c t r c' t'
-  -- so it is, with as many steps as the plan allows instructions, where no entry of the files was stopped
+  -- so it is, with as many steps as the plan allows instructions, where no entry of the files was
+  -- stopped
   pub unstopped : (code_plan_played cell table a p listed).ending ≢ StoppedInside
       → DoesMeaning to (listing_of cell table listed) (code_plan_played cell table a p listed) (source_plan_played cell table a p listed p.limit) c t r c' t'
-  -- where one was stopped, all the instructions of the limit were made in it, the lines that are told are a beginning of the sources', and no
-  -- area is left
+  -- where one was stopped, all the instructions of the limit were made in it, the lines that are
+  -- told are a beginning of the sources', and no area is left
   pub stopped : (code_plan_played cell table a p listed).ending ≡ StoppedInside → DoesBeginning cell table a p listed c t r c' t'
-  -- where the play of the sources is done in n steps for an entry, 16 n is within the limit, and the file of the area isn't too large, so is this one
+  -- where the play of the sources is done in n steps for an entry, 16 n is within the limit, and
+  -- the file of the area isn't too large, so is this one
   pub complete : (n : ℕ) (bytes : List ℕ) → step_cost * n ≤ p.limit → (source_plan_played cell table a p listed n).ending ≡ Done
       → outcome_of (written (tree_back (source_plan_played cell table a p listed n).last.world.area)) ≡ Ok bytes
       → IsDone to (listing_of cell table listed) (code_plan_played cell table a p listed).last.count (source_plan_played cell table a p listed n) bytes c t r c' t'

@@ -1,5 +1,5 @@
--- Why a command is refused, by what the files hold: exactly where grammar, typing or a stated limit refuses a header, a script, a plan or
--- an area, and each with its refusal.
+-- Why a command is refused, by what the files hold: exactly where grammar, typing or a stated limit
+-- refuses a header, a script, a plan or an area, and each with its refusal.
 use Rattle.std.specs.Prelude.{◌≡◌, ◌<◌, ℕ, true, false, List, ◌∷◌, ◌++◌, length, None, Result, Err, codes, bytes_eq}
 use Rattle.std.specs.FinMap as fin_map
 use Rattle.nwq_value.specs.Limits.{file_limit}
@@ -62,9 +62,10 @@ pub data RefusesHeader (c : Contents) (word : List ℕ) : Refusal → Type 0 whe
 
 -- ---- scripts
 
--- A file of the unit isn't there or is too long; the unit has a first fault, nests too deep or has no syntax tree; it has nodes at fault, and
--- is refused for that of least token, with the kind of the first row that fits it; or its file would be too large, which is told at the end
--- of the script's own file.
+-- A file of the unit isn't there or is too long; the unit has a first fault, nests too deep or has
+-- no syntax tree; it has nodes at fault, and is refused for that of least token, with the kind of
+-- the first row that fits it; or its file would be too large, which is told at the end of the
+-- script's own file.
 pub data RefusesSource (header : EngineTable) (c : Contents) (name : List ℕ) : Refusal → Type 0 where
   lacks : (file : List ℕ) → IsUnitFate (fin_map.get c) name (units.Lacks file) → RefusesSource header c name (Absent file)
   exceeds : (file : List ℕ) → IsUnitFate (fin_map.get c) name (units.Exceeds file) → RefusesSource header c name (TooLong file)

@@ -40,8 +40,8 @@ pub data ScriptComes (header script : List ℕ) (c : Contents) : Type 0 where
 
 -- ---- run
 
--- What is told of the play of a unit's source, which `source_played` gives with so many steps for an entry. The play of its file is
--- `code_played`, with 131,072 instructions for an entry.
+-- What is told of the play of a unit's source, which `source_played` gives with so many steps for
+-- an entry. The play of its file is `code_played`, with 131,072 instructions for an entry.
 pub record MeansScript (cell : CellLookup) (table : EngineTable) (name : List ℕ) (unit : TypedUnit) (c : Contents) (t : List ℕ) (r : Result Finished Status)
     (c' : Contents) (t' : List ℕ) : Type 0 where
   -- where each entry of the source ends in 8,192 steps, it is told as the source means
@@ -50,7 +50,8 @@ pub record MeansScript (cell : CellLookup) (table : EngineTable) (name : List �
   -- so it is, with 131,072 steps for an entry, where no entry of the file was stopped
   pub unstopped : (code_played cell table name unit).ending ≢ StoppedInside
       → TellsMeaning (setting_of cell table name unit) (code_played cell table name unit) (source_played cell table name unit default_instruction_limit) c t r c' t'
-  -- where one was stopped, 131,072 instructions were made in it, and the lines that were put are a beginning of the source's
+  -- where one was stopped, 131,072 instructions were made in it, and the lines that were put are a
+  -- beginning of the source's
   pub stopped : (code_played cell table name unit).ending ≡ StoppedInside → TellsBeginning cell table name unit c t r c' t'
   -- where the play of the source is done in 8,192 steps for an entry, so is this one
   pub complete : (source_played cell table name unit sure_steps).ending ≡ Done → r ≡ Ok tt

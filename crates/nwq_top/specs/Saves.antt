@@ -46,7 +46,8 @@ use Rattle.nwq_top.specs.Plays.{RefusesPlay}
 use Rattle.nwq_top.specs.Refusing.{IsRefused}
 use Rattle.nwq_top.specs.SourcePlans.{listing_of, source_plan_world}
 
--- ---- what is given to `save`: what is given to `play`, with the bytes of the header's file and of the area's
+-- ---- what is given to `save`: what is given to `play`, with the bytes of the header's file and of
+-- the area's
 
 pub data HasHeaderFile (c : Contents) (word : List ℕ) : HeaderFile → Type 0 where
   built_in : bytes_eq word (codes "-") ≡ true → HasHeaderFile c word own_header
@@ -95,9 +96,11 @@ source_first cell header area p scripts n steps =
 abbrev pub code_first : CellLookup → HeaderFile → AreaFile → Plan → List Listed → ℕ → Played Saved
 code_first cell h a p listed n = played_first cell h.table p (map script_of listed) n (plan_world a.area p)
 
--- The first entries of listed sources are played and saved: their lines are told, and their world is that of the state. These are what the
--- sources mean. So it is where each of these entries of the sources ends in some steps, and 16 times as many are within the limit; and, with as many
--- steps as the plan allows instructions, where none of the code was stopped. Where one was, the lines told are a beginning of the sources'.
+-- The first entries of listed sources are played and saved: their lines are told, and their world
+-- is that of the state. These are what the sources mean. So it is where each of these entries of
+-- the sources ends in some steps, and 16 times as many are within the limit; and, with as many
+-- steps as the plan allows instructions, where none of the code was stopped. Where one was, the
+-- lines told are a beginning of the sources'.
 pub record FirstAsMeant (cell : CellLookup) (h : HeaderFile) (a : AreaFile) (p : Plan) (listed : List Listed) (n : ℕ) (name : List ℕ)
     (c : Contents) (t : List ℕ) (r : Result Finished Status) (c' : Contents) (t' : List ℕ) : Type 0 where
   pub does : Does (saves_plan cell h p (map script_of listed) n name a) c t r c' t'
@@ -110,7 +113,8 @@ pub record FirstAsMeant (cell : CellLookup) (h : HeaderFile) (a : AreaFile) (p :
 
 -- ---- `save`
 
--- The file of the state holds the one list of bytes of the play's state after its first entries; their lines and then the last one were put.
+-- The file of the state holds the one list of bytes of the play's state after its first entries;
+-- their lines and then the last one were put.
 pub record IsSaved (header : HeaderFile) (file : AreaFile) (plan : Plan) (scripts : List Script) (n : ℕ) (name : List ℕ) (p : Played Saved)
     (c : Contents) (t : List ℕ) (c' : Contents) (t' : List ℕ) : Type 0 where
   pub state : Parts
@@ -149,7 +153,8 @@ pub record ReadsState (c : Contents) (name : List ℕ) (s : Parts) : Type 0 wher
   pub is : StateOf bytes s
   pub accepted : IsAccepted s
 
--- it isn't there or is too long; its bytes stop being those of a state at some place; or they are a state's, and this is the first rule that it breaks
+-- it isn't there or is too long; its bytes stop being those of a state at some place; or they are a
+-- state's, and this is the first rule that it breaks
 pub data RefusesState (c : Contents) (name : List ℕ) : Refusal → Type 0 where
   unread : (why : Refusal) → IsUnread c name why → RefusesState c name why
   stops : (bytes : List ℕ) → IsRead c name bytes → (place : ℕ) → StopsAt bytes place → RefusesState c name (BadArea name (flaw.State place))
@@ -175,7 +180,8 @@ pub record MeansResume (cell : CellLookup) (name to : List ℕ) (c : Contents) (
   -- whoever made the state, the play comes to no stack fault
   pub no_fault : (s : Parts) (g : Going) → ReadsState c name s → GoesFrom s g
       → GoesWithoutFault (host_of cell g.table g.scripts) s.limit (rest_entries s) (played_before s.taken s.done g.world)
-  -- where the state was saved of a play, what is told and left is the rest of that play, as it goes unbroken
+  -- where the state was saved of a play, what is told and left is the rest of that play, as it goes
+  -- unbroken
   pub unbroken : (header area plan : List ℕ) (n : ℕ) (first all : Contents) (k told whole : List ℕ) (done : Finished) (s : Result Finished Status)
       → Does (saves cell header area plan n name) first k (Ok done) c told → Does (plays cell header area plan to) first k s all whole → (IsCut s → ⊥)
       → GoOn name to c' all k told t t' whole r s

@@ -48,26 +48,29 @@ code_plan_played cell header area plan scripts = played cell header plan (map sc
 
 -- ---- what is told and left of it
 
--- The work that a play of source comes to, for which so many instructions were made: its lines are put; where it is done, its area goes into
--- the file of this name; and the text of its end is put.
+-- The work that a play of source comes to, for which so many instructions were made: its lines are
+-- put; where it is done, its area goes into the file of this name; and the text of its end is put.
 abbrev pub tells_source : List ℕ → Setting → ℕ → Played Deferred → Work Finished
 tells_source to s count p = Puts (trace_text p.last.trace) (ends_by p.ending to p.last.world.area (source_end_text s count p))
 
--- Typed units are listed, and the plan was played over the area, from these contents and taken bytes on.
+-- Typed units are listed, and the plan was played over the area, from these contents and taken
+-- bytes on.
 pub record PlaysSources (cell : CellLookup) (header : EngineTable) (area : PlainArea) (plan : Plan) (scripts : List Listed) (to : List ℕ)
     (c : Contents) (t : List ℕ) (r : Result Finished Status) (c' : Contents) (t' : List ℕ) : Type 0 where
   pub table : IsTable header
   pub units : AreUnitsOf header scripts
   pub does : Does (plays_plan cell header area plan (map script_of scripts) to) c t r c' t'
 
--- The work of the source's play was done, and at least one and at most 16 instructions were made for each step.
+-- The work of the source's play was done, and at least one and at most 16 instructions were made
+-- for each step.
 pub record DoesMeaning (to : List ℕ) (s : Setting) (code : Played Saved) (source : Played Deferred) (c : Contents) (t : List ℕ)
     (r : Result Finished Status) (c' : Contents) (t' : List ℕ) : Type 0 where
   pub alike : PlaysAlike (Carries s) code source
   pub does : Does (tells_source to s code.last.count source) c t r c' t'
 
--- The play was stopped in its last entry, for which all the instructions were made that it may take. The lines that it tells are a beginning of those
--- that the play of source tells, and no area is left.
+-- The play was stopped in its last entry, for which all the instructions were made that it may
+-- take. The lines that it tells are a beginning of those that the play of source tells, and no area
+-- is left.
 pub record DoesBeginning (cell : CellLookup) (header : EngineTable) (area : PlainArea) (plan : Plan) (scripts : List Listed) (c : Contents) (t : List ℕ)
     (r : Result Finished Status) (c' : Contents) (t' : List ℕ) : Type 0 where
   pub stopped : StoppedAt (code_runner (host_of cell header (map script_of scripts)) plan.limit) (whole plan.entries plan.until) plan.limit
@@ -78,8 +81,8 @@ pub record DoesBeginning (cell : CellLookup) (header : EngineTable) (area : Plai
 
 -- ---- what is promised
 
--- Where each entry of the sources ends in so many steps, and 16 times as many instructions are within the plan's limit, the plan is played as
--- the sources mean.
+-- Where each entry of the sources ends in so many steps, and 16 times as many instructions are
+-- within the plan's limit, the plan is played as the sources mean.
 abbrev pub FewStepsPlayAsMeant : Type 0
 FewStepsPlayAsMeant =
     (cell : CellLookup) (header : EngineTable) (area : PlainArea) (plan : Plan) (scripts : List Listed) (to : List ℕ)
@@ -87,7 +90,8 @@ FewStepsPlayAsMeant =
     → (n : ℕ) → step_cost * n ≤ plan.limit → (source_plan_played cell header area plan scripts n).ending ≢ StoppedInside
     → DoesMeaning to (listing_of cell header scripts) (code_plan_played cell header area plan scripts) (source_plan_played cell header area plan scripts n) c t r c' t'
 
--- Where no entry of the code was stopped, it is played as the sources mean whose entries may take as many steps as the plan allows instructions.
+-- Where no entry of the code was stopped, it is played as the sources mean whose entries may take
+-- as many steps as the plan allows instructions.
 abbrev pub UnstoppedPlansPlayAsMeant : Type 0
 UnstoppedPlansPlayAsMeant =
     (cell : CellLookup) (header : EngineTable) (area : PlainArea) (plan : Plan) (scripts : List Listed) (to : List ℕ)

@@ -1,5 +1,5 @@
--- What the work of words means, where the files hold bytes and the work isn't cut, and that typing refuses a source at one fault. Each stands
--- on the contract of a function of `word_laws`.
+-- What the work of words means, where the files hold bytes and the work isn't cut, and that typing
+-- refuses a source at one fault. Each stands on the contract of a function of `word_laws`.
 use Rattle.std.specs.Prelude.{◌≡◌, ◌≤◌, ℕ, List, Result}
 use Rattle.std.specs.FinMap as fin_map
 use Rattle.nwq_value.specs.Engine.{EngineTable}
@@ -61,7 +61,8 @@ GeneratesMean =
     (cell : CellLookup) (n : ℕ) (c : Contents) (t : List ℕ) (r : Result Finished Status) (c' : Contents) (t' : List ℕ) → n ≤ number_limit → (IsCut r → ⊥)
     → Does (generates cell n) c t r c' t' → MeansGenerate cell n c t r c' t'
 
--- two least faults of a source are one, with its token and its kind, and so is the script that has them
+-- two least faults of a source are one, with its token and its kind, and so is the script that has
+-- them
 abbrev pub OneFaultRefuses : Type 0
 OneFaultRefuses =
     (header : EngineTable) (c : Contents) (name : List ℕ) (script other : PlainScript) (f g : Fault)

@@ -1,4 +1,5 @@
--- The play that is made from a number: how many creatures and rounds it has, its source, its plan and its area.
+-- The play that is made from a number: how many creatures and rounds it has, its source, its plan
+-- and its area.
 use Rattle.std.specs.Prelude.{ℕ, ◌+◌, ◌*◌, ◌/◌, ◌%◌, List, [], ◌∷◌, ◌++◌, map, codes}
 use Rattle.std.specs.List.{flat_map, range_with_len}
 use Rattle.std.specs.Fmt.{decimal}
@@ -91,7 +92,8 @@ area_tree creatures = record {
 
 -- ---- the whole
 
--- what is made: how many creatures the area has, the source of the one script and the text of the plan
+-- what is made: how many creatures the area has, the source of the one script and the text of the
+-- plan
 pub record Play : Type 0 where
   pub creatures : ℕ
   pub source : List ℕ

@@ -14,7 +14,8 @@ event round creature = Event (1000 * round) 0 (codes "ScriptHeartbeat") (tag_of 
 abbrev pub round_events : ℕ → ℕ → List Line
 round_events creatures round = map (event round) (below creatures)
 
--- the plan of so many rounds and creatures: a limit of entries and of time, one script, and an event for each creature in each round
+-- the plan of so many rounds and creatures: a limit of entries and of time, one script, and an
+-- event for each creature in each round
 abbrev pub plan_made : ℕ → ℕ → Plan
 plan_made rounds creatures = record {
   version = 1;

@@ -1,4 +1,5 @@
--- The work of scripts that a plan lists, computed where a file isn't there, and the order in which a source's file is written.
+-- The work of scripts that a plan lists, computed where a file isn't there, and the order in which
+-- a source's file is written.
 use Rattle.std.proofs.Common.{◌≡◌, ℕ, inl, inr, List, [], ◌∷◌, ◌++◌, true, None, Ok, Err, refl, sym}
 use Rattle.std.specs.Prelude.{codes}
 use Rattle.std.specs.FinMap as map

@@ -1,4 +1,5 @@
--- Statements about the scripts that plans list. Each stands on the contract of a function of `laws`.
+-- Statements about the scripts that plans list. Each stands on the contract of a function of
+-- `laws`.
 use Rattle.std.specs.Prelude.{List}
 use Rattle.nwq_value.specs.Engine.{EngineTable}
 use Rattle.plan_text.specs.declared.plan.Script.{Script as ScriptLine}

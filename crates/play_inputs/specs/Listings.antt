@@ -70,8 +70,8 @@ line_names lines = map (λ (line : ScriptLine). line.name) lines
 abbrev pub loaded_names : List Loaded → List (List ℕ)
 loaded_names scripts = map (λ (loaded : Loaded). loaded.name) scripts
 
--- What each script's table says of stored states stands in every table that meets the rules for it. So it is of scripts that were
--- checked.
+-- What each script's table says of stored states stands in every table that meets the rules for it.
+-- So it is of scripts that were checked.
 abbrev pub AllStand : EngineTable → List Script → Tables → Type 0
 AllStand header scripts tables = (number : ℕ) (script : Script) (other : ShapeTable) → slice_get scripts number ≡ Some script
     → MeetsRules header script.code other → StoredStand (tables number) other
@@ -92,7 +92,8 @@ abbrev pub listed_answer : Result (List Loaded) Status → Result (List Script) 
 listed_answer (Ok loaded) = Ok (scripts_of loaded)
 listed_answer (Err status) = Err status
 
--- what stops the work: a file isn't there or is too long, a script or a binary is refused, or the work is cut
+-- what stops the work: a file isn't there or is too long, a script or a binary is refused, or the
+-- work is cut
 abbrev pub StopsListing : Status → Type 0
 StopsListing Code = Unit {0}
 StopsListing status = StopsSource status

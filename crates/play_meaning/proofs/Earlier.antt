@@ -1,4 +1,5 @@
--- A run that is stopped has told a beginning of what a longer one tells; one that isn't is the longer one.
+-- A run that is stopped has told a beginning of what a longer one tells; one that isn't is the
+-- longer one.
 use Rattle.std.proofs.Common.{arith, ◌≡◌, ℕ, zero, suc, ◌+◌, Option, None, Some, refl, subst, ap}
 use Rattle.world_rules.specs.World.{World}
 use Rattle.saved_state.specs.declared.saved.Saved.{Saved}

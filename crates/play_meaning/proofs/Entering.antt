@@ -1,4 +1,5 @@
--- Two entries that are begun in worlds that are alike go together, where the scripts do that they run.
+-- Two entries that are begun in worlds that are alike go together, where the scripts do that they
+-- run.
 use Rattle.std.proofs.Common.{arith, ◌≡◌, ◌≤◌, ◌*◌, ℕ, true, List, [], ◌∷◌, Option, None, Some, refl, sym, subst, ◌∙◌}
 use Rattle.delay_agenda.specs.declared.entry.Kind.{Kind}
 use Rattle.delay_agenda.specs.declared.entry.Kind.TheVariants.{Event, Stored, Turn, Unapply}

@@ -1,5 +1,6 @@
--- Two plays that go together: in the one code is run, and in the other source is evaluated. What is said here is said of any two ways to run
--- the scripts of an entry, and of any relation between stored actions.
+-- Two plays that go together: in the one code is run, and in the other source is evaluated. What is
+-- said here is said of any two ways to run the scripts of an entry, and of any relation between
+-- stored actions.
 use Rattle.std.specs.Prelude.{◌≡◌, ◌≤◌, ℕ, ◌+◌, ◌*◌, List, ◌++◌, true, Some}
 use Rattle.world_rules.specs.World.{World}
 use Rattle.world_rules.specs.Turns.{Begun, begin}
@@ -14,7 +15,8 @@ pub record Begins {A : Type 0} (part whole : List A) : Type 0 where
 
 -- ---- the scripts of an entry
 
--- Both runs end in the same way, in worlds that are alike, and at least one and at most 16 instructions were made for each step.
+-- Both runs end in the same way, in worlds that are alike, and at least one and at most 16
+-- instructions were made for each step.
 pub record RunsAlike {X Y : Type 0} (R : X → Y → Type 0) (code : Run X) (source : Run Y) : Type 0 where
   pub ending : code.ending ≡ source.ending
   pub world : Alike R code.world source.world
@@ -25,8 +27,8 @@ pub record RunsAlike {X Y : Type 0} (R : X → Y → Type 0) (code : Run X) (sou
 abbrev pub RunEnds : {X Y : Type 0} → (X → Y → Type 0) → Run X → Run Y → Type 0
 RunEnds R code source = (source.ending ≡ Stopped → ⊥) → RunsAlike R code source
 
--- So where the run of code isn't stopped; where it is, it has made all the instructions of its limit, and what it has told is a beginning of
--- what the evaluation tells.
+-- So where the run of code isn't stopped; where it is, it has made all the instructions of its
+-- limit, and what it has told is a beginning of what the evaluation tells.
 pub record RunStops {X Y : Type 0} (R : X → Y → Type 0) (limit : ℕ) (code : Run X) (source : Run Y) : Type 0 where
   pub ends : (code.ending ≡ Stopped → ⊥) → RunsAlike R code source
   pub count : code.ending ≡ Stopped → code.count ≡ limit
@@ -41,8 +43,8 @@ pub record RunnersAre {X Y : Type 0} (R : X → Y → Type 0) (P : Run X → Run
 
 -- ---- whole plays
 
--- Both plays end in the same way, after as many entries, with the same lines told, in worlds that are alike; and at least one and at most 16
--- instructions were made for each step.
+-- Both plays end in the same way, after as many entries, with the same lines told, in worlds that
+-- are alike; and at least one and at most 16 instructions were made for each step.
 pub record PlaysAlike {X Y : Type 0} (R : X → Y → Type 0) (code : Played X) (source : Played Y) : Type 0 where
   pub ending : code.ending ≡ source.ending
   pub entries : code.last.entries ≡ source.last.entries
@@ -59,8 +61,9 @@ PlayEnds R code source = (source.ending ≡ StoppedInside → ⊥) → PlaysAlik
 abbrev pub whole : ℕ → ℕ → Bounds
 whole entries until = record { entries = entries; until = until; stop = entries + 1 }
 
--- A play that goes on from here was stopped in its last entry. Up to that one it goes as it does where it is broken off after one entry less;
--- that entry is the one that is due next there, it was stopped, and so much was counted for it.
+-- A play that goes on from here was stopped in its last entry. Up to that one it goes as it does
+-- where it is broken off after one entry less; that entry is the one that is due next there, it was
+-- stopped, and so much was counted for it.
 pub record StoppedAt {X : Type 0} (runner : Runner X) (bounds : Bounds) (limit : ℕ) (from : Progress X) (p : Played X) : Type 0 where
   -- the entries that the play took from here on, less one
   pub less : ℕ
@@ -73,8 +76,9 @@ pub record StoppedAt {X : Type 0} (runner : Runner X) (bounds : Bounds) (limit :
   pub count : (entered runner begun).count ≡ limit
   pub last : p.last ≡ further (entered runner begun) before
 
--- So where the play of code isn't stopped. Where it is, all the instructions that an entry may take were made in its last entry, and what it
--- has told is a beginning of what the play of source tells.
+-- So where the play of code isn't stopped. Where it is, all the instructions that an entry may take
+-- were made in its last entry, and what it has told is a beginning of what the play of source
+-- tells.
 pub record PlayStops {X Y : Type 0} (R : X → Y → Type 0) (runner : Runner X) (bounds : Bounds) (limit : ℕ) (from : Progress X) (code : Played X) (source : Played Y) : Type 0 where
   pub ends : (code.ending ≡ StoppedInside → ⊥) → PlaysAlike R code source
   pub stopped : code.ending ≡ StoppedInside → StoppedAt runner bounds limit from code

@@ -154,7 +154,8 @@ pub record AreNamed (scripts : List Script) : Type 0 where
   pub names : AllByRecursion (λ (x : Script). IsTrue (is_script_name x.name)) scripts
   pub distinct : IsDistinct bytes_eq (map (λ (x : Script). x.name) scripts)
 
--- no two variables of an object have one type and name, and texts that are no variables' are as long as a string may be
+-- no two variables of an object have one type and name, and texts that are no variables' are as
+-- long as a string may be
 pub record HasTexts (s : Parts) : Type 0 where
   pub variables : AllByRecursion (λ (o : Object). IsDistinct same_variable (variables_of o)) s.objects
   pub items : IsTrue (list_all has_short_items s.objects)
@@ -168,8 +169,8 @@ pub record KeepsLimits (s : Parts) : Type 0 where
 
 -- ---- 5: the agenda
 
--- Entries that wait: they are in order, their numbers distinct and below the next. None was due before the clock, and their objects are
--- there, of so many.
+-- Entries that wait: they are in order, their numbers distinct and below the next. None was due
+-- before the clock, and their objects are there, of so many.
 pub record AreWaiting (next clock objects : ℕ) (entries : List Entry) : Type 0 where
   pub agenda : IsAgenda (record { entries = map entry_of entries; next = next })
   pub due : AllByRecursion (λ (e : Entry). clock ≤ e.due) entries
@@ -180,7 +181,8 @@ HasAgenda s = AreWaiting s.next s.clock (length s.objects) s.agenda
 
 -- ---- 6: captured states
 
--- The state is one of a script that is there, and fits each table of shapes that meets the rules for its code under the header.
+-- The state is one of a script that is there, and fits each table of shapes that meets the rules
+-- for its code under the header.
 pub record IsCapturedIn (s : Parts) (c : Captured) : Type 0 where
   pub script : Script
   pub listed : slice_get s.scripts c.script ≡ Some script
@@ -193,7 +195,8 @@ pub record HasStates (s : Parts) : Type 0 where
 
 -- ---- 7: Turns
 
--- an object with so many Turns on the agenda is busy where it has one; one that isn't busy has none, and nothing to do
+-- an object with so many Turns on the agenda is busy where it has one; one that isn't busy has
+-- none, and nothing to do
 pub record IsSettledBy (turns : ℕ) (o : Object) : Type 0 where
   pub own : turns ≡ turns_allowed o.busy
   pub idle : o.busy ≡ false → o.items ≡ []

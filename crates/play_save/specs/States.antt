@@ -39,8 +39,8 @@ script_part l = record { name = l.name; code = file_bytes l.code.code }
 abbrev pub script_parts : List Loaded → List Script
 script_parts scripts = map script_part scripts
 
--- What each script's table says of stored states stands in every table that meets the rules for it. So it is of scripts that were
--- checked.
+-- What each script's table says of stored states stands in every table that meets the rules for it.
+-- So it is of scripts that were checked.
 abbrev pub AllStand : EngineTable → List MachineScript → Tables → Type 0
 AllStand header scripts tables = (number : ℕ) (script : MachineScript) (other : ShapeTable) → slice_get scripts number ≡ Some script
     → MeetsRules header script.code other → StoredStand (tables number) other
@@ -79,7 +79,8 @@ pub record MayList (header : Option (List ℕ)) (scripts : List Loaded) : Type 0
   pub meets : AllMeet table (scripts_of scripts) (tables_of scripts)
   pub stand : AllStand table (scripts_of scripts) (tables_of scripts)
 
--- the world of a play of these scripts between two of its entries, whose area is that of these bytes
+-- the world of a play of these scripts between two of its entries, whose area is that of these
+-- bytes
 pub record MayRest (scripts : List Loaded) (area : List ℕ) (w : World Saved) : Type 0 where
   pub file : IsAreaOf w.area.tree area
   pub version : (w.version ≡ 1) ⊎ (w.version ≡ 2)
@@ -114,7 +115,8 @@ pub record HasCome (s : Parts) (entries instructions : ℕ) : Type 0 where
 
 -- ---- refusals
 
--- Why bytes are refused: they are no state's from a place on, or they are a state's, and this is the first rule that it breaks.
+-- Why bytes are refused: they are no state's from a place on, or they are a state's, and this is
+-- the first rule that it breaks.
 abbrev pub Refuses : List ℕ → StateFault → Type 0
 Refuses bytes (fault.Place at) = StopsAt bytes at
 Refuses bytes (fault.Unfit n) = (s : Parts) × StateOf bytes s × IsUnfit n s

@@ -1,4 +1,5 @@
--- What lines of plans begin, computed over an area whose one creature is tagged `guard`, with the heartbeat `tick`.
+-- What lines of plans begin, computed over an area whose one creature is tagged `guard`, with the
+-- heartbeat `tick`.
 use Rattle.std.proofs.Common.{◌≡◌, [], ◌∷◌, refl}
 use Rattle.std.specs.Prelude.{codes}
 use Rattle.area_rules.specs.Area.{PlainArea, empty_tree}

@@ -1,4 +1,5 @@
--- The worlds in which plays begin: the objects of a plan's events are there, and a world is the one that its events, area and numbers make.
+-- The worlds in which plays begin: the objects of a plan's events are there, and a world is the one
+-- that its events, area and numbers make.
 use Rattle.std.proofs.Common.{◌≡◌, ◌≤◌, ℕ, List, [], ◌∷◌, length, map, sym, ap, ◌∙◌, subst}
 use Rattle.std.specs.List.{AllByRecursion}
 use Rattle.area_rules.specs.Area.{PlainArea, empty_area}

@@ -10,7 +10,8 @@ use Rattle.world_rules.specs.InPlan.{IsDueBy}
 use Rattle.world_rules.specs.Settled.{IsBetween}
 use Rattle.play_worlds.specs.Worlds.{plan_world}
 
--- the world of an area at the beginning of a play: it is between entries, and inside a plan's limits
+-- the world of an area at the beginning of a play: it is between entries, and inside a plan's
+-- limits
 pub record IsFresh (area : PlainArea) (w : World Saved) : Type 0 where
   pub between : IsBetween w
   pub clock : w.clock ≡ 0

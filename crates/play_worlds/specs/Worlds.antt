@@ -1,4 +1,5 @@
--- The worlds in which plays begin: an area with the events and starts of a plan, or nothing but a start of one script.
+-- The worlds in which plays begin: an area with the events and starts of a plan, or nothing but a
+-- start of one script.
 use Rattle.std.specs.Prelude.{ℕ, zero, suc, pos, List, [], ◌∷◌, map, take}
 use Rattle.nwq_value.specs.Limits.{text_limit}
 use Rattle.area_rules.specs.Area.{PlainArea, empty_area, object, by_tag, script_named}
@@ -19,7 +20,8 @@ text_name name = take text_limit name
 abbrev pub start_of : List ℕ → Planned
 start_of name = record { due = 0; object = 0; script = text_name name }
 
--- the world of the area without objects with a start of this script and no random numbers; actions are cleared as the second version of plans has it
+-- the world of the area without objects with a start of this script and no random numbers; actions
+-- are cleared as the second version of plans has it
 abbrev pub first_world : List ℕ → World Saved
 first_world name = new_world empty_area [] (start_of name ∷ []) 2
 
@@ -29,12 +31,14 @@ first_world name = new_world empty_area [] (start_of name ∷ []) 2
 abbrev pub object_named : PlainArea → ℕ → List ℕ → ℕ
 object_named area nth tag = by_tag area tag (pos nth)
 
--- the script in an object's field of this label; no name where there is no such object, or no such field
+-- the script in an object's field of this label; no name where there is no such object, or no such
+-- field
 abbrev pub script_at : PlainArea → List ℕ → ℕ → List ℕ
 script_at area label zero = []
 script_at area label (suc o) = script_named label (object area (suc o)).scripts
 
--- what a line of a plan begins in an area. An event names an object and a field, a start a script and an object, or none.
+-- what a line of a plan begins in an area. An event names an object and a field, a start a script
+-- and an object, or none.
 abbrev pub begun_by : PlainArea → Line → Planned
 begun_by area (Event due nth label tag) =
     let o = object_named area nth tag in record { due = due; object = o; script = text_name (script_at area label o) }

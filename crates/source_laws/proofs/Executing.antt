@@ -71,7 +71,8 @@ sim_spare host R B place n k s (OutOfSteps p) h = (h.0, took_spare host n k 0 0 
 
 -- ---- the instruction that runs a script
 
--- Of how scripts are started that a script at this site runs: there is such a way where fewer wait than may, and it does what a start means.
+-- Of how scripts are started that a script at this site runs: there is such a way where fewer wait
+-- than may, and it does what a start means.
 abbrev Fits : Setting → MachineHost → Site → Option Starter → Type 0
 Fits s host x None = nat_lt (length x.waiting) depth_limit ≡ false
 Fits s host x (Some begin) =

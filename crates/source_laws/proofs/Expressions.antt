@@ -708,7 +708,8 @@ module _ (host : MachineHost) (R : Saved → Deferred → Type 0) (tested : Equa
       )))))
       stands
 
-  -- `o=` for an operator: the place is read, the value follows, the operator is applied, and the place is written
+  -- `o=` for an operator: the place is read, the value follows, the operator is applied, and the
+  -- place is written
   compound_lines : ℕ → ℕ → BinaryOperator → Ty → TypedExpr → Home → List Line
   compound_lines n depth b t e h =
       Instruction (read x.layout depth (length (cell_types x.layout.structs t)) h)

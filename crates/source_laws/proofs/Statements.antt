@@ -1,4 +1,5 @@
--- The code of statements does what they mean, statement by statement; a `switch` stands in Switches.
+-- The code of statements does what they mean, statement by statement; a `switch` stands in
+-- Switches.
 use Rattle.std.proofs.Common.{arith, ◌≡◌, ◌≤◌, ◌<◌, ◌+◌, ◌-◌, ◌*◌, ◌⊎◌, inl, inr, ℕ, zero, suc, List, [], ◌∷◌, ◌++◌, length, map, take, drop, reverse, Option, Some, None, Bool, true, false, sym, subst, ◌∙◌, ap, refl, append_assoc}
 use Rattle.std.specs.Prelude.{ℤ, pos, not, ◌==◌, if◌then◌else◌}
 use Rattle.std.specs.List.{AllByRecursion}
@@ -276,7 +277,8 @@ module _ (host : MachineHost) (R : Saved → Deferred → Type 0) (x : Site) (li
   keeps (case_label m k) h d = d
   keeps (default_label m) h d = d
 
-  -- the end of a statement by further instructions, with credits to spare; every other way to leave it stays
+  -- the end of a statement by further instructions, with credits to spare; every other way to leave
+  -- it stays
   flow_on : (breaks continues : Exit) (scope : List ℕ) (size first next n c d : ℕ) (s : Machine) (room : List Value) (lower : List Cell) (back : ℕ) (calls : List ℕ) (pending : List Saved) (r : Outcome Flow) → c + 1 ≤ d
       → ((p : Progress) (K : Kept R x scope (size + 0) p.globals p.locals p.world)
       → step host (spot_at R x first [] (pushed room lower) (back ∷ calls) pending K) ≡ Some (Goes (spot_at R x next [] (pushed room lower) (back ∷ calls) pending K)))
@@ -953,8 +955,9 @@ module _ (host : MachineHost) (R : Saved → Deferred → Type 0) (x : Site) (li
     beneath = λ a n i. let w = within x scope frame locals v n i in omega (arith, w, same);
   }
 
-  -- One loop, whatever its jumps are: at `head` the test begins, at `decides` its value lies on top, at `start` the body begins, and at `body_end` it
-  -- ends; `continue` leads to the third part, and `break` to the end.
+  -- One loop, whatever its jumps are: at `head` the test begins, at `decides` its value lies on
+  -- top, at `start` the body begins, and at `body_end` it ends; `continue` leads to the third part,
+  -- and `break` to the end.
   module _ (breaks continues : Exit) (scope : List ℕ) (size : ℕ) (room : List Value) (lower : List Cell) (back : ℕ) (calls : List ℕ) (pending : List Saved)
       (head decides start body_end third_at ending break_label continue_label c : ℕ)
       (test : Progress → Outcome (List Value)) (body : Progress → Outcome Flow) (third : Progress → Outcome (List Value)) where

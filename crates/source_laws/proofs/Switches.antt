@@ -1,4 +1,5 @@
--- The code of a `switch` does what the statement means: tests one after another, and then a list of statements from one of its labels on.
+-- The code of a `switch` does what the statement means: tests one after another, and then a list of
+-- statements from one of its labels on.
 use Rattle.std.proofs.Common.{arith, ◌≡◌, ◌≤◌, ◌+◌, ◌-◌, ◌⊎◌, inl, inr, ℕ, List, [], ◌∷◌, ◌++◌, length, Some, None, Bool, true, false, sym, subst, ◌∙◌, ap, refl, zero-add}
 use Rattle.std.specs.Prelude.{ℤ, if◌then◌else◌}
 use Rattle.nss_tree.specs.declared.operators.BinaryOperator.TheVariants as bin
@@ -210,7 +211,8 @@ module _ (host : MachineHost) (R : Saved → Deferred → Type 0) (tested : Equa
     alike = K.alike;
   }
 
-  -- So many cells are declared in it; its statements end at `ends`, without these cells at `last`, and its end has this label.
+  -- So many cells are declared in it; its statements end at `ends`, without these cells at `last`,
+  -- and its end has this label.
   module _ (out : Exits) (breaks continues : Exit) (scope : List ℕ) (base : ℕ) (room : List Value) (lower : List Cell) (back : ℕ) (calls : List ℕ) (pending : List Saved)
       (c many ends last end_label : ℕ) where
     abbrev Inner : Flow → Progress → Type 0

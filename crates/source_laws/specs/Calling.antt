@@ -1,4 +1,5 @@
--- What is asked of the engine, of captured states and of scripts that are run, so that the code of calls does what the calls mean.
+-- What is asked of the engine, of captured states and of scripts that are run, so that the code of
+-- calls does what the calls mean.
 use Rattle.std.specs.Prelude.{◌≡◌, ◌≤◌, ℕ, ◌+◌, Bool, true, false, List, [], ◌∷◌, ◌++◌, map, length, Option, Some, slice_get}
 use Rattle.nwq_value.specs.declared.value.Ty.{Ty}
 use Rattle.nwq_value.specs.declared.value.Ty.TheVariants.{Void, Text, Object}
@@ -67,8 +68,8 @@ actions_in (more_typed e es) = one_if (is_captured e) + actions_in es
 
 -- ---- what is asked
 
--- The machine's engine gives what the engine of the meaning gives, in worlds that stay alike, and of routines that can be called its answers have
--- the routines' types.
+-- The machine's engine gives what the engine of the meaning gives, in worlds that stay alike, and
+-- of routines that can be called its answers have the routines' types.
 pub record EngineRuns (host : MachineHost) (R : Saved → Deferred → Type 0) (tables : CellLookup) : Type 0 where
   pub value : (n caller : ℕ) (values : List Value) (a : Option Saved) (d : Option Deferred) (w : World Saved) (v : World Deferred) → OptionAlike R a d → Alike R w v
       → (host.engine n caller values a w).value ≡ (engine host.table tables n (call caller values d) v).value
@@ -80,7 +81,8 @@ pub record EngineRuns (host : MachineHost) (R : Saved → Deferred → Type 0) (
   pub runs : (n : ℕ) (r : Routine) → slice_get host.table.routines n ≡ Some r → is_execute_script r.role ≡ true
       → (argument_types r.params ≡ Text ∷ Object ∷ []) × (result_types r.result ≡ [])
 
--- A state that is captured before the code of a call carries the call, with the variables as they are.
+-- A state that is captured before the code of a call carries the call, with the variables as they
+-- are.
 abbrev pub CapturesCarry : MachineHost → (Saved → Deferred → Type 0) → Site → CellLookup → Executor → List Function → Type 0
 CapturesCarry host R x tables execute functions =
     (scope : List ℕ) (size n depth place : ℕ) (e : TypedExpr) (p : Progress) (kept : Kept R x scope size p.globals p.locals p.world) (temps between : List Cell)
@@ -88,8 +90,8 @@ CapturesCarry host R x tables execute functions =
     → length temps + size ≡ depth → AreHeld temps → x.layout.globals ≡ x.bp
     → R (captured x.script (resume_place place) x.layout.globals depth (record { cells = temps ++ (kept.frame ++ (between ++ kept.under)); bp = x.bp })) (deferred (running_at host tables execute x) scope e p)
 
--- A script that is run does what running it means, from before the instruction that runs it to behind that one, where a credit is left for
--- that instruction.
+-- A script that is run does what running it means, from before the instruction that runs it to
+-- behind that one, where a credit is left for that instruction.
 abbrev pub ExecutesRun : MachineHost → (Saved → Deferred → Type 0) → Site → Executor → ℕ → Type 0
 ExecutesRun host R x execute most =
     (name : List ℕ) (target : ℕ) (scope : List ℕ) (size next c : ℕ) (p : Progress) (kept : Kept R x scope size p.globals p.locals p.world)

@@ -84,8 +84,9 @@ unit_site script u self waiting = record {
   bp = (layout_of u).globals;
 }
 
--- A captured state carries a deferred call: it is of the same script, its place is that of the call's code, and the copied values stand on its
--- cells: that of each global, and that of each variable of the frame that was in sight. Other cells hold any value.
+-- A captured state carries a deferred call: it is of the same script, its place is that of the
+-- call's code, and the copied values stand on its cells: that of each global, and that of each
+-- variable of the frame that was in sight. Other cells hold any value.
 pub record Carries (s : Setting) (c : Saved) (d : Deferred) : Type 0 where
   pub script : c.script ≡ d.script
   pub listed : Listed

@@ -23,8 +23,8 @@ pub record HasEngine (host : MachineHost) (tables : CellLookup) : Type 0 where
   pub value : (n caller : ℕ) (values : List Value) (a : Option Saved) (w : World Saved) → (host.engine n caller values a w).value ≡ (engine host.table tables n (call caller values a) w).value
   pub world : (n caller : ℕ) (values : List Value) (a : Option Saved) (w : World Saved) → (host.engine n caller values a w).world ≡ (engine host.table tables n (call caller values a) w).world
 
--- The world's engine answers calls of routines that can be called with values of the routines' types, and the routine that runs another script has
--- its types.
+-- The world's engine answers calls of routines that can be called with values of the routines'
+-- types, and the routine that runs another script has its types.
 pub record AnswersAreTyped (table : EngineTable) (tables : CellLookup) : Type 0 where
   pub answers : (n : ℕ) (r : Routine) (caller : ℕ) (values : List Value) (a : Option Saved) (w : World Saved) → slice_get table.routines n ≡ Some r
       → is_callable r ≡ true → value_types values ≡ argument_types r.params → value_types (parts_in (engine table tables n (call caller values a) w).value) ≡ result_types r.result

@@ -1,4 +1,5 @@
--- That scripts which ExecuteScript runs do what running them means, where each listed script does what its start means.
+-- That scripts which ExecuteScript runs do what running them means, where each listed script does
+-- what its start means.
 use Rattle.std.specs.Prelude.{◌≡◌, ℕ, ◌+◌, List, map, length, Option, Some, slice_get}
 use Rattle.nwq_value.specs.declared.value.Value.{Value}
 use Rattle.ncs_emit.specs.Labelled.{program}
@@ -24,7 +25,8 @@ use Rattle.source_laws.specs.EngineHost.{HasEngine}
 abbrev pub script_of : Listed → Script
 script_of l = record { name = l.name; code = program (unit_code l.unit).lines }
 
--- The machine has the code of the setting's scripts, the setting's header and tables, and the world's own engine, test and lines.
+-- The machine has the code of the setting's scripts, the setting's header and tables, and the
+-- world's own engine, test and lines.
 pub record IsHostOf (host : MachineHost) (s : Setting) : Type 0 where
   pub scripts : host.scripts ≡ map script_of s.scripts
   pub table : host.table ≡ s.table
@@ -35,8 +37,8 @@ pub record IsHostOf (host : MachineHost) (s : Setting) : Type 0 where
 
 -- ---- ExecuteScript
 
--- In any script that runs as an object while these scripts wait for it, scripts that are run do what running them means, where they are
--- started so.
+-- In any script that runs as an object while these scripts wait for it, scripts that are run do
+-- what running them means, where they are started so.
 abbrev pub ExecutesIn : Setting → MachineHost → Option Starter → ℕ → List Frame → Type 0
 ExecutesIn s host start self waiting =
     (x : Site) → x.self ≡ self → x.waiting ≡ waiting → (most : ℕ) → ExecutesRun host (Carries s) x (executing s start self) most
@@ -47,7 +49,8 @@ ExecutesIn s host start self waiting =
 abbrev pub start_state : ℕ → ℕ → List Frame → World Saved → Machine
 start_state script self waiting w = record { running = frames.started script self; waiting = waiting; world = w }
 
--- The script that runs is over at its next instruction, in a world that is alike, where these scripts wait for it.
+-- The script that runs is over at its next instruction, in a world that is alike, where these
+-- scripts wait for it.
 pub record IsAtLast (host : MachineHost) (R : Saved → Deferred → Type 0) (waiting : List Frame) (v : List Value) (p : Progress) : Type 0 where
   pub state : Machine
   pub ends : step host state ≡ Some (over waiting state)
@@ -56,8 +59,9 @@ pub record IsAtLast (host : MachineHost) (R : Saved → Deferred → Type 0) (wa
 abbrev pub last_state : (host : MachineHost) (R : Saved → Deferred → Type 0) (waiting : List Frame) (v : List Value) (p : Progress) → IsAtLast host R waiting v p → Machine
 last_state host R waiting v p h = h.state
 
--- From its first instruction on the code of a listed script does what its start means, up to its last instruction, for which a credit is
--- left: as any object, whatever scripts wait for it, and where scripts that it runs do what running them means.
+-- From its first instruction on the code of a listed script does what its start means, up to its
+-- last instruction, for which a credit is left: as any object, whatever scripts wait for it, and
+-- where scripts that it runs do what running them means.
 abbrev pub StartRuns : Setting → MachineHost → ℕ → Listed → Type 0
 StartRuns s host script l =
     (start : Option Starter) (self : ℕ) (waiting : List Frame) (p : Progress) (w : World Saved) → ExecutesIn s host start self waiting → Alike (Carries s) w p.world
@@ -70,7 +74,8 @@ StartsDo s host = (script : ℕ) (l : Listed) → slice_get s.scripts script ≡
 
 -- ---- the law
 
--- Scripts that are run do what running them means, where as many scripts more may wait as the meaning allows.
+-- Scripts that are run do what running them means, where as many scripts more may wait as the
+-- meaning allows.
 abbrev pub ScriptsExecute : Type 0
 ScriptsExecute =
     (s : Setting) (host : MachineHost) → IsHostOf host s → StartsDo s host → (room self : ℕ) (waiting : List Frame) → length waiting + room ≡ depth_limit

@@ -1,4 +1,5 @@
--- What the typed tree of a script keeps, as far as its meaning needs it: values have the types that stand at their nodes.
+-- What the typed tree of a script keeps, as far as its meaning needs it: values have the types that
+-- stand at their nodes.
 use Rattle.std.specs.Prelude.{◌≡◌, ◌<◌, ◌≤◌, ℕ, ◌+◌, true, false, if◌then◌else◌, List, [], ◌∷◌, map, length, take, drop, Some, slice_get, IsFalse}
 use Rattle.nwq_value.specs.declared.value.Ty.{Ty}
 use Rattle.nwq_value.specs.declared.value.Ty.TheVariants.{Int, Action}

@@ -29,7 +29,8 @@ abbrev pub HasNoLabels : TypedStmts → Type 0
 HasNoLabels no_stmt = Unit {0}
 HasNoLabels (more_stmts s ss) = IsFalse (is_label s) × HasNoLabels ss
 
--- No label of a switch stands behind a declaration, so all of them stand at one depth, with the same variables in sight.
+-- No label of a switch stands behind a declaration, so all of them stand at one depth, with the
+-- same variables in sight.
 abbrev pub LabelsStandFirst : TypedStmts → Type 0
 LabelsStandFirst no_stmt = Unit {0}
 LabelsStandFirst (more_stmts s ss) = (DeclaresNothing s ⊎ HasNoLabels ss) × LabelsStandFirst ss

@@ -52,8 +52,9 @@ HasResult R x t v p = (value_types v ≡ cell_types x.layout.structs t) × Keeps
 abbrev pub result_place : (R : Saved → Deferred → Type 0) (x : Site) (t : Ty) → ℕ → List Cell → List ℕ → List Saved → (v : List Value) (p : Progress) → HasResult R x t v p → Machine
 result_place R x t back lower waiting pending v p h = at x back (pushed v (lower ++ h.1.under)) waiting pending h.1.machine
 
--- From the function's label on, with its arguments on top of the cells of its result, the code of a function does what a call of it means:
--- it goes back with the result in these cells. Three credits are used up where the body is left at its end.
+-- From the function's label on, with its arguments on top of the cells of its result, the code of a
+-- function does what a call of it means: it goes back with the result in these cells. Three credits
+-- are used up where the body is left at its end.
 abbrev pub CallsRun : MachineHost → (Saved → Deferred → Type 0) → Site → List Function → Caller → ℕ → Type 0
 CallsRun host R x functions caller most =
     (f : ℕ) (fn : Function) → slice_get functions f ≡ Some fn → (values : List (List Value)) → all_types values ≡ parameter_types x fn.parameters
@@ -62,8 +63,8 @@ CallsRun host R x functions caller most =
     → Sim host R (HasResult R x fn.result) (result_place R x fn.result back lower waiting pending) p.left c
     (at x (x.places f) (pushed_all values (pushed (start_parts (cell_types x.layout.structs fn.result)) (lower ++ kept.under))) (back ∷ waiting) pending kept.machine) (λ v. d) (caller f values p)
 
--- Functions do what their calls mean, recursion among them, and so do all expressions, where so many steps are left: in a script whose functions
--- stand at their labels.
+-- Functions do what their calls mean, recursion among them, and so do all expressions, where so
+-- many steps are left: in a script whose functions stand at their labels.
 abbrev pub FunctionsRun : Type 0
 FunctionsRun =
     (s : Setting) (host : MachineHost) (x : Site) (tables : CellLookup) (execute : Executor) (fs : List Function)

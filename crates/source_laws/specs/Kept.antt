@@ -39,8 +39,9 @@ AreHeld (c ∷ cells) = IsHeld c × AreHeld cells
 
 -- ---- a running script
 
--- What stays while a script runs: its number, its instructions and the places of its labels, the object that it runs as, and what waits for
--- it; where its variables stand and which types they have; and the globals in sight, with the place right beneath which they lie.
+-- What stays while a script runs: its number, its instructions and the places of its labels, the
+-- object that it runs as, and what waits for it; where its variables stand and which types they
+-- have; and the globals in sight, with the place right beneath which they lie.
 pub record Site : Type 0 where
   pub script : ℕ
   pub code : List PlainOp
@@ -86,8 +87,8 @@ pub record Vars (x : Site) (scope : List ℕ) (cells : List Cell) (variables : V
   pub typed : (n : ℕ) → In n scope → value_types (variables n) ≡ part_types x n
   pub apart : (m n : ℕ) → In m scope → In n scope → (m ≡ n → ⊥) → Apart x m n
 
--- What stands on the stack, and the machine's world, where the variables and the world are these: the globals at the bottom, and so many
--- cells of the frame.
+-- What stands on the stack, and the machine's world, where the variables and the world are these:
+-- the globals at the bottom, and so many cells of the frame.
 pub record Kept (R : Saved → Deferred → Type 0) (x : Site) (scope : List ℕ) (size : ℕ) (globals locals : Variables) (world : World Deferred) : Type 0 where
   pub under : List Cell
   pub frame : List Cell
@@ -100,7 +101,8 @@ pub record Kept (R : Saved → Deferred → Type 0) (x : Site) (scope : List ℕ
   pub local_values : Vars x scope frame locals
   pub alike : Alike R machine world
 
--- the state at a place: values under way over the frame, and over other cells, which lie over the globals
+-- the state at a place: values under way over the frame, and over other cells, which lie over the
+-- globals
 abbrev pub spot_at : (R : Saved → Deferred → Type 0) (x : Site) {scope : List ℕ} {size : ℕ} {globals locals : Variables} {world : World Deferred}
     → ℕ → List Cell → List Cell → List ℕ → List Saved → Kept R x scope size globals locals world → Machine
 spot_at R x place temps between calls pending kept = at x place (temps ++ (kept.frame ++ (between ++ kept.under))) calls pending kept.machine

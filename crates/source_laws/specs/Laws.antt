@@ -27,8 +27,9 @@ CallsNothing (postfix t o e) = CallsNothing e
 CallsNothing (binary t o d e) = CallsNothing d × CallsNothing e
 CallsNothing (assign t o d e) = CallsNothing d × CallsNothing e
 
--- The code of an expression in which nothing is called does what the expression means, with every operator and every assignment: in any
--- script, at any place, over any stack on which the variables stand.
+-- The code of an expression in which nothing is called does what the expression means, with every
+-- operator and every assignment: in any script, at any place, over any stack on which the variables
+-- stand.
 abbrev pub ExpressionsRun : Type 0
 ExpressionsRun =
     (s : Setting) (host : MachineHost) (x : Site) (tables : CellLookup) (execute : Executor) (fs : List Function) (caller : Caller) (most : ℕ) (e : TypedExpr)
@@ -53,15 +54,17 @@ abbrev mutual
   AllCallEngine no_typed = Unit {0}
   AllCallEngine (more_typed e es) = (is_captured e ≡ false → CallsEngine e) × AllCallEngine es
 
--- So does the code of an expression that calls the engine, with defaults, and with an action that is captured: where the engine answers as
--- it should, states that are captured carry the calls, and scripts that are run do what running them means.
+-- So does the code of an expression that calls the engine, with defaults, and with an action that
+-- is captured: where the engine answers as it should, states that are captured carry the calls, and
+-- scripts that are run do what running them means.
 abbrev pub EngineCallsRun : Type 0
 EngineCallsRun =
     (s : Setting) (host : MachineHost) (x : Site) (tables : CellLookup) (execute : Executor) (fs : List Function) (caller : Caller) (most : ℕ) (e : TypedExpr)
     → IsListed host x → EngineRuns host (Carries s) tables → CapturesCarry host (Carries s) x tables execute fs → ExecutesRun host (Carries s) x execute most
     → CallsEngine e → ExprRuns host (Carries s) x tables execute fs caller most e
 
--- In a listed script the states that are captured carry the calls, with the values that globals and variables in sight have then.
+-- In a listed script the states that are captured carry the calls, with the values that globals and
+-- variables in sight have then.
 abbrev pub CapturesAreCarried : Type 0
 CapturesAreCarried =
     (s : Setting) (host : MachineHost) (tables : CellLookup) (execute : Executor) (script self : ℕ) (waiting : List Frame) (l : Listed)
@@ -102,8 +105,8 @@ module _ (P : TypedExpr → Type 0) where
     OfAll no_stmt = Unit {0}
     OfAll (more_stmts s ss) = OfEach s × OfAll ss
 
--- The code of a statement does what the statement means: declarations, loops and `switch` with `break` and `continue`, and `return`. So where
--- nothing is called.
+-- The code of a statement does what the statement means: declarations, loops and `switch` with
+-- `break` and `continue`, and `return`. So where nothing is called.
 abbrev pub StatementsRun : Type 0
 StatementsRun =
     (s : Setting) (host : MachineHost) (x : Site) (tables : CellLookup) (execute : Executor) (fs : List Function) (caller : Caller) (most : ℕ) (result : Ty) (a : TypedStmt)

@@ -13,8 +13,8 @@ use Rattle.source_laws.specs.Starts.{BeginsWith}
 use Rattle.source_laws.specs.Executing.{IsHostOf, StartsDo}
 use Rattle.source_laws.specs.Entries.{ResumesDo}
 
--- A unit begins with one of the two entry functions, its globals are fine, and its functions are placed: as a script of this number, whatever
--- object it runs as and whatever waits for it.
+-- A unit begins with one of the two entry functions, its globals are fine, and its functions are
+-- placed: as a script of this number, whatever object it runs as and whatever waits for it.
 abbrev pub IsReady : EngineTable → ℕ → TypedUnit → Type 0
 IsReady table script u = (self : ℕ) (waiting : List Frame)
     → BeginsWith Main Void table u (unit_site script u self waiting) ⊎ BeginsWith Conditional Int table u (unit_site script u self waiting)
@@ -28,7 +28,7 @@ pub record ScriptsDo (s : Setting) (host : MachineHost) : Type 0 where
   pub starts : StartsDo s host
   pub resumes : ResumesDo s host
 
--- In a machine of the setting, where the engine's answers have the routines' types, ready scripts do what their starts mean, and captured
--- states what the deferred commands mean that they carry.
+-- In a machine of the setting, where the engine's answers have the routines' types, ready scripts
+-- do what their starts mean, and captured states what the deferred commands mean that they carry.
 abbrev pub ListedScriptsDo : Type 0
 ListedScriptsDo = (s : Setting) (host : MachineHost) → IsHostOf host s → AnswersAreTyped s.table s.tables → AreReady s → ScriptsDo s host

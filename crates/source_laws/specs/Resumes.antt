@@ -24,7 +24,8 @@ use Rattle.source_laws.specs.FunctionsRun.{IsPlaced}
 abbrev pub resumed_site : {s : Setting} {saved : Saved} {d : Deferred} → Carries s saved d → ℕ → Site
 resumed_site {d = d} carried self = unit_site d.script carried.listed.unit self []
 
--- The command is over there, in a world that is alike: the captured cells may still lie on the stack.
+-- The command is over there, in a world that is alike: the captured cells may still lie on the
+-- stack.
 pub record IsOver (R : Saved → Deferred → Type 0) (v : List Value) (p : Progress) : Type 0 where
   pub cells : List Cell
   pub world : World Saved
@@ -37,8 +38,9 @@ over_place R x place v p h = at x place h.cells [] [] h.world
 abbrev pub resumed_return : {s : Setting} {saved : Saved} {d : Deferred} → Carries s saved d → ℕ
 resumed_return {saved = saved} {d = d} carried = saved.place + lines_size (emit (layout_of carried.listed.unit) carried.label (length saved.locals) d.call)
 
--- A captured state that goes on as any object does what the command means that it carries, up to a RETN that stands behind the command's
--- call, for which a credit is left: there no call is under way, and no state is pending.
+-- A captured state that goes on as any object does what the command means that it carries, up to a
+-- RETN that stands behind the command's call, for which a credit is left: there no call is under
+-- way, and no state is pending.
 abbrev pub ResumedRun : Type 0
 ResumedRun =
     (s : Setting) (host : MachineHost) (self : ℕ) (saved : Saved) (d : Deferred) (carried : Carries s saved d) (p : Progress) (w : World Saved)

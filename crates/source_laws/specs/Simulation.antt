@@ -40,8 +40,9 @@ value_place R x scope size t next temps between calls pending v p h = spot_at R 
 abbrev pub value_credits : ℕ → List Value → ℕ
 value_credits c v = 8 + c
 
--- The code of an expression, wherever it stands in a script and whatever lies on the stack, does what the expression means: it ends behind
--- itself with the value on top, with at most 16 instructions and at least one for each step. So with at most so many steps left.
+-- The code of an expression, wherever it stands in a script and whatever lies on the stack, does
+-- what the expression means: it ends behind itself with the value on top, with at most 16
+-- instructions and at least one for each step. So with at most so many steps left.
 abbrev pub ExprRuns : MachineHost → (Saved → Deferred → Type 0) → Site → CellLookup → Executor → List Function → Caller → ℕ → TypedExpr → Type 0
 ExprRuns host R x tables execute functions caller most e =
     (scope : List ℕ) (size n depth place c : ℕ) (p : Progress) (kept : Kept R x scope size p.globals p.locals p.world)

@@ -22,12 +22,13 @@ use Rattle.source_laws.specs.Calling.{EngineRuns, ExecutesRun}
 use Rattle.source_laws.specs.FineStatements.{AreFineNames}
 use Rattle.source_laws.specs.FunctionsRun.{IsPlaced}
 
--- The script while its globals are made: they are variables of a frame, and nothing lies beneath. So it also begins and ends.
+-- The script while its globals are made: they are variables of a frame, and nothing lies beneath.
+-- So it also begins and ends.
 abbrev pub making : Site → Site
 making x = record x { globals = []; bp = 0 }
 
--- A unit that begins with a function of this kind and result. Its globals are fine as declarations in whose values no function is called,
--- and its functions are placed.
+-- A unit that begins with a function of this kind and result. Its globals are fine as declarations
+-- in whose values no function is called, and its functions are placed.
 pub record BeginsWith (begin : ℕ → EntryPoint) (t : Ty) (table : EngineTable) (u : TypedUnit) (x : Site) : Type 0 where
   pub entry : ℕ
   pub begins : u.entry ≡ begin entry
@@ -38,7 +39,8 @@ pub record BeginsWith (begin : ℕ → EntryPoint) (t : Ty) (table : EngineTable
   pub made : AreFineNames table [] (making x) Void 0 [] (global_names u.items)
   pub placed : (f : ℕ) (fn : Function) → slice_get (functions u.items) f ≡ Some fn → IsPlaced table (functions u.items) x f fn
 
--- Where the last RETN of a start without globals stands: behind the call of the entry function, and for a condition behind that of its result.
+-- Where the last RETN of a start without globals stands: behind the call of the entry function, and
+-- for a condition behind that of its result.
 abbrev pub main_return : ℕ
 main_return = 19
 
@@ -57,9 +59,9 @@ EndsAlike R v p = (w : World Saved) × Alike R w p.world
 abbrev pub end_place : (R : Saved → Deferred → Type 0) → Site → ℕ → (v : List Value) (p : Progress) → EndsAlike R v p → Machine
 end_place R x place v p h = at x place [] [] [] h.0
 
--- From its first instruction on, with an empty stack, the code of such a script does what its start means, up to its last RETN, for which a
--- credit is left: as any object, and whatever scripts wait for it. It asks of scripts that are run from a first value of a global what it asks
--- of others.
+-- From its first instruction on, with an empty stack, the code of such a script does what its start
+-- means, up to its last RETN, for which a credit is left: as any object, and whatever scripts wait
+-- for it. It asks of scripts that are run from a first value of a global what it asks of others.
 abbrev pub StartsRun : (ℕ → EntryPoint) → Ty → ℕ → Type 0
 StartsRun begin t last =
     (s : Setting) (host : MachineHost) (start : Option Starter) (script self : ℕ) (waiting : List Frame) (l : Listed) (p : Progress) (w : World Saved)

@@ -41,15 +41,17 @@ pub record AreExits (out : Exits) (breaks continues : Exit) : Type 0 where
   pub continue_label : out.continue_to ≡ continues.label
   pub continue_depth : out.continue_depth ≡ continues.depth
 
--- What is kept where a statement is left: at its end what is in sight behind it, at `break` and `continue` what is in sight where they
--- lead, and at `return` the globals and the function's result.
+-- What is kept where a statement is left: at its end what is in sight behind it, at `break` and
+-- `continue` what is in sight where they lead, and at `return` the globals and the function's
+-- result.
 abbrev pub FlowHolds : (Saved → Deferred → Type 0) → Site → Ty → Exit → Exit → List ℕ → ℕ → Flow → Progress → Type 0
 FlowHolds R x result breaks continues scope size Next p = Kept R x scope size p.globals p.locals p.world
 FlowHolds R x result breaks continues scope size Broke p = (breaks.allowed ≡ true) × Kept R x breaks.scope breaks.depth p.globals p.locals p.world
 FlowHolds R x result breaks continues scope size Continued p = (continues.allowed ≡ true) × Kept R x continues.scope continues.depth p.globals p.locals p.world
 FlowHolds R x result breaks continues scope size (Returned v) p = (value_types v ≡ cell_types x.layout.structs result) × Kept R x [] 0 p.globals p.locals p.world
 
--- The cells of a function's result lie right beneath its frame, and over other cells; `return` writes them and goes back.
+-- The cells of a function's result lie right beneath its frame, and over other cells; `return`
+-- writes them and goes back.
 abbrev pub flow_place : (R : Saved → Deferred → Type 0) (x : Site) (result : Ty) (breaks continues : Exit) (scope : List ℕ) (size : ℕ) → ℕ → List Value → List Cell → ℕ → List ℕ → List Saved
     → (f : Flow) (p : Progress) → FlowHolds R x result breaks continues scope size f p → Machine
 flow_place R x result breaks continues scope size next room lower back calls pending Next p h = spot_at R x next [] (pushed room lower) (back ∷ calls) pending h

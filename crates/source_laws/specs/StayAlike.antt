@@ -6,8 +6,8 @@ use Rattle.world_rules.specs.AlikeLaws.{NewIsAlike, BeginKeepsAlike, TurnKeepsAl
 use Rattle.source_meaning.specs.Scripts.{Setting}
 use Rattle.source_laws.specs.Carries.{Carries}
 
--- The worlds of a plan's beginning are alike. Worlds that are alike begin entries that are alike, have told the same lines, and stay alike
--- through what entries do.
+-- The worlds of a plan's beginning are alike. Worlds that are alike begin entries that are alike,
+-- have told the same lines, and stay alike through what entries do.
 pub record EntriesStayAlike {X Y : Type 0} (R : X → Y → Type 0) : Type 0 where
   pub new : NewIsAlike R
   pub begins : BeginKeepsAlike R

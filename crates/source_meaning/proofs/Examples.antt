@@ -66,7 +66,8 @@ captured_global_printed : (area : PlainArea) → printed (alone captured_global 
 unfolding bind spend engine header_table header_routines trace_text line_text digits escaped spelling value_text
 captured_global_printed area = refl
 
--- int g; void F() { g=g+1; PrintInteger(g); } void main() { DelayCommand(10, F()); DelayCommand(20, F()); }
+-- int g; void F() { g=g+1; PrintInteger(g); } void main() { DelayCommand(10, F()); DelayCommand(20,
+-- F()); }
 abbrev captured_apart : TypedUnit
 captured_apart = unit_of (
     global_of 0 None
@@ -77,7 +78,8 @@ captured_apart_printed : (area : PlainArea) → printed (alone captured_apart 20
 unfolding bind spend engine header_table header_routines trace_text line_text digits escaped spelling value_text
 captured_apart_printed area = refl
 
--- void main() { int n=0; AssignCommand(GetObjectByTag(IntToString(n++)), PrintInteger(n)); PrintInteger(n); }
+-- void main() { int n=0; AssignCommand(GetObjectByTag(IntToString(n++)), PrintInteger(n));
+-- PrintInteger(n); }
 abbrev last_first : TypedUnit
 last_first = only_main (
     declare 0 t.Int (Some (int 0))
@@ -90,7 +92,8 @@ last_first_printed : (area : PlainArea) → printed (played (listed "p" last_fir
 unfolding bind spend engine header_table header_routines trace_text line_text digits escaped spelling value_text
 last_first_printed area = refl
 
--- int f() { DelayCommand(1, PrintString("inner")); return 5; } void main() { DelayCommand(f(), PrintString("outer")); }
+-- int f() { DelayCommand(1, PrintString("inner")); return 5; } void main() { DelayCommand(f(),
+-- PrintString("outer")); }
 abbrev nested : TypedUnit
 nested = unit_of (
     function t.Int [] (does (delay (int 1) (print_string "inner")) ∷ s.return_from 0 (Some (int 5)) ∷ [])
@@ -127,7 +130,8 @@ broken_off_printed : (area : PlainArea) → printed (alone broken_off 20 area) �
 unfolding bind spend engine header_table header_routines trace_text line_text digits escaped spelling value_text
 broken_off_printed area = refl
 
--- void main() { switch (2) { case 1: PrintInteger(1); case 2: PrintInteger(2); default: PrintInteger(3); } }
+-- void main() { switch (2) { case 1: PrintInteger(1); case 2: PrintInteger(2); default:
+-- PrintInteger(3); } }
 abbrev falling : TypedUnit
 falling = only_main (
     s.switch 0 (int 2) (stmts (
@@ -153,7 +157,8 @@ divided_first_steps : (area : PlainArea) → (alone divided_first 20 area).last.
 unfolding bind spend engine header_table header_routines
 divided_first_steps area = refl
 
--- int f(int a, int b) { if (a==0) return b; return f(a-1,b+1); } void main() { PrintInteger(f(3,4)); }
+-- int f(int a, int b) { if (a==0) return b; return f(a-1,b+1); } void main() {
+-- PrintInteger(f(3,4)); }
 abbrev recursive : TypedUnit
 recursive = unit_of (
     function t.Int (param 0 t.Int ∷ param 1 t.Int ∷ []) (
@@ -189,7 +194,8 @@ counted_printed : (area : PlainArea) → printed (alone counted 30 area) ≡ cod
 unfolding bind spend engine header_table header_routines trace_text line_text digits escaped spelling value_text
 counted_printed area = refl
 
--- struct P { int x; int y; }; struct P Make(int a) { struct P p; p.x=a; p.y=a+1; return p; } void main() { PrintInteger(Make(4).y); }
+-- struct P { int x; int y; }; struct P Make(int a) { struct P p; p.x=a; p.y=a+1; return p; } void
+-- main() { PrintInteger(Make(4).y); }
 abbrev pair_of : TypedUnit
 pair_of = unit_of (
     unit.structure 0 (codes "P") (

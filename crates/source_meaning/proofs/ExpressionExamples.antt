@@ -1,5 +1,6 @@
--- What single expressions give, change and take: each operator, both sides of `&&` and `||`, every assignment. The expected values and counts are
--- worked out by hand. The local `n` holds 7 before each of them, the global `g` 40, and ten steps may be taken.
+-- What single expressions give, change and take: each operator, both sides of `&&` and `||`, every
+-- assignment. The expected values and counts are worked out by hand. The local `n` holds 7 before
+-- each of them, the global `g` 40, and ten steps may be taken.
 use Rattle.std.proofs.Common.{◌≡◌, refl, ℕ, pos, negsuc, List, [], ◌∷◌, ◌++◌, ◌-◌}
 use Rattle.std.specs.Prelude.{codes}
 use Rattle.std.specs.Fmt.{digits}
@@ -98,7 +99,8 @@ divisions w = (refl, refl, refl)
 
 -- ---- `&&` and `||`
 
--- What decides alone leaves the other side out, its division, its change and its steps; else the other side decides. Both give 0 or 1.
+-- What decides alone leaves the other side out, its division, its change and its steps; else the
+-- other side decides. Both give 0 or 1.
 ands : (w : World Deferred) → (told w (two bin.And (int 0) zero_divided) ≡ (Int (pos 0) ∷ Int (pos 7) ∷ Int (pos 40) ∷ [], 2))
     × (told w (two bin.And (int 0) (e.postfix t.Int post.Increment n)) ≡ (Int (pos 0) ∷ Int (pos 7) ∷ Int (pos 40) ∷ [], 2))
     × (told w (two bin.And (int 5) (e.postfix t.Int post.Increment n)) ≡ (Int (pos 1) ∷ Int (pos 8) ∷ Int (pos 40) ∷ [], 3))
@@ -124,7 +126,8 @@ steps_in_place : (w : World Deferred) → (told w (one pre.Increment n) ≡ (Int
 unfolding bind spend
 steps_in_place w = (refl, refl, refl, refl)
 
--- `=` has its value and itself; every other assignment reads its place first, before its value changes it
+-- `=` has its value and itself; every other assignment reads its place first, before its value
+-- changes it
 assignments : (w : World Deferred) → (told w (assign asg.Set n g) ≡ (Int (pos 40) ∷ Int (pos 40) ∷ Int (pos 40) ∷ [], 2))
     × (told w (assign asg.Add g (int 5)) ≡ (Int (pos 45) ∷ Int (pos 7) ∷ Int (pos 45) ∷ [], 3))
     × (told w (assign asg.Subtract g n) ≡ (Int (pos 33) ∷ Int (pos 7) ∷ Int (pos 33) ∷ [], 3))
@@ -147,7 +150,8 @@ combined_assignments w = (refl, refl, refl, refl, refl, refl, refl, refl, refl)
 
 -- ---- calls
 
--- the argument and the call; the name, the default and the call; the delay, the captured command, whose own value is never asked for, and the call
+-- the argument and the call; the name, the default and the call; the delay, the captured command,
+-- whose own value is never asked for, and the call
 calls : (w : World Deferred) → (told w (print n) ≡ (Int (pos 7) ∷ Int (pos 40) ∷ [], 2))
     × (told w (e.call t.Text (Engine 29) (args (int 3 ∷ [])) []) ≡ (Text (codes "3") ∷ Int (pos 7) ∷ Int (pos 40) ∷ [], 2))
     × (told w (delay (int 5) (print zero_divided)) ≡ (Int (pos 7) ∷ Int (pos 40) ∷ [], 3))

@@ -1,5 +1,5 @@
--- What small scripts with each kind of statement print, and the steps of each kind. Each script stands above its tree; what is expected was
--- worked out by hand.
+-- What small scripts with each kind of statement print, and the steps of each kind. Each script
+-- stands above its tree; what is expected was worked out by hand.
 use Rattle.std.proofs.Common.{◌≡◌, refl, ℕ, pos, [], ◌∷◌, ◌-◌, None, Some}
 use Rattle.std.specs.Prelude.{codes}
 use Rattle.std.specs.Fmt.{digits}
@@ -47,7 +47,8 @@ continued_for_printed : (area : PlainArea) → printed (alone continued_for 60 a
 unfolding bind spend engine header_table header_routines trace_text line_text digits escaped spelling value_text value_eq
 continued_for_printed area = refl
 
--- for (i=0; i<3; i++) { switch (i) { case 1: continue; default: PrintInteger(i); } PrintInteger(9); }
+-- for (i=0; i<3; i++) { switch (i) { case 1: continue; default: PrintInteger(i); } PrintInteger(9);
+-- }
 abbrev continued_switch : TypedUnit
 continued_switch = only_main (declare 0 t.Int None ∷ three_times (s.block 0 (stmts (
     s.switch 0 (local 0) (stmts (s.case_label 0 (c.Int (pos 1)) ∷ s.continue_on 0 ∷ s.default_label 0 ∷ does (print (local 0)) ∷ []))
@@ -58,7 +59,8 @@ continued_switch_printed : (area : PlainArea) → printed (alone continued_switc
 unfolding bind spend engine header_table header_routines trace_text line_text digits escaped spelling value_text value_eq
 continued_switch_printed area = refl
 
--- for (i=0; i<3; i++) { switch (i) { case 0: PrintInteger(0); break; case 1: PrintInteger(1); } PrintInteger(9); if (i==1) break; }
+-- for (i=0; i<3; i++) { switch (i) { case 0: PrintInteger(0); break; case 1: PrintInteger(1); }
+-- PrintInteger(9); if (i==1) break; }
 abbrev broken_switch : TypedUnit
 broken_switch = only_main (declare 0 t.Int None ∷ three_times (s.block 0 (stmts (
     s.switch 0 (local 0) (stmts (
@@ -103,7 +105,8 @@ captured_turns_printed area = refl
 abbrev pair : ℕ → TypedExpr
 pair i = e.name (t.Struct 0) (Local i)
 
--- struct P { int x; string y; }; void main() { struct P p; struct P q; p.x=1; PrintInteger(p==q); q.x=1; PrintInteger(p==q); PrintInteger(p!=q); q=p; }
+-- struct P { int x; string y; }; void main() { struct P p; struct P q; p.x=1; PrintInteger(p==q);
+-- q.x=1; PrintInteger(p==q); PrintInteger(p!=q); q=p; }
 abbrev compared : TypedUnit
 compared = unit_of (
     unit.structure 0 (codes "P") (
@@ -148,7 +151,8 @@ plain_steps : (w : World Deferred) → (steps w (declare 1 t.Int None) ≡ 1) ×
 unfolding bind spend
 plain_steps w = (refl, refl, refl, refl, refl, refl, refl, refl)
 
--- `while (0) ;`: the literal and the test; `do ; while (0);` likewise; `for (;;) break;`: a missing test is a literal and a test
+-- `while (0) ;`: the literal and the test; `do ; while (0);` likewise; `for (;;) break;`: a missing
+-- test is a literal and a test
 loop_steps : (w : World Deferred) → (steps w (s.while_loop 0 (int 0) (s.empty 0)) ≡ 2) × (steps w (s.do_loop 0 (s.empty 0) (int 0)) ≡ 2)
     × (steps w (s.for_loop 0 None None None (s.break_off 0)) ≡ 3) × (steps w (s.if_only 0 (int 0) (s.break_off 0)) ≡ 1)
 unfolding bind spend
@@ -160,7 +164,8 @@ switch_steps : (w : World Deferred)
 unfolding bind spend value_eq
 switch_steps w = refl
 
--- int f() { return 5; } void main() { f(); }: the start, the result's cell, the call that is begun, the literal and the `return`
+-- int f() { return 5; } void main() { f(); }: the start, the result's cell, the call that is begun,
+-- the literal and the `return`
 abbrev calling : TypedUnit
 calling = unit_of (function t.Int [] (s.return_from 0 (Some (int 5)) ∷ []) ∷ function t.Void [] (does (function_call t.Int 0 []) ∷ []) ∷ []) (Main 1)
 

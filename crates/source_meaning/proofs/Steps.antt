@@ -30,7 +30,8 @@ use Rattle.source_meaning.specs.Laws.{with_more, SpendsSteps, EntriesSpendSteps}
 
 -- ---- two evaluations, of which the second one may take m steps more
 
--- the second one ends as the first one does, which has at most n steps left; and where that is out of steps, none is left
+-- the second one ends as the first one does, which has at most n steps left; and where that is out
+-- of steps, none is left
 abbrev Keeps : {A : Type 0} → ℕ → ℕ → Outcome A → Outcome A → Type 0
 Keeps m n (Gives a q) r = (r ≡ Gives a (with_more m q)) × (q.left ≤ n)
 Keeps m n (Divides o q) r = r ≡ Divides o (with_more m q)

@@ -14,8 +14,8 @@ no_variables n = []
 abbrev pub with_variable : Variables → ℕ → List Value → Variables
 with_variable variables n parts = λ m. if m == n then parts else variables m
 
--- An action that was deferred: the call, as it stands in the source of its script, the variables of the frame that were in sight there, and the
--- values that the variables had then.
+-- An action that was deferred: the call, as it stands in the source of its script, the variables of
+-- the frame that were in sight there, and the values that the variables had then.
 pub record Deferred : Type 0 where
   -- the script's number
   pub script : ℕ
@@ -25,7 +25,8 @@ pub record Deferred : Type 0 where
   pub globals : Variables
   pub locals : Variables
 
--- How far an evaluation has come: how many steps it may still take, the values of the variables, and the world.
+-- How far an evaluation has come: how many steps it may still take, the values of the variables,
+-- and the world.
 pub record Progress : Type 0 where
   pub left : ℕ
   pub globals : Variables

@@ -1,5 +1,5 @@
--- What an expression means in a running script: its value, with the steps that it takes and what it changes. Operands are evaluated left
--- to right, arguments last to first.
+-- What an expression means in a running script: its value, with the steps that it takes and what it
+-- changes. Operands are evaluated left to right, arguments last to first.
 use Rattle.std.specs.Prelude.{ℕ, ◌==◌, Bool, true, false, List, [], ◌∷◌, Option, None, Some, slice_get}
 use Rattle.std.specs.List.{flat_map}
 use Rattle.nss_tree.specs.declared.operators.PrefixOperator.{PrefixOperator}
@@ -27,8 +27,9 @@ use Rattle.source_meaning.specs.Values.{constant_value, start_part, parts_of, is
 use Rattle.source_meaning.specs.Evaluation.{Deferred, Progress, Outcome, Gives, Divides, bind, spend, chosen}
 use Rattle.source_meaning.specs.Spots.{Spot, further, spot, read_at, written_at}
 
--- What a running script stands in: header and tables, the structs of its unit, its number among the scripts, the object that it runs as,
--- and what comes of running another script, by its name and the object that it is to run as.
+-- What a running script stands in: header and tables, the structs of its unit, its number among the
+-- scripts, the object that it runs as, and what comes of running another script, by its name and
+-- the object that it is to run as.
 pub record Running : Type 0 where
   pub table : EngineTable
   pub tables : CellLookup
@@ -95,7 +96,8 @@ abbrev pub made : List Ty → Progress → Outcome (List Value)
 made [] p = Gives [] p
 made (t ∷ ts) p = spend p (λ q. bind (made ts q) (λ parts r. Gives (start_part t ∷ parts) r))
 
--- The call is begun, which is a step; what it gives is its value, and the variables of the caller are as before.
+-- The call is begun, which is a step; what it gives is its value, and the variables of the caller
+-- are as before.
 abbrev pub unit_called : Caller → ℕ → Arguments → Progress → Outcome (List Value)
 unit_called caller f a p = spend p (λ q. bind (caller f a.values q) (λ parts r. Gives parts (record r { locals = q.locals })))
 

@@ -24,8 +24,8 @@ struct_fields (_ ∷ is) = struct_fields is
 abbrev pub fields_cells : Structs → List Ty → List Ty
 fields_cells structs ts = flat_map (cell_types structs) ts
 
--- What stands behind so many cells in a value of the first type is one of the fields of its struct, of the second type: just the cells of the
--- fields in front of it stand before.
+-- What stands behind so many cells in a value of the first type is one of the fields of its struct,
+-- of the second type: just the cells of the fields in front of it stand before.
 pub record IsMember (structs : Structs) (fields : List (List Ty)) (whole part : Ty) (before : ℕ) : Type 0 where
   pub number : ℕ
   pub of : whole ≡ Struct number

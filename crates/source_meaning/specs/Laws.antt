@@ -13,8 +13,8 @@ use Rattle.source_meaning.specs.Scripts.{Setting, run_script, run_deferred}
 abbrev pub with_more : ℕ → Progress → Progress
 with_more m p = record p { left = m + p.left }
 
--- An evaluation, by the steps that it may take, is out of them only where none is left. Where it ends, it ends equally with more steps, and these
--- are left besides.
+-- An evaluation, by the steps that it may take, is out of them only where none is left. Where it
+-- ends, it ends equally with more steps, and these are left besides.
 pub record SpendsSteps (run : ℕ → Outcome (List Value)) : Type 0 where
   pub none_left : (n : ℕ) (p : Progress) → run n ≡ OutOfSteps p → p.left ≡ 0
   pub given : (n m : ℕ) (parts : List Value) (p : Progress) → run n ≡ Gives parts p → run (m + n) ≡ Gives parts (with_more m p)
@@ -28,8 +28,9 @@ EntriesSpendSteps =
 
 -- ---- fields
 
--- A struct's value is that of its fields in a row. What is read of it behind the parts of the fields in front of one is that field's value, and a
--- value that is written there takes the field's place, and no other.
+-- A struct's value is that of its fields in a row. What is read of it behind the parts of the
+-- fields in front of one is that field's value, and a value that is written there takes the field's
+-- place, and no other.
 abbrev pub FieldsAreParts : Type 0
 FieldsAreParts =
     (front : List (List Value)) (field : List Value) (back : List (List Value))

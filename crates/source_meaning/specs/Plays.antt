@@ -20,6 +20,7 @@ runner s n = record {
   stored = λ d self world. run_of n (run_deferred s n d self world);
 }
 
--- the play of source texts from a world on: at most n steps in an entry, so many entries, and those that are due by this time
+-- the play of source texts from a world on: at most n steps in an entry, so many entries, and those
+-- that are due by this time
 abbrev pub source_play : Setting → ℕ → ℕ → ℕ → World Deferred → Played Deferred
 source_play s n entries until world = play (runner s n) entries until world

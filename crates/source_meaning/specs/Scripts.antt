@@ -1,4 +1,5 @@
--- What a script means: its functions, its start, a deferred call of it, and how it runs other scripts.
+-- What a script means: its functions, its start, a deferred call of it, and how it runs other
+-- scripts.
 use Rattle.std.specs.Prelude.{ℕ, zero, suc, List, [], ◌∷◌, ◌++◌, map, Option, None, Some, slice_get}
 use Rattle.std.specs.Char.{to_ascii_lowercase}
 use Rattle.std.specs.List.{position}
@@ -25,7 +26,8 @@ pub record Listed : Type 0 where
   pub name : List ℕ
   pub unit : TypedUnit
 
--- what all scripts of a play have in common: the header's routines, the tables, and the listed scripts
+-- what all scripts of a play have in common: the header's routines, the tables, and the listed
+-- scripts
 pub record Setting : Type 0 where
   pub table : EngineTable
   pub tables : CellLookup
@@ -136,9 +138,10 @@ begun start None name target p = spend p (λ q. Gives [] (record q { world = no_
 begun None (Some script) name target p = spend p (λ q. Gives [] (record q { world = too_deep target name q.world }))
 begun (Some start) (Some script) name target p = bind (start script target p) (λ parts q. spend (resumed p q) (λ r. Gives [] r))
 
--- What comes of running the script of a name as a target, in a script of an object: nothing of an empty name, nor of a target that it may
--- not run a script on; a line where the script isn't listed, or as many scripts wait as may; and else the script runs at once, in the
--- same world and with the same steps. The call has its value when that script has ended.
+-- What comes of running the script of a name as a target, in a script of an object: nothing of an
+-- empty name, nor of a target that it may not run a script on; a line where the script isn't
+-- listed, or as many scripts wait as may; and else the script runs at once, in the same world and
+-- with the same steps. The call has its value when that script has ended.
 abbrev pub executing : Setting → Option Starter → ℕ → List ℕ → ℕ → Progress → Outcome (List Value)
 executing s start self [] target p = spend p (λ q. Gives [] q)
 executing s start self (b ∷ name) target p =
@@ -163,7 +166,8 @@ next_starter s (suc room) = Some (started s room)
 abbrev pub first_starter : Setting → Option Starter
 first_starter s = next_starter s depth_limit
 
--- A deferred call is evaluated in its script, with the names in sight and the variables as they were captured.
+-- A deferred call is evaluated in its script, with the names in sight and the variables as they
+-- were captured.
 abbrev pub call_evaluated : Running → Deferred → List Function → Progress → Outcome (List Value)
 call_evaluated c d fs p = eval c (calling c fs p) d.sight d.call p
 

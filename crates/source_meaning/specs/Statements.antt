@@ -1,4 +1,5 @@
--- What statements mean in a running script: how they are left, with the steps that they take and what they change.
+-- What statements mean in a running script: how they are left, with the steps that they take and
+-- what they change.
 use Rattle.std.specs.Prelude.{ℕ, zero, suc, pos, List, [], ◌∷◌, Option, None, Some}
 use Rattle.nss_tree.specs.Statements.{block, empty, expression, if_only, if_else, while_loop, do_loop, for_loop, switch, break_off, continue_on, return_from, declaration, case_label, default_label, no_stmt, more_stmts}
 use Rattle.nwq_value.specs.declared.value.Ty.{Ty}
@@ -41,8 +42,8 @@ on_switch Broke = Next
 on_switch Continued = Continued
 on_switch (Returned parts) = Returned parts
 
--- A loop: each test that is made is a step; where it holds, the body follows, then the third part, and the next turn. At most so many
--- turns are made.
+-- A loop: each test that is made is a step; where it holds, the body follows, then the third part,
+-- and the next turn. At most so many turns are made.
 abbrev pub turns : ℕ → (Progress → Outcome (List Value)) → (Progress → Outcome Flow) → (Progress → Outcome (List Value)) → Progress → Outcome Flow
 turns zero test body third p = OutOfSteps p
 turns (suc n) test body third p = bind (test p) (λ v q. spend q (λ r. chosen (is_true v)
@@ -110,8 +111,8 @@ module _ (c : Running) (caller : Caller) where
     execs sight no_stmt p = Gives Next p
     execs sight (more_stmts x xs) p = bind (exec sight x p) (λ f q. on_next f (λ r. execs (after_stmt x sight) xs r) q)
 
-    -- The cases of a switch are tested in order, each a step; the statements from the first one that fits on are executed. Where none
-    -- fits, it goes on otherwise.
+    -- The cases of a switch are tested in order, each a step; the statements from the first one
+    -- that fits on are executed. Where none fits, it goes on otherwise.
     pub selected : List ℕ → List Value → (Progress → Outcome Flow) → TypedStmts → Progress → Outcome Flow
     selected sight v otherwise no_stmt p = otherwise p
     selected sight v otherwise (more_stmts (case_label m k) xs) p = spend p (λ q.

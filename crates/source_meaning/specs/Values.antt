@@ -1,5 +1,5 @@
--- Values of expressions: lists of parts, the values of one cell. A struct's parts are those of its fields in order; every other value
--- has one part, and a call that gives nothing has none.
+-- Values of expressions: lists of parts, the values of one cell. A struct's parts are those of its
+-- fields in order; every other value has one part, and a call that gives nothing has none.
 use Rattle.std.specs.Prelude.{ℕ, ℤ, pos, ◌+◌, Bool, false, not, ◌&&◌, ◌||◌, List, [], ◌∷◌, ◌++◌, length, map, take, drop, Option, None, Some}
 use Rattle.nss_tree.specs.declared.operators.PrefixOperator.{PrefixOperator}
 use Rattle.nss_tree.specs.declared.operators.PrefixOperator.TheVariants as pre
@@ -77,7 +77,8 @@ added _ _ = []
 abbrev pub test_value : Bool → List Value
 test_value b = Int (as_int b) ∷ []
 
--- what an operator gives of two values; sums, differences and products wrap, and division truncates towards 0
+-- what an operator gives of two values; sums, differences and products wrap, and division truncates
+-- towards 0
 abbrev pub operate : BinaryOperator → List Value → List Value → List Value
 operate bin.Or v w = test_value (is_true v || is_true w)
 operate bin.And v w = test_value (is_true v && is_true w)

@@ -1,4 +1,5 @@
--- Where captured states resume: a table keeps meeting the rules without the stored states that no STORE_STATE of its code stores.
+-- Where captured states resume: a table keeps meeting the rules without the stored states that no
+-- STORE_STATE of its code stores.
 use Rattle.std.proofs.Common.{arith, ◌≡◌, ◌+◌, ◌*◌, ℕ, zero, suc, List, [], ◌∷◌, ◌++◌, length, map, reverse, Bool, true, false, Option, None, Some, sym, subst, ◌∙◌, ap, refl}
 use Rattle.std.specs.Prelude.{◌==◌, ◌&&◌, ◌%◌, ◌/◌, if◌then◌else◌}
 use Rattle.std.specs.Option.{option_and_then, option_map}

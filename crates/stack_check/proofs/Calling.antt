@@ -37,7 +37,8 @@ none_some a h = absurd cc
 
 -- ---- what a table says of a call
 
--- The caller's shape, in a table: what the routine takes there is on top of it, with these slots beneath.
+-- The caller's shape, in a table: what the routine takes there is on top of it, with these slots
+-- beneath.
 pub record CallFits (table : ShapeTable) (entry : Entry) (target next : ℕ) (shape : TopShape) (x y : List Slot) : Type 0 where
   pub own : TopShape
   pub is : shape ≡ deeper x y own

@@ -1,4 +1,5 @@
--- What an inference keeps stays true when the heap grows, a row or a trial is added, and what a routine gives is found.
+-- What an inference keeps stays true when the heap grows, a row or a trial is added, and what a
+-- routine gives is found.
 use Rattle.std.proofs.Common.{arith, ◌≡◌, ◌≢◌, ◌≤◌, ◌<◌, ◌+◌, ℕ, zero, suc, List, [], ◌∷◌, ◌++◌, length, Option, None, Some, slice_get, slice_set, inl, inr, take, ◌-◌, ◌⊎◌, sym, subst, ◌∙◌, ap, refl}
 use Rattle.std.specs.Prelude.{IfSome, get_or}
 use Rattle.std.specs.Option.{option_map}

@@ -54,7 +54,8 @@ at_two : (table : ShapeTable) (entry : Entry) (a b : ℕ) (shape : TopShape) →
 at_two table entry a b shape h t (inl e) = ap (table.at entry) e ∙ h.0
 at_two table entry a b shape h t (inr e) = ap (table.at entry) e ∙ h.1
 
--- where the table's shape after an instruction stands, it stands at each place to which the instruction leads
+-- where the table's shape after an instruction stands, it stands at each place to which the
+-- instruction leads
 leads_led : (table : ShapeTable) (entry : Entry) (place : ℕ) (op : PlainOp) (after : TopShape) → Leads table entry place op after → (t : ℕ)
     → IsLed (leads_of place (next_place place op) op) t → table.at entry t ≡ Some after
 unfolding leads_of

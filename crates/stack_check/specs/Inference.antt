@@ -1,4 +1,5 @@
--- What an inference keeps true: what it has found is there in every table that meets the rules, perhaps with fewer slots beneath.
+-- What an inference keeps true: what it has found is there in every table that meets the rules,
+-- perhaps with fewer slots beneath.
 use Rattle.std.specs.Prelude.{◌≡◌, ◌≤◌, ◌<◌, ◌+◌, ◌-◌, ◌^◌, ℕ, ℤ, List, [], ◌++◌, ◌∷◌, length, take, min, Bool, true, false, Option, None, Some, IfSome, slice_get, ◌⊎◌}
 use Rattle.nwq_value.specs.Engine.{EngineTable}
 use Rattle.ncs_code.specs.Plain.{PlainOp}
@@ -102,7 +103,8 @@ pub record IsLonger (table : ShapeTable) (target : ℕ) (callee : Callee) (x y :
   pub under : callee.under ≡ own.under ++ y
   pub given : GivenFits callee.given own.given x
 
--- What lies beneath the table's slots in all shapes of a trial: something for a called routine alone.
+-- What lies beneath the table's slots in all shapes of a trial: something for a called routine
+-- alone.
 abbrev pub Beyond : ShapeTable → Entry → Callee → List Slot → List Slot → Type 0
 Beyond table Start callee x y = (x ≡ []) × (y ≡ [])
 Beyond table (Called target) callee x y = IsLonger table target callee x y
@@ -234,7 +236,8 @@ pub record IsOverIn (heap : Heap) (facts : Facts) (number : ℕ) (shape : TopSha
   pub has : slice_get facts.trials number ≡ Some trial
   pub over : IsOver heap trial shape
 
--- The shape at a place of a trial, on which the instruction there has a rule, and the shape after it.
+-- The shape at a place of a trial, on which the instruction there has a rule, and the shape after
+-- it.
 pub record IsStep (header : EngineTable) (code : List PlainOp) (heap : Heap) (facts : Facts) (number place : ℕ) (held : Held) (op : PlainOp) (after : Held) : Type 0 where
   pub row : row_in facts.rows number place ≡ Some held
   pub stands : op_at code place ≡ Some op
@@ -243,7 +246,8 @@ pub record IsStep (header : EngineTable) (code : List PlainOp) (heap : Heap) (fa
   pub inside : IsIn heap after
   pub over : IsOverIn heap facts number (shape_of heap after)
 
--- The instruction at the place obeys the rules there, on the shape without what the trial hasn't looked at.
+-- The instruction at the place obeys the rules there, on the shape without what the trial hasn't
+-- looked at.
 pub record Sound (header : EngineTable) (code : List PlainOp) (heap : Heap) (facts : Facts) (number place : ℕ) (held : Held) : Type 0 where
   pub by : (entry : Entry) → current facts entry ≡ Some number → (trial : Trial) → slice_get facts.trials number ≡ Some trial
       → (over : IsOver heap trial (shape_of heap held)) → IsSound header code (table_of heap facts) entry place over.own
@@ -309,7 +313,8 @@ pub record IsThere (s : TopShape) (reach : Reach) : Type 0 where
   pub cells : reach.cells ≤ length s.cells
   pub under : reach.under ≤ length s.under
 
--- what is not looked at, where all is that lies above so many slots of the cells and of the list beneath BP
+-- what is not looked at, where all is that lies above so many slots of the cells and of the list
+-- beneath BP
 abbrev pub narrowed : Unseen → Bool → ℕ → ℕ → Unseen
 narrowed unseen true cells under = record { cells = min unseen.cells cells; under = min unseen.under under }
 narrowed unseen false cells under = record { cells = min (min unseen.cells cells) under; under = unseen.under }

@@ -143,7 +143,8 @@ store_passes = (
   },
 )
 
--- ---- a recursion with a result: RSADD of an int, JSR, MOVSP, RETN; the routine copies the int, returns if it is 0, or calls itself
+-- ---- a recursion with a result: RSADD of an int, JSR, MOVSP, RETN; the routine copies the int,
+-- returns if it is 0, or calls itself
 
 abbrev ints : List Slot
 ints = Of Int ∷ []

@@ -57,7 +57,8 @@ pub record Lower : Type 0 where
   pub call_pops : CallsPopValues
   pub there : ValuesAreThere
 
--- an engine call of a routine with arguments that fit, behind which the frame is safe with each answer
+-- an engine call of a routine with arguments that fit, behind which the frame is safe with each
+-- answer
 pub record AsksSafely (header : EngineTable) (scripts : List Script) (tables : Tables) (number : ℕ) (values : List Value) (action : Option Saved) (f : Frame) : Type 0 where
   pub routine : Routine
   pub listed : slice_get header.routines number ≡ Some routine

@@ -43,8 +43,8 @@ HasType Void (Some v) = ⊥
 HasType t None = ⊥
 HasType t (Some v) = type_of v ≡ t
 
--- The worlds to which scripts can lead from one: by calls of routines that can be called, whose arguments have their types and whose action fits, and by the
--- lines of scripts that don't run.
+-- The worlds to which scripts can lead from one: by calls of routines that can be called, whose
+-- arguments have their types and whose action fits, and by the lines of scripts that don't run.
 pub data IsReached {W : Type 0} (host : Host W) (tables : Tables) (first : W) : W → Type 0 where
   Unchanged : IsReached host tables first first
   ByCall : (number caller : ℕ) (r : Routine) (values : List Value) (action : Option Saved) (world : W) → slice_get host.table.routines number ≡ Some r
@@ -53,7 +53,8 @@ pub data IsReached {W : Type 0} (host : Host W) (tables : Tables) (first : W) : 
   ByMissing : (target : ℕ) (name : List ℕ) (world : W) → IsReached host tables first world → IsReached host tables first (host.no_script target name world)
   ByDepth : (target : ℕ) (name : List ℕ) (world : W) → IsReached host tables first world → IsReached host tables first (host.too_deep target name world)
 
--- Every script is well stacked, and in each world that is reached the answer of a routine that can be called has its result's type.
+-- Every script is well stacked, and in each world that is reached the answer of a routine that can
+-- be called has its result's type.
 pub record IsWellStackedHost {W : Type 0} (host : Host W) (tables : Tables) (first : W) : Type 0 where
   pub scripts : AllMeet host.table host.scripts tables
   pub execute : TypesExecuteScript host.table
@@ -86,7 +87,8 @@ abbrev pub RunsSafely : Type 0 → Type 0
 RunsSafely W = (host : Host W) (tables : Tables) (first : W) (limit : ℕ) (s : State W) → IsWellStackedHost host tables first
     → IsSafe host.scripts tables (IsReached host tables first) s → IsSoundRun (IsReached host tables first) (run host limit s)
 
--- An entry that begins with a listed script, and one that begins with a state that fits, whatever ran before.
+-- An entry that begins with a listed script, and one that begins with a state that fits, whatever
+-- ran before.
 abbrev pub ScriptsAreSound : Type 0 → Type 0
 ScriptsAreSound W = (host : Host W) (tables : Tables) (first : W) (limit number self : ℕ) (world : W) → IsWellStackedHost host tables first
     → IsListed host.scripts number → IsReached host tables first world → IsSoundRun (IsReached host tables first) (run_script host limit number self world)
@@ -101,7 +103,8 @@ StatesAreSound W = (host : Host W) (tables : Tables) (first : W) (limit : ℕ) (
 abbrev pub FittingHoldsValues : Type 0
 FittingHoldsValues = (table : ShapeTable) (saved : Saved) → Fits table saved → HoldsValues saved
 
--- The states that a world keeps, in whatever way they are told from it, are those that engine calls were handed.
+-- The states that a world keeps, in whatever way they are told from it, are those that engine calls
+-- were handed.
 pub record KeepsWhatIsHanded {W : Type 0} (host : Host W) (kept : W → List Saved) : Type 0 where
   pub call : (number caller : ℕ) (values : List Value) (action : Option Saved) (world : W) (saved : Saved)
       → Contains (kept (host.engine number caller values action world).world) saved → Contains (kept world) saved ⊎ (action ≡ Some saved)

@@ -15,13 +15,14 @@ use Rattle.stack_rules.specs.Tables.{Callee, ShapeTable, empty_shape, first_shap
 
 -- ---- calls and returns
 
--- Behind a call the shape is as before, with what the routine gives in the place of what it takes. A routine that never
--- returns needs no shape there.
+-- Behind a call the shape is as before, with what the routine gives in the place of what it takes.
+-- A routine that never returns needs no shape there.
 abbrev pub GoesOn : ShapeTable → Entry → ℕ → TopShape → List Slot → Option (List Slot) → Type 0
 GoesOn table entry next shape rest None = Unit {0}
 GoesOn table entry next shape rest (Some given) = table.at entry next ≡ Some (record shape { cells = given ++ rest })
 
--- JSR: the table knows the routine, whose cells are on top, and whose slots beneath BP are the upper ones there.
+-- JSR: the table knows the routine, whose cells are on top, and whose slots beneath BP are the
+-- upper ones there.
 pub record MayCall (table : ShapeTable) (entry : Entry) (target next : ℕ) (shape : TopShape) : Type 0 where
   pub callee : Callee
   pub known : table.called target ≡ Some callee
@@ -31,7 +32,8 @@ pub record MayCall (table : ShapeTable) (entry : Entry) (target next : ℕ) (sha
   pub under : shape.under ≡ callee.under ++ deeper
   pub goes_on : GoesOn table entry next shape rest callee.given
 
--- RETN in a called routine: the cells are those that it gives, each SAVEBP is ended, and no state is pending.
+-- RETN in a called routine: the cells are those that it gives, each SAVEBP is ended, and no state
+-- is pending.
 pub record MayReturn (table : ShapeTable) (target : ℕ) (shape : TopShape) : Type 0 where
   pub callee : Callee
   pub known : table.called target ≡ Some callee

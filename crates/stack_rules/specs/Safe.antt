@@ -31,22 +31,23 @@ from_base (Keeps bp ∷ os) = Keeps bp ∷ os
 abbrev pub outlines_beneath : ℕ → List Outline → List Outline
 outlines_beneath bp os = drop (length os - bp) os
 
--- These slots are beneath BP, which is no higher than the topmost base: `bases` are the outlines from that base on.
+-- These slots are beneath BP, which is no higher than the topmost base: `bases` are the outlines
+-- from that base on.
 pub record IsUnder (bases : List Outline) (bp : ℕ) (under : List Slot) : Type 0 where
   pub deep : bp ≤ length bases
   pub rest : List Slot
   pub are : outline_slots (outlines_beneath bp bases) ≡ under ++ rest
 
--- Each list that the routine has put aside was beneath the BP that its base keeps. Beneath them is what the routine found:
--- the outlines from the topmost base on, and BP.
+-- Each list that the routine has put aside was beneath the BP that its base keeps. Beneath them is
+-- what the routine found: the outlines from the topmost base on, and BP.
 abbrev pub AreSaved : List (List Slot) → List Outline → ℕ → List Outline → ℕ → Type 0
 AreSaved [] bases bp floor found_bp = (bases ≡ floor) × (bp ≡ found_bp)
 AreSaved (under ∷ saved) [] bp floor found_bp = ⊥
 AreSaved (under ∷ saved) (Typed t ∷ os) bp floor found_bp = ⊥
 AreSaved (under ∷ saved) (Keeps kept ∷ os) bp floor found_bp = IsUnder (from_base os) kept under × AreSaved saved (from_base os) kept floor found_bp
 
--- A shape on a stack with these slots, and with these outlines from the topmost base on: beneath the shape's cells lie those
--- that the routine can't reach.
+-- A shape on a stack with these slots, and with these outlines from the topmost base on: beneath
+-- the shape's cells lie those that the routine can't reach.
 pub record Carries (shape : TopShape) (on_stack : List Slot) (bases : List Outline) (bp : ℕ) (below : List Slot) (floor : List Outline) (found_bp : ℕ) : Type 0 where
   pub cells : on_stack ≡ shape.cells ++ below
   pub under : IsUnder bases bp shape.under
@@ -54,8 +55,9 @@ pub record Carries (shape : TopShape) (on_stack : List Slot) (bases : List Outli
 
 -- ---- callers
 
--- The routine that waits at a place for a called one: once the cells are those that the called one gives, on what that one
--- found, the stack carries the shape at the place. So many states are pending, its own and those of its callers.
+-- The routine that waits at a place for a called one: once the cells are those that the called one
+-- gives, on what that one found, the stack carries the shape at the place. So many states are
+-- pending, its own and those of its callers.
 pub record Waits (table : ShapeTable) (Callers : Entry → List Slot → List Outline → ℕ → ℕ → Type 0) (place : ℕ) (given below : List Slot)
     (floor : List Outline) (found_bp count : ℕ) : Type 0 where
   pub entry : Entry
@@ -69,7 +71,8 @@ pub record Waits (table : ShapeTable) (Callers : Entry → List Slot → List Ou
   pub pending : count ≡ shape.pending + others
   pub callers : Callers entry lower lower_floor lower_bp others
 
--- For each kept place the routine there waits, if the called one returns. Only a called routine has callers.
+-- For each kept place the routine there waits, if the called one returns. Only a called routine has
+-- callers.
 abbrev pub AreWaiting : ShapeTable → List ℕ → Entry → List Slot → List Outline → ℕ → ℕ → Type 0
 AreWaiting table [] Start below floor found_bp count = Unit {0}
 AreWaiting table [] (Called target) below floor found_bp count = ⊥

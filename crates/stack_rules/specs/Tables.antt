@@ -4,15 +4,16 @@ use Rattle.stack_shape.specs.declared.shape.Slot.{Slot}
 use Rattle.stack_shape.specs.declared.shape.Entry.{Entry}
 use Rattle.stack_shape.specs.Stored.{TopShape}
 
--- What is known of a routine that JSR calls: the cells that it may reach, the slots beneath BP that it may reach, and, if it
--- returns, the cells that it leaves in the place of those that it may reach.
+-- What is known of a routine that JSR calls: the cells that it may reach, the slots beneath BP that
+-- it may reach, and, if it returns, the cells that it leaves in the place of those that it may
+-- reach.
 pub record Callee : Type 0 where
   pub taken : List Slot
   pub under : List Slot
   pub given : Option (List Slot)
 
--- A table: the shape at a place, for each way in which control comes to the place's routine; and what is known of the routine
--- that begins at a place.
+-- A table: the shape at a place, for each way in which control comes to the place's routine; and
+-- what is known of the routine that begins at a place.
 pub record ShapeTable : Type 0 where
   pub at : Entry → ℕ → Option TopShape
   pub called : ℕ → Option Callee

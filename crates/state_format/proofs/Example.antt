@@ -1,4 +1,5 @@
--- A worked example, computed: the state of a small play, byte by byte, and three bytes that are none.
+-- A worked example, computed: the state of a small play, byte by byte, and three bytes that are
+-- none.
 use Rattle.std.proofs.Common.{◌≡◌, pos, negsuc, true, [], ◌∷◌, None, Some, refl, lit<}
 use Rattle.state_format.specs.declared.parts.Parts.{Parts}
 use Rattle.state_format.specs.declared.parts.Cell.TheVariants as cell

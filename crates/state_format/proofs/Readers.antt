@@ -9,7 +9,8 @@ use Rattle.state_format.specs.Reading.{Reader, ◌>>=◌, mapped, followed, both
 
 -- ---- lists
 
--- where two lists in a row are two others in a row, the first one ends inside the other first one, or behind it
+-- where two lists in a row are two others in a row, the first one ends inside the other first one,
+-- or behind it
 pub record Inside {X : Type 0} (x y front back : List X) : Type 0 where
   pub middle : List X
   pub whole : x ≡ front ++ middle
@@ -96,8 +97,9 @@ pub record Reaches {A : Type 0} (Has : A → Type 0) (f : A → Fields) (bytes :
   pub begins : bytes ≡ joined front ++ rest
   pub ends : length rest ≡ left
 
--- A reader of values that are laid out by f: what is read stands there; what stands there is read; from bytes that begin with the first fields
--- of a value no less is read than these; and where reading stops, so far the bytes begin as some value does.
+-- A reader of values that are laid out by f: what is read stands there; what stands there is read;
+-- from bytes that begin with the first fields of a value no less is read than these; and where
+-- reading stops, so far the bytes begin as some value does.
 pub record IsReader {A : Type 0} (Has : A → Type 0) (f : A → Fields) (p : Reader A) : Type 0 where
   pub sound : (bytes : List ℕ) (x : A × List ℕ) → AreBytes bytes → p bytes ≡ Ok x → Has x.0 × (bytes ≡ joined (f x.0) ++ x.1)
   pub again : (a : A) (rest : List ℕ) → Has a → p (joined (f a) ++ rest) ≡ Ok (a, rest)

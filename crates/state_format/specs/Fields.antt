@@ -1,4 +1,5 @@
--- How the parts are laid out: fields in a row. Each is a number, a byte, or a blob with its length, and is there whole or not at all.
+-- How the parts are laid out: fields in a row. Each is a number, a byte, or a blob with its length,
+-- and is there whole or not at all.
 use Rattle.std.specs.Prelude.{ℕ, ℤ, Bool, true, false, List, [], ◌∷◌, ◌++◌, length, Option, None, Some}
 use Rattle.std.specs.List.{flat_map}
 use Rattle.std.specs.Int.{w32, cast_unsigned}

@@ -1,4 +1,5 @@
--- Which parts can be written: numbers that their fields hold, bytes, and lists whose count a field holds.
+-- Which parts can be written: numbers that their fields hold, bytes, and lists whose count a field
+-- holds.
 use Rattle.std.specs.Prelude.{◌<◌, ◌^◌, ℕ, ℤ, List, length, Option, None, Some, FitsSigned}
 use Rattle.std.specs.List.{AllByRecursion}
 use Rattle.std.specs.Int.{w32}

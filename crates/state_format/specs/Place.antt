@@ -29,8 +29,9 @@ pub record BeginsWith (bytes : List ℕ) (place : ℕ) : Type 0 where
   pub begins : bytes ≡ joined front ++ rest
   pub ends : length (joined front) ≡ place
 
--- The bytes are those of no state. This is the farthest place up to which they begin as those of one do: the field that begins there isn't
--- there whole or has no such form, or bytes follow the last one.
+-- The bytes are those of no state. This is the farthest place up to which they begin as those of
+-- one do: the field that begins there isn't there whole or has no such form, or bytes follow the
+-- last one.
 pub record StopsAt (bytes : List ℕ) (place : ℕ) : Type 0 where
   pub none : (s : Parts) → StateOf bytes s → ⊥
   pub begins : BeginsWith bytes place

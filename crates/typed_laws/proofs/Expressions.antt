@@ -227,7 +227,8 @@ signature_actions (p ∷ ps) h = (h.0, signature_actions ps h.2)
 
 -- ---- in sight, at file level or in a function
 
--- A global in the values of globals is a variable of the frame, as a function's own variables are in its body.
+-- A global in the values of globals is a variable of the frame, as a function's own variables are
+-- in its body.
 abbrev pub IsThere : Site → Bool → List ℕ → Bool → ℕ → Type 0
 IsThere x true scope true n = ⊥
 IsThere x true scope false n = In n scope

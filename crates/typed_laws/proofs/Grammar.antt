@@ -1,4 +1,5 @@
--- What the grammar says of trees: the bodies of `if` and of loops are no declarations, and a struct has a field.
+-- What the grammar says of trees: the bodies of `if` and of loops are no declarations, and a struct
+-- has a field.
 use Rattle.std.proofs.Common.{Bool, List, [], ◌∷◌, Option, None, Some}
 use Rattle.nss_tree.specs.Source.{SourceStmt, SourceStmts, SourceLine, SourceItem}
 use Rattle.nss_tree.specs.declared.units.Identifier.{Identifier}

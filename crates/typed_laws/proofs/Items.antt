@@ -1,4 +1,5 @@
--- The functions of a typed unit are fine: what stands in sight where each begins, and where its variables stand.
+-- The functions of a typed unit are fine: what stands in sight where each begins, and where its
+-- variables stand.
 use Rattle.std.proofs.Common.{arith, ◌≡◌, ◌≤◌, ◌<◌, ◌+◌, ◌⊎◌, inl, inr, ℕ, zero, suc, List, [], ◌∷◌, ◌++◌, length, map, get_or, Option, Some, None, Bool, true, false, sym, subst, ◌∙◌, ap, refl, append_assoc}
 use Rattle.std.specs.Prelude.{not, slice_get, is_some}
 use Rattle.std.specs.List.{AllByRecursion, flat_map}
@@ -135,7 +136,8 @@ same_structure n m x y ls us e = cc
 abbrev structure_with : List ℕ → List Structure → Option (List TypedLine) → Structure
 structure_with y ss o = record { called = y; members = option_map (struct_members ss) o }
 
--- the structs among the items that come, with what is known in front, are those of the site, and so are the types of their fields
+-- the structs among the items that come, with what is known in front, are those of the site, and so
+-- are the types of their fields
 abbrev Ahead : Site → Structs → List TypedItem → Type 0
 Ahead x known ts = (done : List (List Ty)) × (structs_from known ts ≡ x.layout.structs) × (x.fields ≡ done ++ struct_fields ts) × (length done ≡ length known)
 

@@ -1,4 +1,5 @@
--- Typed statements of a function are fine, where its variables have the numbers of their positions and types.
+-- Typed statements of a function are fine, where its variables have the numbers of their positions
+-- and types.
 use Rattle.std.proofs.Common.{arith, ◌≡◌, ◌≤◌, ◌+◌, ◌⊎◌, inl, inr, ℕ, suc, List, [], ◌∷◌, ◌++◌, length, map, Option, Some, None, Bool, true, false, sym, subst, ◌∙◌, ap, refl}
 use Rattle.std.specs.Prelude.{not, ◌&&◌}
 use Rattle.std.specs.List.{AllByRecursion}

@@ -16,16 +16,16 @@ use Rattle.source_laws.specs.FineStatements.{AreFineNames}
 use Rattle.source_laws.specs.FunctionsRun.{IsPlaced}
 use Rattle.source_laws.specs.Starts.{making, BeginsWith}
 
--- Each function of a typed unit stands at its label, and its parameters and statements are fine: whatever tokens the unit has, under the
--- table of any header.
+-- Each function of a typed unit stands at its label, and its parameters and statements are fine:
+-- whatever tokens the unit has, under the table of any header.
 abbrev pub FunctionsArePlaced : Type 0
 FunctionsArePlaced =
     (table : EngineTable) (tokens : List Symbol) (tree : SourceTree) (u : TypedUnit) → IsTable table → Parses tokens tree → TypesUnit table tree u
     → (script self : ℕ) (waiting : List Frame) (f : ℕ) (fn : Function) → slice_get (functions u.items) f ≡ Some fn
     → IsPlaced table (functions u.items) (unit_site script u self waiting) f fn
 
--- And its globals are fine as declarations, in whose first values no function of the unit is called: while they are made, they are variables of a
--- frame, beneath which nothing lies.
+-- And its globals are fine as declarations, in whose first values no function of the unit is
+-- called: while they are made, they are variables of a frame, beneath which nothing lies.
 abbrev pub GlobalsAreFine : Type 0
 GlobalsAreFine =
     (table : EngineTable) (tokens : List Symbol) (tree : SourceTree) (u : TypedUnit) → IsTable table → Parses tokens tree → TypesUnit table tree u
@@ -44,8 +44,9 @@ EntriesArePlain =
     (table : EngineTable) (tree : SourceTree) (u : TypedUnit) → TypesUnit table tree u → (entry : ℕ)
     → (u.entry ≡ Main entry → HasEntry (functions u.items) entry Void) × (u.entry ≡ Conditional entry → HasEntry (functions u.items) entry Int)
 
--- So a typed unit is as the laws ask of a script's start: it begins with one of the two entry functions, its globals are fine, and its functions are
--- placed, as a script of any number, whatever object it runs as and whatever waits for it.
+-- So a typed unit is as the laws ask of a script's start: it begins with one of the two entry
+-- functions, its globals are fine, and its functions are placed, as a script of any number,
+-- whatever object it runs as and whatever waits for it.
 abbrev pub UnitsAreReady : Type 0
 UnitsAreReady =
     (table : EngineTable) (tokens : List Symbol) (tree : SourceTree) (u : TypedUnit) → IsTable table → Parses tokens tree → TypesUnit table tree u

@@ -1,4 +1,5 @@
--- A typed expression keeps the bounds that its code needs, and its weight is bounded by the size of its source.
+-- A typed expression keeps the bounds that its code needs, and its weight is bounded by the size of
+-- its source.
 use Rattle.std.proofs.Common.{◌≡◌, ℕ, zero, suc, ◌+◌, ◌*◌, ◌≤◌, Bool, true, false, if◌then◌else◌, not, List, [], ◌∷◌, length, Option, None, Some, slice_get, bytes_eq, refl, sym, subst, arith}
 use Rattle.std.proofs.lemmas.Option.{same_Some, none-some}
 use Rattle.std.proofs.lemmas.Bool.{and_parts}

@@ -1,4 +1,5 @@
--- What stands in sight keeps bounds, whatever the tree is: types are of values, constants are within theirs.
+-- What stands in sight keeps bounds, whatever the tree is: types are of values, constants are
+-- within theirs.
 use Rattle.std.proofs.Common.{◌≡◌, ℕ, ◌+◌, ◌≤◌, Bool, true, false, if◌then◌else◌, List, [], ◌∷◌, Option, None, Some, option_map, bytes_eq, refl, sym, subst}
 use Rattle.std.proofs.lemmas.Option.{same_Some, none-some}
 use Rattle.std.proofs.lemmas.Int.{wrapping_neg_is, SFits-int_wrap}

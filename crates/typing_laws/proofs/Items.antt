@@ -1,4 +1,5 @@
--- The items of a typed unit: what each puts in sight, the cells of the structs, and the bounds of globals and functions.
+-- The items of a typed unit: what each puts in sight, the cells of the structs, and the bounds of
+-- globals and functions.
 use Rattle.std.proofs.Common.{◌≡◌, ℕ, ◌+◌, ◌*◌, ◌≤◌, Bool, false, if◌then◌else◌, not, List, [], ◌∷◌, ◌++◌, length, Option, None, Some, is_some, option_map, refl, sym, ap, subst, ◌∙◌, arith}
 use Rattle.std.proofs.lemmas.Option.{same_Some, none-some}
 use Rattle.std.specs.Prelude.{◌&&◌}

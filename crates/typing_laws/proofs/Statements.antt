@@ -1,4 +1,5 @@
--- A typed statement keeps the bounds that its code needs: its weight and its labels are bounded by the size of its source.
+-- A typed statement keeps the bounds that its code needs: its weight and its labels are bounded by
+-- the size of its source.
 use Rattle.std.proofs.Common.{◌≡◌, ℕ, ◌+◌, ◌*◌, ◌≤◌, Bool, true, if◌then◌else◌, not, List, [], ◌∷◌, Option, Some, refl, subst, arith}
 use Rattle.std.specs.Prelude.{◌&&◌}
 use Rattle.nwq_value.specs.declared.value.Ty.{Ty}

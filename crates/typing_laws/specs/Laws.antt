@@ -12,7 +12,8 @@ use Rattle.emission_rules.specs.Bounds.{IsBounded}
 use Rattle.emission_rules.specs.Units.{unit_code}
 use Rattle.nss_parser.specs.Sizes.{IsKnownTree}
 
--- the unit keeps the bounds that its code needs, and its code has fewer labels than a number of 32 bits counts
+-- the unit keeps the bounds that its code needs, and its code has fewer labels than a number of 32
+-- bits counts
 pub record HasCode (t : TypedUnit) : Type 0 where
   pub bounded : IsBounded t
   pub few : (unit_code t).labels < 2 ^ 32

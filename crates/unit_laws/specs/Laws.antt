@@ -14,14 +14,15 @@ use Rattle.emission_rules.specs.Units.{unit_code, unit_file}
 use Rattle.stack_rules.specs.Rules.{WellStacked}
 use Rattle.emission_laws.specs.WellTyped.{IsWellTyped}
 
--- The values of a unit that is typed under a header, of a tree that some tokens have, have the types that stand at their nodes.
+-- The values of a unit that is typed under a header, of a tree that some tokens have, have the
+-- types that stand at their nodes.
 abbrev pub TypedUnitsAreWellTyped : Type 0
 TypedUnitsAreWellTyped =
     (header : EngineTable) (tokens : List Symbol) (tree : SourceTree) (u : TypedUnit) → IsTable header → Parses tokens tree → TypesUnit header tree u
     → IsWellTyped header u
 
--- Where it keeps the bounds that its code needs, and its file is not too large, that file loads, with the instructions of its code, and these are
--- well stacked under the header.
+-- Where it keeps the bounds that its code needs, and its file is not too large, that file loads,
+-- with the instructions of its code, and these are well stacked under the header.
 abbrev pub TypedUnitsPass : Type 0
 TypedUnitsPass =
     (header : EngineTable) (tokens : List Symbol) (tree : SourceTree) (u : TypedUnit) → IsTable header → Parses tokens tree → TypesUnit header tree u

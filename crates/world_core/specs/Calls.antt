@@ -37,7 +37,8 @@ cells_of hooks = cell_of (tables_of hooks)
 abbrev pub AreServing : List Known → Type 0
 AreServing hooks = AreStandard hooks (tables_of hooks)
 
--- ---- what is asked of a call: something only where a hook answers, so of functions of strings and numbers
+-- ---- what is asked of a call: something only where a hook answers, so of functions of strings and
+-- numbers
 
 -- the hooks serve the routine
 abbrev pub ServeRoutine : EngineTable → ℕ → List Known → Type 0

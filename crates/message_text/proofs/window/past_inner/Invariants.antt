@@ -2,7 +2,8 @@ use Rattle.std.proofs.Common.{ℕ, ◌+◌, ◌≤◌, ◌<◌, not, IsTrue, Lis
 use Rattle.message_text.specs.Place.{is_inner}
 use Rattle.message_text.proofs.window.past_inner.Given as goal
 
--- so far all bytes begin no character, and where fewer were passed than steps made, the walk has stopped
+-- so far all bytes begin no character, and where fewer were passed than steps made, the walk has
+-- stopped
 pub record Walked (bytes : List ℕ) (from limit step at : ℕ) : Type 0 where
   pub behind : from ≤ at
   pub within : at ≤ limit
