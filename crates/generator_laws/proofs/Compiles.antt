@@ -11,6 +11,7 @@ use Rattle.ncs_code.specs.Laws.{SizeLaws}
 use Rattle.nss_lexer.specs.Computed.{ComputedAreTokens}
 use Rattle.nss_symbols.specs.Nest.{IsWithinNest}
 use Rattle.nss_symbols.specs.Symbols.{Symbol}
+use Rattle.nss_parser.specs.ReadWhole.{ReadingGivesTree}
 use Rattle.nss_parser.specs.Sentence.{Parses}
 use Rattle.nss_include.specs.Names.{file_name}
 use Rattle.nss_include.specs.Units.{source}
@@ -41,7 +42,7 @@ short_source n creatures few small =
     let second = length-decimal-le_succ creatures (omega (arith, small)) in
     omega (arith, all, a, b, c, d, first, second, few, small)
 
-module _ (computed : ComputedAreTokens) (right : VerdictsAreRight) (sizes : SizeLaws) (n creatures : ℕ) (few : n ≤ number_limit) (small : creatures ≤ 1000) (c : Contents)
+module _ (computed : ComputedAreTokens) (gives : ReadingGivesTree) (right : VerdictsAreRight) (sizes : SizeLaws) (n creatures : ℕ) (few : n ≤ number_limit) (small : creatures ≤ 1000) (c : Contents)
     (found : fin_map.get c (codes "beat.nss") ≡ Some (source_text n creatures)) where
   fits : n < 2 ^ 32
   fits = omega (arith, few)
@@ -65,13 +66,13 @@ module _ (computed : ComputedAreTokens) (right : VerdictsAreRight) (sizes : Size
         (made_are_tokens n creatures fits counts computed) (made_plain n creatures fits counts)
         (let count = made_length n creatures fits counts in omega (arith, count)))
         (subst IsWithinNest (sym (made_seen n creatures fits counts)) (made_nest n creatures))
-        (subst (λ (ss : List Symbol). Parses ss (made_tree n creatures)) (sym (made_seen n creatures fits counts)) (made_parses n creatures));
+        (subst (λ (ss : List Symbol). Parses ss (made_tree n creatures)) (sym (made_seen n creatures fits counts)) (made_parses gives n creatures));
     unit = made_unit n creatures;
     types = (right header_table (made_tree n creatures) (made_unit n creatures)).0 (made_typed n creatures);
     small = made_small sizes n creatures;
   }
 
-pub sources_compile : ComputedAreTokens → VerdictsAreRight → SizeLaws → SourcesCompile
-sources_compile computed right sizes n c few found =
+pub sources_compile : ComputedAreTokens → ReadingGivesTree → VerdictsAreRight → SizeLaws → SourcesCompile
+sources_compile computed gives right sizes n c few found =
     let less : n % 1000 < 1000 = mod-lt n (omega arith) in
-    beat_compiles computed right sizes n (creatures_of n) few (omega (arith, less)) c found
+    beat_compiles computed gives right sizes n (creatures_of n) few (omega (arith, less)) c found

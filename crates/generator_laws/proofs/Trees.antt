@@ -18,8 +18,8 @@ use Rattle.nss_parser.specs.ReadParts as part
 use Rattle.nss_parser.specs.ReadStatement as statement
 use Rattle.nss_parser.specs.ReadUnit as unit
 use Rattle.nss_parser.specs.ReadWhole as whole
+use Rattle.nss_parser.specs.ReadWhole.{ReadingGivesTree}
 use Rattle.nss_parser.specs.Sentence.{Parses}
-use Rattle.nss_parser.proofs.Whole.{whole_got}
 use Rattle.generator_laws.proofs.Pieces.{front_symbols, smaller_symbols, sum_symbols, teller_symbols, counter_symbols, kept_symbols, grown_symbols, asked_symbols, delayed_symbols, assigned_symbols, back_symbols}
 
 -- what the grammar sees of the source of a number and so many creatures
@@ -73,5 +73,5 @@ unfolding whole.unit unit.items unit.item unit.after_type unit.function unit.bod
     statement.some_statement statement.statement first here take same_terminal
 made_got n creatures = refl
 
-pub made_parses : (n creatures : ℕ) → Parses (made_symbols n creatures) (made_tree n creatures)
-made_parses n creatures = whole_got (made_symbols n creatures) 140 (made_items n creatures) [] (made_got n creatures)
+pub made_parses : ReadingGivesTree → (n creatures : ℕ) → Parses (made_symbols n creatures) (made_tree n creatures)
+made_parses gives n creatures = gives (made_symbols n creatures) 140 (made_items n creatures) [] (made_got n creatures)

@@ -11,6 +11,7 @@ ghost use Rattle.generator_laws.specs.Scripts.{SourcesCompile};
 
 use ncs_code::size_laws;
 use nss_lexer::laws::computed_tokens;
+use nss_parser::laws::reading_gives_tree;
 use typing_rules::laws::verdicts_are_right;
 
 /// The source that is made from a number has a typed unit, whose file is small enough.
@@ -18,6 +19,7 @@ pub fn sources_compile()
     ensures compile { SourcesCompile }
 {
     computed_tokens();
+    reading_gives_tree();
     verdicts_are_right();
     size_laws();
 }

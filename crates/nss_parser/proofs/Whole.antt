@@ -10,7 +10,7 @@ use Rattle.nss_symbols.specs.Outcome.{Outcome, Got, Stuck, Deep, next}
 use Rattle.nss_parser.specs.Grammar.{Entries}
 use Rattle.nss_parser.specs.Unit.{Items}
 use Rattle.nss_parser.specs.ReadStatement.{entries, statement}
-use Rattle.nss_parser.specs.ReadWhole.{unit}
+use Rattle.nss_parser.specs.ReadWhole.{unit, ReadingGivesTree}
 use Rattle.nss_parser.specs.Sentence.{Parses, IsPrefix, IsDead, IsPlace, OneTree, TreeOrPlace}
 use Rattle.nss_parser.proofs.Local.{Local, Same}
 use Rattle.nss_parser.proofs.Right.{Right, RightOf, right_as, Viable, viable_as, numbered_append}
@@ -85,8 +85,7 @@ outcome_local : (d e : ℕ) → d ≤ e → (i : List Numbered) (o : Outcome Sou
 outcome_local d e le i o is = subst (λ (z : Outcome SourceItems). Same i z (unit e)) is ((local_unit d e le).at i)
 
 -- what is read is the tree
-pub whole_got : (tokens : List Symbol) (d : ℕ) (x : SourceItems) (rest : List Numbered) → unit d (numbered_from 0 tokens) ≡ Got x rest
-    → Parses tokens (record { items = x; count = length tokens })
+pub whole_got : ReadingGivesTree
 whole_got tokens d x rest e =
     let (xs, is, h) = outcome_right d (numbered_from 0 tokens) (Got x rest) e in
     let whole : numbered_from 0 tokens ≡ xs = is ∙ ap (λ (r : List Numbered). xs ++ r) h.1 ∙ append-nil xs in

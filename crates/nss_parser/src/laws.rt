@@ -1,6 +1,7 @@
 //! Laws of the grammar, each the contract of a function that does nothing.
 
 ghost use Rattle.nss_parser.specs.Fault.{NoRefusalOfTrees, OneRefusal};
+ghost use Rattle.nss_parser.specs.ReadWhole.{ReadingGivesTree};
 ghost use Rattle.nss_parser.specs.Sizes.{EachTreeIsKnown};
 ghost use Rattle.nss_parser.specs.Weight.{EachTreeWithinTokens};
 ghost use Rattle.nss_parser.specs.Sentence.{OneTree, TreeOrPlace};
@@ -13,6 +14,11 @@ pub fn one_tree()
 /// A list of tokens has a tree, or a place where it can have none.
 pub fn tree_or_place()
     ensures either { TreeOrPlace }
+{}
+
+/// What reading a list of tokens gives is its tree.
+pub fn reading_gives_tree()
+    ensures read { ReadingGivesTree }
 {}
 
 /// A list of tokens is refused for one reason, and one that has a tree and nests within the limit
