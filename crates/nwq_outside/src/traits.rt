@@ -1,8 +1,9 @@
 ghost use Rattle.std.specs.Prelude.{◌≡◌, ℕ, Bool, List, IsTrue};
 ghost use Rattle.std.specs.FinMap as map;
 ghost use Rattle.nwq_outside.specs.declared.counts.FileCounts.{FileCounts};
-ghost use Rattle.nwq_outside.specs.Outside.{Contents, AreBytes, CountsRead, CountsWrite, CountsDone};
-ghost use Rattle.nwq_outside.specs.Outside.{ReadsContent, IsFileSize, KeepsOthers, Leaves, Takes};
+ghost use Rattle.nwq_outside.specs.Outside.{Contents, AreBytes, CountsRead, CountsWrite};
+ghost use Rattle.nwq_outside.specs.Outside.{CountsDone, ReadsContent, IsFileSize, KeepsOthers};
+ghost use Rattle.nwq_outside.specs.Outside.{Leaves, Takes};
 
 use crate::answer::{Done, Read};
 use std::alloc::Global;
