@@ -162,7 +162,8 @@ fn pushed(heap: &mut Heap, ty: Ty, held: Held) -> Result<Held, NoMemory>
 fn started(heap: &mut Heap, kind: u8, held: Held) -> Result<Option<Held>, NoMemory>
     requires inside { IsIn heap.old held }
     ensures { IfOk result (λ after. AfterStep heap.old heap.new after
-        (let s = shape_of heap.old held in affected (stack_effect (RsAdd kind) s.under s.cells) s)) }
+        (let s = shape_of heap.old held in
+        affected (stack_effect (RsAdd kind) s.under s.cells) s)) }
 {
     match type_of_one(kind) {
         None => Ok(None),
