@@ -1,5 +1,6 @@
 //! The labels of a file, once each in the order of their first use. A label leads to its number by
-//! the index of names, and the rows stand under the numbers, so that no labels make a search longer.
+//! the index of names, and the rows stand under the numbers, so that no labels make a search
+//! longer.
 
 ghost use Rattle.std.specs.Prelude.{◌≡◌, ◌++◌, ◌∷◌, [], None, length, IfOk, OnOk};
 ghost use Rattle.std.specs.Map.{values_of};
