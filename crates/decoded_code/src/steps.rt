@@ -1,5 +1,5 @@
-ghost use Rattle.std.specs.Prelude.{◌≡◌, ◌≢◌, ◌+◌, ◌<◌, ◌≤◌, ℕ, None, Some, IfOk, IfSome, OnOk, length};
-ghost use Rattle.std.specs.Prelude.{slice_get};
+ghost use Rattle.std.specs.Prelude.{◌≡◌, ◌≢◌, ◌+◌, ◌<◌, ◌≤◌, ℕ, None, Some, IfOk, IfSome, OnOk};
+ghost use Rattle.std.specs.Prelude.{length, slice_get};
 ghost use Rattle.ncs_code.specs.File.{file_length, op_at};
 ghost use Rattle.decoded_code.specs.declared.step.Step.{Step as PlainStep};
 ghost use Rattle.decoded_code.specs.Steps.{AreDecoded, AreSteps, kept, op_of};
