@@ -2,8 +2,9 @@
 
 ghost use Rattle.std.specs.Prelude.{◌≡◌, ◌++◌, ◌<◌, ◌≤◌, length, OnOk, MatchResult};
 ghost use Rattle.nwq_value.specs.Limits.{file_limit};
-ghost use Rattle.state_format.specs.Fields.{magic, joined, blob_fields, number_fields, maybe_fields};
-ghost use Rattle.state_format.specs.Fields.{effect_fields, cell_fields, captured_fields};
+ghost use Rattle.state_format.specs.Fields.{magic, joined, blob_fields, number_fields};
+ghost use Rattle.state_format.specs.Fields.{maybe_fields, effect_fields, cell_fields};
+ghost use Rattle.state_format.specs.Fields.{captured_fields};
 ghost use Rattle.state_format.specs.Fields.{variable_fields, standing_fields, item_fields};
 ghost use Rattle.state_format.specs.Fields.{busy_fields, object_fields, kind_fields, entry_fields};
 ghost use Rattle.state_format.specs.Fields.{script_fields, count_fields, parts_fields, parts_bytes};
