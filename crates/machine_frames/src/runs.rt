@@ -1,5 +1,6 @@
 //! Instructions that read and write runs of values.
-ghost use Rattle.std.specs.Prelude.{◌≡◌, ◌≢◌, ◌≤◌, ◌<◌, ◌+◌, ◌^◌, Some, OnOk, IfOk, IfSome, drop, length};
+ghost use Rattle.std.specs.Prelude.{◌≡◌, ◌≢◌, ◌≤◌, ◌<◌, ◌+◌, ◌^◌, Some, OnOk, IfOk, IfSome};
+ghost use Rattle.std.specs.Prelude.{drop, length};
 ghost use Rattle.nwq_value.specs.Operators.{values_eq};
 ghost use Rattle.machine_rules.specs.Cells.{int_changed, overwritten, range_kept, range_pushed};
 ghost use Rattle.machine_rules.specs.Cells.{range_written, runs_compared, pair_compared};
