@@ -37,7 +37,8 @@ pub(crate) fn told_uncut(played: Played) -> Result<Played, Status>
     ensures trace { (text before after : List ℕ) → TakesTrace played.how text before after →
         TakesText text before result after }
     ensures counts { (before now : ℕ) → (counts : FileCounts) →
-        CountsPlay played.how before now → Tallies result (Counted counts before) (Counted counts now) }
+        CountsPlay played.how before now →
+        Tallies result (Counted counts before) (Counted counts now) }
     ensures only { IfErr result CutsShort }
 {
     match cut_of(played.how) {
@@ -60,7 +61,8 @@ pub fn told_whole(played: Played) -> Result<Played, Status>
     ensures trace { (text before after : List ℕ) → TakesTrace played.how text before after →
         TakesText text before result after }
     ensures counts { (before now : ℕ) → (counts : FileCounts) →
-        CountsPlay played.how before now → Tallies result (Counted counts before) (Counted counts now) }
+        CountsPlay played.how before now →
+        Tallies result (Counted counts before) (Counted counts now) }
     ensures only { IfErr result CutsShort }
 {
     match cut_of(played.how) {

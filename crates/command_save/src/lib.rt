@@ -2,9 +2,9 @@
 //!
 //! `specs/Saves.antt` has the work of the command that saves: what a play needs is read as for a
 //! whole play, some entries are played, and the state is written in which the play stands
-//! (`IsStateAt`). `specs/Resumes.antt` has the work of the command that goes on: the state of a file
-//! is found, and what it tells is played as every play. `specs/Laws.antt` says that both together
-//! are the unbroken play ([`laws::saved_plays_go_on`]). What a state is, is docs/SAVES.md.
+//! (`IsStateAt`). `specs/Resumes.antt` has the work of the command that goes on: the state of a
+//! file is found, and what it tells is played as every play. `specs/Laws.antt` says that both
+//! together are the unbroken play ([`laws::saved_plays_go_on`]). What a state is, is docs/SAVES.md.
 #![tactic(auto)]
 
 mod inputs;

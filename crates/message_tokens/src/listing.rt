@@ -1,6 +1,7 @@
 //! The tokens that can stand at a place of a unit.
 
-ghost use Rattle.std.specs.Prelude.{◌≤◌, ◌↔◌, ◌++◌, ◌∷◌, [], length, take, IfOk, IfSome, IsTrue, OnOk};
+ghost use Rattle.std.specs.Prelude.{◌≤◌, ◌↔◌, ◌++◌, ◌∷◌, [], length, take, IfOk, IfSome};
+ghost use Rattle.std.specs.Prelude.{IsTrue, OnOk};
 ghost use Rattle.std.specs.List.{AllByRecursion};
 ghost use Rattle.nwq_value.specs.Limits.{file_limit, token_limit};
 ghost use Rattle.nss_lexer.specs.Lexemes.{IsToken};

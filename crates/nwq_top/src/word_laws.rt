@@ -128,8 +128,8 @@ pub fn resumes_mean()
     checked_plays_have_no_fault();
 }
 
-/// Whatever does the work of `generate` compiles the source that is made, and tells of its play what
-/// the source means.
+/// Whatever does the work of `generate` compiles the source that is made, and tells of its play
+/// what the source means.
 pub fn generates_mean()
     ensures means { GeneratesMean }
 {
