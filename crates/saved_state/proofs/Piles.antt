@@ -1,5 +1,5 @@
 -- Two lists of cells in a row: the lower ones, and those on top.
-use Rattle.std.proofs.Common.{◌≡◌, ◌<◌, ◌≤◌, ◌+◌, ◌-◌, ◌++◌, ◌∷◌, [], ℕ, suc, List, length, take, drop, set, slice_get, get_or, Some, refl, sym, ap, ◌∙◌, arith, append_assoc}
+use Rattle.std.proofs.Common.{◌≡◌, ◌<◌, ◌≤◌, ◌+◌, ◌-◌, ◌++◌, ◌∷◌, [], ℕ, List, length, take, drop, set, slice_get, get_or, Some, refl, sym, ap, ◌∙◌, arith, append_assoc}
 use Rattle.std.proofs.lemmas.List.{length-append, append-nil, drop_at, drop-drop, drop-take, take-append-le, take_at, set-append_left, set-append_right, length_push, length-take-le, take_all, take_more, take-take}
 use Rattle.std.proofs.lemmas.Option.{slice_get-get_or}
 use Rattle.std.proofs.Math.Seq.{take-append-add}
@@ -61,15 +61,14 @@ one_more old top now k cell is less here =
 pub front : (old more : List Cell) → take (length old) (old ++ more) ≡ old
 front old more = take_at old more (length old) refl
 
--- copies of a list's first cells
-pub one_got : (old other now : List Cell) (k : ℕ) (cell : Cell) → now ≡ old ++ take k other → k < length other → slice_get other k ≡ Some cell
-    → now ++ cell ∷ [] ≡ old ++ take (k + 1) other
-one_got old other now k cell is less got = one_more old other now k cell is less (same (sym got ∙ slice_get-get_or other k cell less))
-  where
-    same : {c d : Cell} → Some c ≡ Some d → c ≡ d
-    same e = cc
+-- cells that are moved on top
+pub moved_is : (low top cells : List Cell) → low ++ (top ++ cells) ≡ (low ++ top) ++ cells
+moved_is low top cells = sym (append_assoc low top cells)
 
-pub ruleset copied_lemmas = (one_got, alone, take_all)
+pub moved_size : (top cells : List Cell) → length (top ++ cells) ≡ length top + length cells
+moved_size top cells = length-append top cells
+
+pub ruleset moved_lemmas = (moved_is, moved_size)
 
 -- the first cells, which are left where the last ones go one by one
 pub one_less : (old top now : List Cell) (n left : ℕ) → top ≡ take (n + left) old → n + left ≤ length old → 0 < left → now ≡ take (length top - 1) top

@@ -19,6 +19,7 @@
 mod cell;
 mod cells;
 mod laws;
+mod pages;
 mod piece;
 mod pile;
 mod saved;

@@ -158,7 +158,7 @@ impl Piece {
 }
 
 /// Equal cells, in the same order.
-fn copies(alloc: Global, cells: &[Cell]) -> Result<Vec<Cell>, NoMemory>
+pub(crate) fn copies(alloc: Global, cells: &[Cell]) -> Result<Vec<Cell>, NoMemory>
     ensures same { IfOk result (λ all. all.items ≡ cells.now) }
 {
     let mut all = Vec::with_capacity(alloc, cells.len())?;

@@ -3,7 +3,9 @@ ghost use Rattle.std.specs.Prelude.{slice_get};
 ghost use Rattle.std.specs.Prelude.{slice_set, Some, OnOk, OnErr, IfOk};
 
 use crate::cell::Cell;
-use crate::cells::Cells;
+use crate::cells::{Cells, Kept};
+use crate::pages::Pages;
+use crate::piece::copies;
 use nwq_value::{NoMemory, Value};
 use std::alloc::Global;
 use std::marker::Model;
@@ -12,7 +14,7 @@ use std::mem;
 /// Cells of which the topmost are in a list that nobody shares, so that a push or a drop there is
 /// no more than a comparison and a store.
 pub struct Pile {
-    low: Cells,
+    low: Pages,
     top: Vec<Cell>,
     len: usize,
 }
@@ -42,22 +44,34 @@ impl Pile {
         ensures empty { result ≡ [] }
     {
         Pile {
-            low: Cells::new(alloc),
+            low: Pages::new(alloc),
             top: Vec::new(alloc),
             len: 0,
         }
     }
 
     /// These cells, with room for a few more on top.
-    pub fn of(alloc: Global, low: Cells) -> Result<Pile, NoMemory>
-        ensures cells { IfOk result (λ pile. pile ≡ low) }
+    pub fn of(cells: Cells) -> Result<Pile, NoMemory>
+        ensures cells { IfOk result (λ pile. pile ≡ cells) }
     {
-        let len = low.len();
-        Ok(Pile {
-            low,
-            top: Vec::with_capacity(alloc, FEW)?,
-            len,
-        })
+        match cells.kept {
+            Kept::Own(cells) => Pile::of_own(cells),
+            Kept::Shared(low) => {
+                let len = low.len();
+                let top = Vec::with_capacity(low.allocator(), FEW)?;
+                Ok(Pile { low, top, len })
+            }
+        }
+    }
+
+    fn of_own(cells: Vec<Cell>) -> Result<Pile, NoMemory>
+        ensures cells { IfOk result (λ pile. pile ≡ cells.items) }
+    {
+        let mut top = cells;
+        top.reserve_exact(FEW)?;
+        let low = Pages::new(*top.allocator());
+        let len = top.len();
+        Ok(Pile { low, top, len })
     }
 
     /// How many cells there are.
@@ -135,30 +149,34 @@ impl Pile {
         self.len = n;
     }
 
-    /// Puts the cells of a list last. After `NoMemory` some of them may be there.
+    /// Puts the cells of a list last. After `NoMemory` they are dropped.
     #[tactic(auto, using(crate::proofs::Piles::settled_lemmas))]
-    pub fn append(&mut self, other: &Cells) -> Result<(), NoMemory>
-        ensures ok { OnOk result (self.new ≡ self.old ++ other.now) }
+    pub fn append(&mut self, other: Cells) -> Result<(), NoMemory>
+        ensures ok { OnOk result (self.new ≡ self.old ++ other) }
     {
-        if other.len() <= FEW {
-            return self.push_copies(other);
+        match other.kept {
+            Kept::Own(cells) => self.move_on_top(cells),
+            Kept::Shared(pages) => {
+                settle(&mut self.low, &mut self.top)?;
+                let done = self.low.append(&pages);
+                self.len = self.low.len();
+                done
+            }
         }
-        settle(&mut self.low, &mut self.top)?;
-        let done = self.low.append(other);
-        self.len = self.low.len();
-        done
     }
 
-    /// Puts copies of the cells of a list last. After `NoMemory` some of them may be there.
-    #[tactic(auto, using(crate::proofs::Piles::copied_lemmas))]
-    fn push_copies(&mut self, other: &Cells) -> Result<(), NoMemory>
-        ensures ok { OnOk result (self.new ≡ self.old ++ other.now) }
+    /// Moves cells on top. After `NoMemory` they are dropped.
+    #[tactic(auto, using(crate::proofs::Piles::moved_lemmas))]
+    fn move_on_top(&mut self, cells: Vec<Cell>) -> Result<(), NoMemory>
+        ensures ok { OnOk result (self.new ≡ self.old ++ cells.items) }
     {
-        let alloc = self.low.allocator();
-        for i in 0..other.len() {
-            let copy = other.at(i).copy(alloc)?;
-            self.push(copy)?;
-        }
+        let mut cells = cells;
+        let Some(len) = self.len.checked_add(cells.len()) else {
+            drop(cells);
+            return Err(NoMemory);
+        };
+        self.top.append(&mut cells)?;
+        self.len = len;
         Ok(())
     }
 
@@ -173,13 +191,14 @@ impl Pile {
     {
         let low = self.low.len();
         if to <= low {
-            return self.low.part(from, to);
+            return Ok(Cells::shared(self.low.part(from, to)?));
         }
         if low <= from && to - from <= FEW {
-            return copied(self.low.allocator(), &self.top[from - low..to - low]);
+            let alloc = self.low.allocator();
+            return Ok(Cells::own(copies(alloc, &self.top[from - low..to - low])?));
         }
         settle(&mut self.low, &mut self.top)?;
-        self.low.part(from, to)
+        Ok(Cells::shared(self.low.part(from, to)?))
     }
 }
 
@@ -234,7 +253,7 @@ fn keep_first(top: &mut Vec<Cell>, n: usize)
 
 /// Moves cells onto pages, over those that stand there. After `NoMemory` both are as before.
 #[tactic(auto, using(crate::proofs::Piles::copied_back))]
-fn settle(low: &mut Cells, top: &mut Vec<Cell>) -> Result<(), NoMemory>
+fn settle(low: &mut Pages, top: &mut Vec<Cell>) -> Result<(), NoMemory>
     ensures moved { OnOk result (low.new ≡ low.old ++ top.old.items) }
     ensures none { OnOk result (top.new.items ≡ []) }
     ensures low { OnErr result (low.new ≡ low.old) }
@@ -253,17 +272,8 @@ fn settle(low: &mut Cells, top: &mut Vec<Cell>) -> Result<(), NoMemory>
     }
 }
 
-/// Equal cells, in the same order.
-fn copied(alloc: Global, cells: &[Cell]) -> Result<Cells, NoMemory>
-    ensures same { IfOk result (λ copy. copy ≡ cells.now) }
-{
-    let mut copy = Cells::new(alloc);
-    put_copies(&mut copy, cells)?;
-    Ok(copy)
-}
-
 /// Puts copies of these cells last. After `NoMemory` some of them may be there.
-fn put_copies(low: &mut Cells, top: &[Cell]) -> Result<(), NoMemory>
+fn put_copies(low: &mut Pages, top: &[Cell]) -> Result<(), NoMemory>
     ensures put { OnOk result (low.new ≡ low.old ++ top.now) }
     ensures kept { take (length low.old) low.new ≡ low.old }
     ensures longer { length low.old ≤ length low.new }

@@ -143,11 +143,9 @@ impl Stack {
 pub fn resume(saved: Saved) -> Result<Stack, NoMemory>
     ensures stack { IfOk result (λ stack. stack ≡ resumed saved) }
 {
-    let globals = saved.globals;
-    let alloc = globals.allocator();
-    let bp = globals.len();
-    let mut cells = Pile::of(alloc, globals)?;
+    let bp = saved.globals.len();
+    let mut cells = Pile::of(saved.globals)?;
     cells.push(Cell::Base(0))?;
-    cells.append(&saved.locals)?;
+    cells.append(saved.locals)?;
     Ok(Stack { cells, bp })
 }

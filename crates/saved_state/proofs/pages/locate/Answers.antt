@@ -1,6 +1,6 @@
 use Rattle.std.proofs.Common.{arith}
 use Rattle.saved_state.proofs.Rows.{place_is}
-use Rattle.saved_state.proofs.cells.locate.Goals as goal
+use Rattle.saved_state.proofs.pages.locate.Goals as goal
 
 pub overflow_sub-i : goal.overflow_sub-i
 overflow_sub-i c =

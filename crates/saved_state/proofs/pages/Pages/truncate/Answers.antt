@@ -2,7 +2,7 @@ use Rattle.std.proofs.Common.{◌≡◌, ◌≤◌, ◌+◌, ◌-◌, length, ge
 use Rattle.std.proofs.lemmas.List.{get_or-take}
 use Rattle.saved_state.specs.Pages.{Part, IsPlace}
 use Rattle.saved_state.proofs.Rows.{row_kept}
-use Rattle.saved_state.proofs.cells.Cells.truncate.Goals as goal
+use Rattle.saved_state.proofs.pages.Pages.truncate.Goals as goal
 
 pub invariant_of-self-2 : goal.invariant_of-self-2
 invariant_of-self-2 c =

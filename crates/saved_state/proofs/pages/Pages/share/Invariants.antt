@@ -1,6 +1,6 @@
 use Rattle.std.proofs.Common.{◌≡◌, take, drop}
 use Rattle.saved_state.specs.Pages.{flat}
-use Rattle.saved_state.proofs.cells.Cells.share.Given as goal
+use Rattle.saved_state.proofs.pages.Pages.share.Given as goal
 
 -- what the pieces so far give
 abbrev pub invariant-loop-k : goal.invariant-loop-k

@@ -1,7 +1,7 @@
 use Rattle.std.proofs.Common.{◌≤◌, length, take, ap, ◌∙◌, arith}
 use Rattle.saved_state.specs.Pages.{Part, flat}
 use Rattle.saved_state.proofs.Rows.{start_is, between_all}
-use Rattle.saved_state.proofs.cells.Cells.share.Goals as goal
+use Rattle.saved_state.proofs.pages.Pages.share.Goals as goal
 
 pub returns-then-to-start : goal.returns-then-to-start
 returns-then-to-start c =

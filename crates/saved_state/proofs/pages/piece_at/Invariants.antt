@@ -1,6 +1,6 @@
 use Rattle.std.proofs.Common.{◌-◌}
 use Rattle.saved_state.proofs.Rows.{IsBetween}
-use Rattle.saved_state.proofs.cells.piece_at.Given as goal
+use Rattle.saved_state.proofs.pages.piece_at.Given as goal
 
 -- the cell is over what lies beneath piece `low`, and beneath piece `high`
 abbrev pub invariant-loop-high : goal.invariant-loop-high

@@ -1,7 +1,7 @@
 use Rattle.std.proofs.Common.{subst}
 use Rattle.saved_state.specs.Pages.{IsPlace}
 use Rattle.saved_state.proofs.Rows.{row_set}
-use Rattle.saved_state.proofs.cells.Cells.set.Goals as goal
+use Rattle.saved_state.proofs.pages.Pages.set.Goals as goal
 
 pub invariant_of-self : goal.invariant_of-self
 invariant_of-self c =

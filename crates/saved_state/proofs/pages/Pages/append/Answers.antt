@@ -1,7 +1,7 @@
 use Rattle.std.proofs.Common.{◌≡◌, ◌++◌, ◌∙◌, take, length, drop, ap}
 use Rattle.saved_state.specs.Pages.{Part, flat}
 use Rattle.saved_state.proofs.Rows.{appended}
-use Rattle.saved_state.proofs.cells.Cells.append.Goals as goal
+use Rattle.saved_state.proofs.pages.Pages.append.Goals as goal
 
 pub loop-piece-preserved : goal.loop-piece-preserved
 loop-piece-preserved c =

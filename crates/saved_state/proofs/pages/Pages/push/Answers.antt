@@ -1,7 +1,7 @@
 use Rattle.std.proofs.Common.{◌≡◌, ◌+◌, suc, length, ap, arith}
 use Rattle.saved_state.specs.Pages.{Part}
 use Rattle.saved_state.proofs.Rows.{row_pushed}
-use Rattle.saved_state.proofs.cells.Cells.push.Goals as goal
+use Rattle.saved_state.proofs.pages.Pages.push.Goals as goal
 
 pub invariant_of-self-in-Some : goal.invariant_of-self-in-Some
 invariant_of-self-in-Some c =

@@ -1,6 +1,6 @@
 use Rattle.std.proofs.Common.{◌<◌, ◌+◌, ◌-◌, ◌/◌, ℕ, arith}
 use Rattle.saved_state.proofs.Rows.{between_upper, between_lower}
-use Rattle.saved_state.proofs.cells.piece_at.Goals as goal
+use Rattle.saved_state.proofs.pages.piece_at.Goals as goal
 
 halved : (low high : ℕ) → 1 < high - low → (low < low + (high - low) / 2) × (low + (high - low) / 2 < high)
 halved low high wide = (omega (arith, wide), omega (arith, wide))

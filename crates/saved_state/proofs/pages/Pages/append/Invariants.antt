@@ -1,6 +1,6 @@
 use Rattle.std.proofs.Common.{◌≡◌, ◌++◌, take}
 use Rattle.saved_state.specs.Pages.{flat}
-use Rattle.saved_state.proofs.cells.Cells.append.Given as goal
+use Rattle.saved_state.proofs.pages.Pages.append.Given as goal
 
 -- the pieces so far are there
 abbrev pub invariant-loop-piece : goal.invariant-loop-piece

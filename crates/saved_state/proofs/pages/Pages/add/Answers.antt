@@ -1,7 +1,7 @@
 use Rattle.std.proofs.Common.{◌≡◌, ◌+◌, length, ap, arith}
 use Rattle.saved_state.specs.Pages.{Part}
 use Rattle.saved_state.proofs.Rows.{row_more}
-use Rattle.saved_state.proofs.cells.Cells.add.Goals as goal
+use Rattle.saved_state.proofs.pages.Pages.add.Goals as goal
 
 pub invariant_of-self-2 : goal.invariant_of-self-2
 invariant_of-self-2 c =
