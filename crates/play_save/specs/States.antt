@@ -1,5 +1,5 @@
 -- What is saved of a play, and what a play goes on from.
-use Rattle.std.specs.Prelude.{◌≡◌, ◌<◌, ◌≤◌, ◌⊎◌, ℕ, pos, false, List, [], map, length, Option, None, Some, IsTrue, slice_get}
+use Rattle.std.specs.Prelude.{◌≡◌, ◌<◌, ◌≤◌, ◌⊎◌, ℕ, pos, false, List, [], map, length, Option, IsTrue}
 use Rattle.std.specs.List.{AllByRecursion, IsDistinct}
 use Rattle.std.specs.Str.{bytes_eq}
 use Rattle.nwq_value.specs.Engine.{EngineTable}
@@ -11,12 +11,8 @@ use Rattle.gff_read.specs.Stands.{Stands}
 use Rattle.delay_agenda.specs.declared.entry.Entry.{Entry}
 use Rattle.delay_agenda.specs.Waiting.{turn_count}
 use Rattle.saved_state.specs.declared.saved.Saved.{Saved}
-use Rattle.machine_rules.specs.Machine.{Script as MachineScript}
-use Rattle.stack_rules.specs.Tables.{ShapeTable}
-use Rattle.stack_rules.specs.Rules.{MeetsRules}
-use Rattle.stack_rules.specs.Fits.{Tables}
 use Rattle.stack_rules.specs.Laws.{AllMeet}
-use Rattle.stack_check.specs.Checked.{StoredStand}
+use Rattle.stack_check.specs.Checked.{AllStand}
 use Rattle.world_rules.specs.Kept.{turns_allowed}
 use Rattle.world_rules.specs.World.{World, queue_of}
 use Rattle.ncs_machine.specs.declared.scripts.Loaded.{Loaded}
@@ -38,12 +34,6 @@ script_part l = record { name = l.name; code = file_bytes l.code.code }
 
 abbrev pub script_parts : List Loaded → List Script
 script_parts scripts = map script_part scripts
-
--- What each script's table says of stored states stands in every table that meets the rules for it.
--- So it is of scripts that were checked.
-abbrev pub AllStand : EngineTable → List MachineScript → Tables → Type 0
-AllStand header scripts tables = (number : ℕ) (script : MachineScript) (other : ShapeTable) → slice_get scripts number ≡ Some script
-    → MeetsRules header script.code other → StoredStand (tables number) other
 
 -- ---- the world
 
