@@ -6,6 +6,7 @@ use Rattle.nwq_value.specs.Engine.{EngineTable}
 use Rattle.nwq_value.specs.Limits.{instruction_limit, entry_limit, time_limit, script_limit, random_limit}
 use Rattle.nwq_text.specs.Names.{is_script_name}
 use Rattle.ncs_code.specs.File.{IsCode, file_bytes}
+use Rattle.plan_text.specs.Plans.{Limits}
 use Rattle.gff_tree.specs.Whole.{PlainGff}
 use Rattle.gff_read.specs.Stands.{Stands}
 use Rattle.delay_agenda.specs.declared.entry.Entry.{Entry}
@@ -48,10 +49,6 @@ abbrev pub resting : World Saved → World Saved
 resting w = record w { trace = []; user = pos 0 }
 
 -- ---- which plays can be saved
-
--- how far a play may go: instructions an entry, entries in all, and until when
-abbrev pub Limits : Type 0
-Limits = ℕ × ℕ × ℕ
 
 -- each is inside its limits
 pub record MayLimit (limits : Limits) : Type 0 where
