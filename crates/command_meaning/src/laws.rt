@@ -9,9 +9,8 @@ ghost use Rattle.command_meaning.specs.Runs.{StoppedRunsBeginAsMeant, UnstoppedR
 ghost use Rattle.command_meaning.specs.Scripts.{ScriptsHaveUnits, ScriptsPlayUnits};
 ghost use Rattle.command_meaning.specs.Units.{TablesAnswerInTypes, UnitsAreWellTyped, UnitsPass};
 
-use crate::scene::Scene;
 use command_plays::laws::one_code;
-use ncs_machine::{calls_keep_fits, entries_keep_fits};
+use ncs_machine::{Scene, calls_keep_fits, entries_keep_fits};
 use nss_lexer::laws::values_are_bytes;
 use play_meaning::{code_plays_end, end_texts_agree, source_plays_end, typed_scripts_are_ready};
 use saved_state::Saved;

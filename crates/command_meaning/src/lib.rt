@@ -13,7 +13,6 @@
 #![tactic(auto)]
 
 mod laws;
-mod scene;
 
 pub use laws::{
     checked_plays_have_no_fault, ends_are_answered, files_play_their_code, listed_units_play_alike,

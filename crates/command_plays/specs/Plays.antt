@@ -3,6 +3,7 @@
 use Rattle.std.specs.Prelude.{ℕ, List, min}
 use Rattle.nwq_value.specs.Engine.{EngineTable}
 use Rattle.plan_text.specs.declared.plan.Plan.{Plan}
+use Rattle.plan_text.specs.Plans.{Limits, limits_of}
 use Rattle.saved_state.specs.declared.saved.Saved.{Saved}
 use Rattle.world_rules.specs.Pure.{CellLookup}
 use Rattle.world_rules.specs.World.{World}
@@ -21,13 +22,6 @@ host_of cell header scripts = host scripts (record { table = header; cell = cell
 -- the play of listed scripts from a world on, with the limits of a plan
 abbrev pub played : CellLookup → EngineTable → Plan → List Script → World Saved → Played Saved
 played cell header plan scripts w = code_play (host_of cell header scripts) plan.limit plan.entries plan.until w
-
--- how far a play may go: instructions an entry, entries in all, and until when
-abbrev pub Limits : Type 0
-Limits = ℕ × ℕ × ℕ
-
-abbrev pub limits_of : Plan → Limits
-limits_of plan = (plan.limit, plan.entries, plan.until)
 
 -- the play that goes on after so many entries and instructions, and is broken off once so many
 -- entries were taken in all

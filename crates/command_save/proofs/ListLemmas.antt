@@ -14,7 +14,8 @@ use Rattle.ncs_machine.specs.declared.scripts.Loaded.{Loaded}
 use Rattle.ncs_machine.specs.Host.{scripts_of, tables_of}
 use Rattle.play_inputs.specs.Listings.{line_names, loaded_names}
 use Rattle.play_save.specs.Rules.{IsHeaderOf}
-use Rattle.play_save.specs.States.{AllStand, MayList}
+use Rattle.play_save.specs.States.{MayList}
+use Rattle.stack_check.specs.Checked.{AllStand}
 use Rattle.command_save.specs.declared.inputs.HeaderFile.{HeaderFile}
 
 -- ---- names

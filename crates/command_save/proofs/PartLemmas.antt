@@ -6,7 +6,7 @@ use Rattle.nwq_outside.specs.Outside.{Contents, TookPrefix}
 use Rattle.gff_tree.specs.Whole.{PlainGff}
 use Rattle.area_rules.specs.Area.{PlainArea}
 use Rattle.plan_text.specs.declared.plan.Plan.{Plan}
-use Rattle.plan_text.specs.Plans.{IsPlan}
+use Rattle.plan_text.specs.Plans.{IsPlan, limits_of}
 use Rattle.saved_state.specs.declared.saved.Saved.{Saved}
 use Rattle.hook_table.specs.declared.hook.Known.{Known}
 use Rattle.world_rules.specs.World.{World}
@@ -32,7 +32,7 @@ use Rattle.play_worlds.specs.Fresh.{PlanWorldsAreFresh}
 use Rattle.command_work.specs.declared.status.Status.{Status}
 use Rattle.command_work.specs.Work.{Does, CutsShort, Finished}
 use Rattle.command_work.specs.Counts.{Counts, Tallies}
-use Rattle.command_plays.specs.Plays.{limits_of, played_first}
+use Rattle.command_plays.specs.Plays.{played_first}
 use Rattle.command_save.specs.declared.inputs.HeaderFile.{HeaderFile}
 use Rattle.command_save.specs.declared.inputs.AreaFile.{AreaFile}
 use Rattle.command_save.specs.Saves.{saves_by, saves_plan}

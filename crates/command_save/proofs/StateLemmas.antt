@@ -4,7 +4,7 @@ use Rattle.std.specs.List.{AllByRecursion}
 use Rattle.nwq_outside.specs.Outside.{Contents}
 use Rattle.ncs_code.specs.File.{IsCode, file_bytes}
 use Rattle.plan_text.specs.declared.plan.Plan.{Plan}
-use Rattle.plan_text.specs.Plans.{IsPlan}
+use Rattle.plan_text.specs.Plans.{IsPlan, limits_of}
 use Rattle.saved_state.specs.declared.saved.Saved.{Saved}
 use Rattle.world_rules.specs.World.{World}
 use Rattle.world_rules.specs.Plays as plays
@@ -28,7 +28,6 @@ use Rattle.command_work.specs.declared.status.Status.TheVariants as status
 use Rattle.command_work.specs.Work.{Does, Puts, Ends, Finished, CutsShort}
 use Rattle.command_work.specs.Counts.{Refusing}
 use Rattle.command_work.specs.Parts.{cut_here, finds_one}
-use Rattle.command_plays.specs.Plays.{limits_of}
 use Rattle.command_plays.specs.Tellings.{cut_of}
 use Rattle.command_save.specs.declared.inputs.HeaderFile.{HeaderFile}
 use Rattle.command_save.specs.Saves.{file_of, AreSpelled, IsStateAt, state_written, saves_at, saves_by}

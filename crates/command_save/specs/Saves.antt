@@ -16,6 +16,7 @@ use Rattle.state_format.specs.declared.parts.Script.{Script as ScriptPart}
 use Rattle.state_format.specs.declared.parts.Parts.{Parts}
 use Rattle.state_format.specs.Parts.{HasForm}
 use Rattle.state_format.specs.Fields.{parts_bytes}
+use Rattle.plan_text.specs.Plans.{limits_of}
 use Rattle.play_save.specs.Rules.{IsAccepted}
 use Rattle.play_save.specs.States.{resting, IsPlayOf, HasCome, IsWorldOf}
 use Rattle.command_work.specs.declared.flaw.AreaFlaw.TheVariants as flaw
@@ -25,7 +26,7 @@ use Rattle.command_work.specs.Work.{Work, Refused, Ends, Puts, Finds, then, Fini
 use Rattle.play_inputs.specs.Plans.{plan_named}
 use Rattle.play_inputs.specs.Listings.{scripts_listed}
 use Rattle.play_worlds.specs.Worlds.{plan_world}
-use Rattle.command_plays.specs.Plays.{limits_of, played_first}
+use Rattle.command_plays.specs.Plays.{played_first}
 use Rattle.command_save.specs.declared.inputs.HeaderFile.{HeaderFile}
 use Rattle.command_save.specs.declared.inputs.AreaFile.{AreaFile}
 use Rattle.command_save.specs.Inputs.{header_of, area_named}

@@ -12,8 +12,9 @@ use Rattle.ncs_machine.specs.Stored.{StatesFit}
 use Rattle.module_player.specs.declared.played.How.{How}
 use Rattle.module_player.specs.declared.played.How.TheVariants.{Done, InstrStop, EntryStop, Pause, Fault, NoMemory}
 use Rattle.module_player.specs.declared.played.Played.{Played as Answer}
+use Rattle.plan_text.specs.Plans.{Limits}
 use Rattle.play_save.specs.declared.state.Opened.{Opened}
-use Rattle.play_save.specs.States.{Limits, MayCount, MayRest}
+use Rattle.play_save.specs.States.{MayCount, MayRest}
 use Rattle.command_work.specs.declared.status.Status.{Status}
 use Rattle.command_work.specs.declared.status.Status.TheVariants.{Limit}
 use Rattle.command_work.specs.Counts.{StopsArea}

@@ -1,5 +1,5 @@
 //! The header and the area of a play that may be saved, with the bytes of their files.
-ghost use Rattle.std.specs.Prelude.{◌≡◌, ◌≤◌, ℕ, length, codes, IsTrue, IfOk, IfErr, bytes_eq};
+ghost use Rattle.std.specs.Prelude.{◌≡◌, ◌≤◌, ℕ, length, IsTrue, IfOk, IfErr};
 ghost use Rattle.nwq_value.specs.Limits.{file_limit};
 ghost use Rattle.nwq_outside.specs.Outside.{Contents};
 ghost use Rattle.nwq_outside.specs.declared.counts.FileCounts.{FileCounts};
@@ -10,7 +10,7 @@ ghost use Rattle.command_save.specs.Inputs.{area_in, area_named, header_in, head
 ghost use Rattle.command_save.specs.Inputs.{header_of};
 
 use area_tree::Area;
-use command_sources::table_of_text;
+use command_sources::{is_dash, table_of_text};
 use command_work::{Status, read_file};
 use engine_table::built_in;
 use nwq_outside::{Files, Sink};
@@ -81,12 +81,6 @@ fn header_of_file<F: Files, S: Sink>(
         Err(status) => Err(status),
         Ok(text) => header_of_text(alloc, name.as_bytes(), text, out),
     }
-}
-
-fn is_dash(word: &str) -> bool
-    ensures { result ≡ bytes_eq word.now (codes "-") }
-{
-    word == "-"
 }
 
 /// The header that a word names: `-` is the built-in one, every other word a file.

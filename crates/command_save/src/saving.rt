@@ -1,7 +1,7 @@
 //! What is saved of a play, and how a play ends that is saved.
 ghost use Rattle.std.specs.Prelude.{◌≡◌, ◌<◌, ◌≤◌, ◌^◌, ℕ, None, map, length, IsTrue, IfOk, IfErr};
 ghost use Rattle.std.specs.Option.{option_map};
-ghost use Rattle.plan_text.specs.Plans.{IsPlan};
+ghost use Rattle.plan_text.specs.Plans.{IsPlan, limits_of};
 ghost use Rattle.saved_state.specs.declared.saved.Saved.{Saved as SavedView};
 ghost use Rattle.world_rules.specs.Plays.{Progress, Played as PlayedView};
 ghost use Rattle.ncs_machine.specs.Host.{scripts_of};
@@ -12,7 +12,6 @@ ghost use Rattle.nwq_outside.specs.Outside.{Contents};
 ghost use Rattle.nwq_outside.specs.declared.counts.FileCounts.{FileCounts};
 ghost use Rattle.command_work.specs.Work.{Does, Ends, Puts};
 ghost use Rattle.command_work.specs.Counts.{Counted, Tallies, Refusing, KeepsBut};
-ghost use Rattle.command_plays.specs.Plays.{limits_of};
 ghost use Rattle.command_plays.specs.Tellings.{cut_of};
 ghost use Rattle.command_play.specs.Tellings.{StopsGame};
 ghost use Rattle.command_save.specs.Saves.{IsStateAt, saves_at, saves_by};

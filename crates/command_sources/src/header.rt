@@ -90,7 +90,8 @@ fn table_of_file<F: Files, S: Sink>(
     }
 }
 
-fn is_dash(word: &str) -> bool
+/// Whether a word names the built-in header.
+pub fn is_dash(word: &str) -> bool
     ensures { result ≡ bytes_eq word.now (codes "-") }
 {
     word == "-"

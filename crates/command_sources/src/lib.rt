@@ -11,6 +11,6 @@ pub mod laws;
 mod script;
 mod unit;
 
-pub use header::{read_table, table_of_text};
+pub use header::{is_dash, read_table, table_of_text};
 pub use script::Script;
 pub use unit::{read_unit, refuse_end, refuse_token};

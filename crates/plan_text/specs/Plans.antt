@@ -213,6 +213,13 @@ IsLine (Event due nth label tag) = (due ≤ time_limit) × (nth ≤ greatest_nth
 IsLine (Start due nth name tag) = (due ≤ time_limit) × (nth ≤ greatest_nth) × IsTrue (is_script_name name) × IsTextual tag
 IsLine (Free due name) = (due ≤ time_limit) × IsTrue (is_script_name name)
 
+-- how far a play may go: instructions an entry, entries in all, and until when
+abbrev pub Limits : Type 0
+Limits = ℕ × ℕ × ℕ
+
+abbrev pub limits_of : Plan → Limits
+limits_of plan = (plan.limit, plan.entries, plan.until)
+
 pub record IsPlan (plan : Plan) : Type 0 where
   pub version : IsVersion plan.version
   pub limit : IsBetween 1 instruction_limit plan.limit

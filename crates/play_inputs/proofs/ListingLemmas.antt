@@ -13,7 +13,7 @@ use Rattle.machine_rules.specs.Machine.{Script}
 use Rattle.stack_rules.specs.Tables.{ShapeTable}
 use Rattle.stack_rules.specs.Rules.{MeetsRules}
 use Rattle.stack_rules.specs.Laws.{AllMeet}
-use Rattle.stack_check.specs.Checked.{StoredStand, kept_table}
+use Rattle.stack_check.specs.Checked.{StoredStand, AllStand, kept_table}
 use Rattle.ncs_machine.specs.Host.{script_of, scripts_of, tables_of}
 use Rattle.ncs_machine.specs.declared.scripts.Loaded.{Loaded}
 use Rattle.command_work.specs.declared.status.Status.{Status}
@@ -21,7 +21,7 @@ use Rattle.command_work.specs.declared.status.Status.TheVariants.{Memory}
 use Rattle.command_work.specs.Work.{Does}
 use Rattle.command_work.specs.Counts.{KeepsBut}
 use Rattle.command_work.specs.Parts.{cut_here, then_ok, then_err}
-use Rattle.play_inputs.specs.Listings.{script_in, lists_on, IsOwnFile, IsSourceFile, AllStand, line_names, loaded_names}
+use Rattle.play_inputs.specs.Listings.{script_in, lists_on, IsOwnFile, IsSourceFile, line_names, loaded_names}
 
 -- ---- the work
 

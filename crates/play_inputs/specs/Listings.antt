@@ -1,13 +1,9 @@
 -- The scripts that a plan lists, in its order: the code of each, by which it is played.
-use Rattle.std.specs.Prelude.{◌≡◌, ℕ, Bool, true, false, ◌⊎◌, List, [], ◌∷◌, ◌++◌, map, Some, slice_get, Result, Ok, Err}
+use Rattle.std.specs.Prelude.{◌≡◌, ℕ, Bool, true, false, ◌⊎◌, List, [], ◌∷◌, ◌++◌, map, Result, Ok, Err}
 use Rattle.nwq_value.specs.Engine.{EngineTable}
 use Rattle.ncs_code.specs.Plain.{PlainOp}
 use Rattle.plan_text.specs.declared.plan.Script.{Script as ScriptLine}
 use Rattle.machine_rules.specs.Machine.{Script}
-use Rattle.stack_rules.specs.Tables.{ShapeTable}
-use Rattle.stack_rules.specs.Rules.{MeetsRules}
-use Rattle.stack_rules.specs.Fits.{Tables}
-use Rattle.stack_check.specs.Checked.{StoredStand}
 use Rattle.ncs_machine.specs.Host.{script_of, scripts_of}
 use Rattle.ncs_machine.specs.declared.scripts.Loaded.{Loaded}
 use Rattle.command_work.specs.declared.status.Status.{Status}
@@ -69,12 +65,6 @@ line_names lines = map (λ (line : ScriptLine). line.name) lines
 
 abbrev pub loaded_names : List Loaded → List (List ℕ)
 loaded_names scripts = map (λ (loaded : Loaded). loaded.name) scripts
-
--- What each script's table says of stored states stands in every table that meets the rules for it.
--- So it is of scripts that were checked.
-abbrev pub AllStand : EngineTable → List Script → Tables → Type 0
-AllStand header scripts tables = (number : ℕ) (script : Script) (other : ShapeTable) → slice_get scripts number ≡ Some script
-    → MeetsRules header script.code other → StoredStand (tables number) other
 
 -- ---- answers
 

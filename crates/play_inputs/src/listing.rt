@@ -2,11 +2,12 @@
 ghost use Rattle.std.specs.Prelude.{◌≡◌, ◌+◌, ◌++◌, ℕ, length, map, IsTrue, IfOk, IfErr, OnOk};
 ghost use Rattle.plan_text.specs.Plans.{AreListed};
 ghost use Rattle.stack_rules.specs.Laws.{AllMeet};
+ghost use Rattle.stack_check.specs.Checked.{AllStand};
 ghost use Rattle.ncs_machine.specs.Host.{scripts_of, tables_of};
 ghost use Rattle.command_work.specs.Work.{Does};
 ghost use Rattle.command_work.specs.Counts.{Counted, Tallies, KeepsBut};
 ghost use Rattle.play_inputs.specs.Listings.{lists_on, scripts_listed, listed_by, listed_answer};
-ghost use Rattle.play_inputs.specs.Listings.{AllStand, IsSourceFile, StopsListing};
+ghost use Rattle.play_inputs.specs.Listings.{IsSourceFile, StopsListing};
 ghost use Rattle.play_inputs.specs.Listings.{line_names, loaded_names};
 
 use crate::code::read_script;

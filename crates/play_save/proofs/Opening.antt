@@ -14,7 +14,7 @@ use Rattle.stack_rules.specs.Tables.{ShapeTable}
 use Rattle.stack_rules.specs.Rules.{MeetsRules}
 use Rattle.stack_rules.specs.Fits.{FitsOne}
 use Rattle.stack_rules.specs.Laws.{AllMeet}
-use Rattle.stack_check.specs.Checked.{StoredStand}
+use Rattle.stack_check.specs.Checked.{StoredStand, AllStand}
 use Rattle.saved_state.specs.declared.saved.Saved.{Saved}
 use Rattle.ncs_machine.specs.declared.scripts.Loaded.{Loaded}
 use Rattle.ncs_machine.specs.Host.{script_of, scripts_of, tables_of}
@@ -33,7 +33,7 @@ use Rattle.play_save.specs.World.{saved_of, item_of, things_of, entry_of, world_
 use Rattle.play_save.specs.Rules.{ItemHolds, KindHolds, Rule, rules, KeepsAll, IsFirstBroken, IsAccepted}
 use Rattle.play_save.specs.declared.fault.StateFault.{StateFault}
 use Rattle.play_save.specs.declared.fault.StateFault.TheVariants as fault
-use Rattle.play_save.specs.States.{script_parts, AllStand}
+use Rattle.play_save.specs.States.{script_parts}
 use Rattle.play_save.specs.Breaking.{AreScriptsOf, IsFitting, BreaksFirst}
 use Rattle.play_save.proofs.Lists.{take_whole}
 

@@ -1,22 +1,19 @@
 -- What is saved of a play, and what a play goes on from.
-use Rattle.std.specs.Prelude.{◌≡◌, ◌<◌, ◌≤◌, ◌⊎◌, ℕ, pos, false, List, [], map, length, Option, None, Some, IsTrue, slice_get}
+use Rattle.std.specs.Prelude.{◌≡◌, ◌<◌, ◌≤◌, ◌⊎◌, ℕ, pos, false, List, [], map, length, Option, IsTrue}
 use Rattle.std.specs.List.{AllByRecursion, IsDistinct}
 use Rattle.std.specs.Str.{bytes_eq}
 use Rattle.nwq_value.specs.Engine.{EngineTable}
 use Rattle.nwq_value.specs.Limits.{instruction_limit, entry_limit, time_limit, script_limit, random_limit}
 use Rattle.nwq_text.specs.Names.{is_script_name}
 use Rattle.ncs_code.specs.File.{IsCode, file_bytes}
+use Rattle.plan_text.specs.Plans.{Limits}
 use Rattle.gff_tree.specs.Whole.{PlainGff}
 use Rattle.gff_read.specs.Stands.{Stands}
 use Rattle.delay_agenda.specs.declared.entry.Entry.{Entry}
 use Rattle.delay_agenda.specs.Waiting.{turn_count}
 use Rattle.saved_state.specs.declared.saved.Saved.{Saved}
-use Rattle.machine_rules.specs.Machine.{Script as MachineScript}
-use Rattle.stack_rules.specs.Tables.{ShapeTable}
-use Rattle.stack_rules.specs.Rules.{MeetsRules}
-use Rattle.stack_rules.specs.Fits.{Tables}
 use Rattle.stack_rules.specs.Laws.{AllMeet}
-use Rattle.stack_check.specs.Checked.{StoredStand}
+use Rattle.stack_check.specs.Checked.{AllStand}
 use Rattle.world_rules.specs.Kept.{turns_allowed}
 use Rattle.world_rules.specs.World.{World, queue_of}
 use Rattle.ncs_machine.specs.declared.scripts.Loaded.{Loaded}
@@ -39,12 +36,6 @@ script_part l = record { name = l.name; code = file_bytes l.code.code }
 abbrev pub script_parts : List Loaded → List Script
 script_parts scripts = map script_part scripts
 
--- What each script's table says of stored states stands in every table that meets the rules for it.
--- So it is of scripts that were checked.
-abbrev pub AllStand : EngineTable → List MachineScript → Tables → Type 0
-AllStand header scripts tables = (number : ℕ) (script : MachineScript) (other : ShapeTable) → slice_get scripts number ≡ Some script
-    → MeetsRules header script.code other → StoredStand (tables number) other
-
 -- ---- the world
 
 -- the world is the one that the state tells
@@ -58,10 +49,6 @@ abbrev pub resting : World Saved → World Saved
 resting w = record w { trace = []; user = pos 0 }
 
 -- ---- which plays can be saved
-
--- how far a play may go: instructions an entry, entries in all, and until when
-abbrev pub Limits : Type 0
-Limits = ℕ × ℕ × ℕ
 
 -- each is inside its limits
 pub record MayLimit (limits : Limits) : Type 0 where

@@ -1,13 +1,14 @@
 -- Checked code: what it keeps, and what that means in every table of shapes.
-use Rattle.std.specs.Prelude.{◌≡◌, ◌≤◌, ◌+◌, ◌*◌, ℕ, List, length, Some}
+use Rattle.std.specs.Prelude.{◌≡◌, ◌≤◌, ◌+◌, ◌*◌, ℕ, List, length, Some, slice_get}
 use Rattle.nwq_value.specs.Engine.{EngineTable}
 use Rattle.ncs_code.specs.Plain.{PlainOp, StoreState}
 use Rattle.ncs_code.specs.File.{op_at, resume_place}
 use Rattle.saved_state.specs.declared.saved.Saved.{Saved}
 use Rattle.stack_shape.specs.declared.shape.Entry.TheVariants.{Stored}
 use Rattle.stack_shape.specs.Stored.{TopShape}
+use Rattle.machine_rules.specs.Machine.{Script}
 use Rattle.stack_rules.specs.Tables.{ShapeTable}
-use Rattle.stack_rules.specs.Fits.{Fits}
+use Rattle.stack_rules.specs.Fits.{Fits, Tables}
 use Rattle.stack_rules.specs.Rules.{MeetsRules}
 use Rattle.stack_lists.specs.declared.held.Heap.{Heap}
 use Rattle.stack_check.specs.declared.facts.Trial.{Trial}
@@ -56,6 +57,12 @@ FitsToo = (table other : ShapeTable) (saved : Saved) → StoredStand table other
 pub record IsKeptTable (header : EngineTable) (code : List PlainOp) (table : ShapeTable) : Type 0 where
   pub meets : MeetsRules header code table
   pub stored : (other : ShapeTable) → MeetsRules header code other → StoredStand table other
+
+-- What each script's table says of stored states stands in every table that meets the rules for it.
+-- So it is of scripts that were checked.
+abbrev pub AllStand : EngineTable → List Script → Tables → Type 0
+AllStand header scripts tables = (number : ℕ) (script : Script) (other : ShapeTable) → slice_get scripts number ≡ Some script
+    → MeetsRules header script.code other → StoredStand (tables number) other
 
 -- The state resumes behind a STORE_STATE of as many bytes as its globals and its locals take.
 pub record StandsBehind (code : List PlainOp) (saved : Saved) : Type 0 where

@@ -1,8 +1,9 @@
 use Rattle.std.proofs.Common.{◌≡◌, ◌+◌, ◌++◌, length, take}
 use Rattle.stack_rules.specs.Laws.{AllMeet}
+use Rattle.stack_check.specs.Checked.{AllStand}
 use Rattle.ncs_machine.specs.Host.{scripts_of, tables_of}
 use Rattle.command_work.specs.Counts.{Counted, KeepsBut}
-use Rattle.play_inputs.specs.Listings.{IsSourceFile, AllStand, line_names, loaded_names}
+use Rattle.play_inputs.specs.Listings.{IsSourceFile, line_names, loaded_names}
 use Rattle.play_inputs.proofs.ListingLemmas.{SoFar}
 use Rattle.play_inputs.proofs.listing.list_on.Given as goal
 
