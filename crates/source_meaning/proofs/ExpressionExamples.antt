@@ -13,6 +13,7 @@ use Rattle.nwq_value.specs.Header.{header_routines}
 use Rattle.nwq_value.specs.HeaderTable.{header_table}
 use Rattle.nwq_value.specs.Operators.{value_eq}
 use Rattle.nwq_value.specs.declared.value.Ty.TheVariants as t
+use Rattle.nwq_value.specs.declared.engine.Const.TheVariants as c
 use Rattle.nwq_value.specs.declared.value.Value.{Value}
 use Rattle.nwq_value.specs.declared.value.Value.TheVariants.{Int, Text}
 use Rattle.typing_rules.specs.declared.places.Callee.TheVariants.{Engine}
@@ -150,10 +151,11 @@ combined_assignments w = (refl, refl, refl, refl, refl, refl, refl, refl, refl)
 
 -- ---- calls
 
--- the argument and the call; the name, the default and the call; the delay, the captured command,
--- whose own value is never asked for, and the call
+-- the argument and the call, twice; the string, the default and the call; the delay, the captured
+-- command, whose own value is never asked for, and the call
 calls : (w : World Deferred) → (told w (print n) ≡ (Int (pos 7) ∷ Int (pos 40) ∷ [], 2))
     × (told w (e.call t.Text (Engine 29) (args (int 3 ∷ [])) []) ≡ (Text (codes "3") ∷ Int (pos 7) ∷ Int (pos 40) ∷ [], 2))
+    × (told w (e.call t.Void (Engine 13) (args (text "a" ∷ [])) (c.Int (pos 0) ∷ [])) ≡ (Int (pos 7) ∷ Int (pos 40) ∷ [], 3))
     × (told w (delay (int 5) (print zero_divided)) ≡ (Int (pos 7) ∷ Int (pos 40) ∷ [], 3))
 unfolding bind spend engine header_table header_routines digits
-calls w = (refl, refl, refl)
+calls w = (refl, refl, refl, refl)

@@ -24,9 +24,10 @@ use Rattle.world_rules.specs.Engine.{engine}
 use Rattle.world_rules.specs.Trace.{line_text, trace_text}
 use Rattle.world_rules.specs.World.{World}
 use Rattle.source_meaning.specs.Evaluation.{Deferred, Outcome, Gives, Divides, OutOfSteps, bind, spend}
+use Rattle.source_meaning.specs.Expressions.{Running}
 use Rattle.source_meaning.specs.Statements.{Flow, exec}
 use Rattle.source_meaning.specs.Scripts.{no_functions}
-use Rattle.source_meaning.proofs.Trees.{stmts, int, local, global, two, assign, function_call, print, delay, does, sets, declare, global_of, function, unit_of, only_main, alone, printed, here, begun}
+use Rattle.source_meaning.proofs.Trees.{stmts, int, local, global, two, assign, function_call, print, delay, execute_here, does, sets, declare, global_of, function, unit_of, only_main, listed, played, alone, printed, here, begun}
 
 abbrev count_up : TypedExpr
 count_up = e.postfix t.Int post.Increment (local 0)
@@ -172,3 +173,68 @@ calling = unit_of (function t.Int [] (s.return_from 0 (Some (int 5)) ∷ []) ∷
 call_steps : (area : PlainArea) → (alone calling 9 area).last.count ≡ 5
 unfolding bind spend engine header_table header_routines
 call_steps area = refl
+
+-- ---- steps of structs
+
+-- where `struct P { int x; string y; };` stands in front
+abbrev with_pairs : Running
+with_pairs = record here { structs = (t.Int ∷ t.Text ∷ []) ∷ [] }
+
+abbrev pair_steps : World Deferred → TypedStmt → ℕ
+pair_steps w x = taken (exec with_pairs no_functions (1 ∷ 0 ∷ []) x (begun w))
+
+-- `struct P q;` makes two cells; `p;` and `p.x;` are one expression each, and `p.x = n;` is two
+struct_steps : (w : World Deferred) → (pair_steps w (declare 2 (t.Struct 0) None) ≡ 2) × (pair_steps w (does (pair 1)) ≡ 1)
+    × (pair_steps w (does (e.member t.Int (pair 1) 0)) ≡ 1) × (pair_steps w (sets (e.member t.Int (pair 1) 0) (local 0)) ≡ 2)
+unfolding bind spend
+struct_steps w = (refl, refl, refl, refl)
+
+-- struct P { int x; string y; }; struct P f() { struct P p; return p; } void main() { f(); }
+abbrev pair_made : TypedUnit
+pair_made = unit_of (
+    unit.structure 0 (codes "P") (
+    record { token = 0; ty = t.Int; names = record { token = 0; name = codes "x" } ∷ [] }
+    ∷ record { token = 0; ty = t.Text; names = record { token = 0; name = codes "y" } ∷ [] } ∷ [])
+    ∷ function (t.Struct 0) [] (declare 0 (t.Struct 0) None ∷ s.return_from 0 (Some (pair 0)) ∷ [])
+    ∷ function t.Void [] (does (function_call (t.Struct 0) 0 []) ∷ []) ∷ []) (Main 1)
+
+-- the start, the result's two cells, the call that is begun, the variable's two cells, its value and
+-- the `return`
+pair_made_steps : (area : PlainArea) → (alone pair_made 9 area).last.count ≡ 8
+unfolding bind spend engine header_table header_routines
+pair_made_steps area = refl
+
+-- ---- functions that are left at their end, and scripts that run others
+
+-- int f() { do { if (1) break; return 5; } while (0); } void main() { PrintInteger(f()); }
+abbrev left_at_end : TypedUnit
+left_at_end = unit_of (
+    function t.Int [] (s.do_loop 0 (s.block 0 (stmts (s.if_only 0 (int 1) (s.break_off 0) ∷ s.return_from 0 (Some (int 5)) ∷ []))) (int 0) ∷ [])
+    ∷ function t.Void [] (does (print (function_call t.Int 0 [])) ∷ []) ∷ []) (Main 1)
+
+-- it gives its type's starting value
+left_at_end_printed : (area : PlainArea) → printed (alone left_at_end 20 area) ≡ codes "0 #0 print 0\n"
+unfolding bind spend engine header_table header_routines trace_text line_text digits escaped spelling value_text
+left_at_end_printed area = refl
+
+-- the start, the result's cell, the call that is begun, the literal, the `break` and the printing
+left_at_end_steps : (area : PlainArea) → (alone left_at_end 9 area).last.count ≡ 6
+unfolding bind spend engine header_table header_routines
+left_at_end_steps area = refl
+
+-- s: void main() { ExecuteScript("t"); }
+abbrev runs_t : TypedUnit
+runs_t = only_main (does (execute_here "t") ∷ [])
+
+-- Where t is void main() { PrintInteger(1); }: the start, the name, the default, the start of t, the
+-- literal, the printing and the call, which has its value when t has ended. Where t isn't listed, the
+-- start, the name, the default and the call.
+executed_steps : (area : PlainArea)
+    → ((played (listed "s" runs_t ∷ listed "t" (only_main (does (print (int 1)) ∷ [])) ∷ []) area [] 0 "s" 9).last.count ≡ 7)
+    × ((played (listed "s" runs_t ∷ []) area [] 0 "s" 9).last.count ≡ 4)
+unfolding bind spend engine header_table header_routines
+executed_steps area = (refl, refl)
+
+unlisted_told : (area : PlainArea) → printed (played (listed "s" runs_t ∷ []) area [] 0 "s" 9) ≡ codes "0 #0 noscript t\n"
+unfolding bind spend engine header_table header_routines trace_text line_text digits escaped spelling value_text
+unlisted_told area = refl

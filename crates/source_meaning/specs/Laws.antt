@@ -1,10 +1,13 @@
 -- What is promised of steps, and of the fields of structs.
-use Rattle.std.specs.Prelude.{◌≡◌, ℕ, ◌+◌, List, ◌∷◌, ◌++◌, length}
+use Rattle.std.specs.Prelude.{◌≡◌, ℕ, ◌+◌, List, [], ◌∷◌, ◌++◌, length}
+use Rattle.nwq_value.specs.declared.value.Ty.{Ty}
 use Rattle.nwq_value.specs.declared.value.Value.{Value}
+use Rattle.typing_rules.specs.Cells.{Structs, cells}
 use Rattle.world_rules.specs.World.{World}
 use Rattle.source_meaning.specs.Values.{parts_of, with_parts}
 use Rattle.source_meaning.specs.Evaluation.{Deferred, Progress, Outcome, Gives, Divides, OutOfSteps}
 use Rattle.source_meaning.specs.Expressions.{all_parts}
+use Rattle.source_meaning.specs.Fields.{IsMember}
 use Rattle.source_meaning.specs.Scripts.{Setting, run_script, run_deferred}
 
 -- ---- steps
@@ -37,3 +40,19 @@ FieldsAreParts =
     → (parts_of (length (all_parts front)) (length field) (all_parts (front ++ field ∷ back)) ≡ field)
     × ((new : List Value) → length new ≡ length field
     → with_parts (length (all_parts front)) new (all_parts (front ++ field ∷ back)) ≡ all_parts (front ++ new ∷ back))
+
+-- each value has as many parts as its type has cells
+abbrev pub HaveCells : Structs → List Ty → List (List Value) → Type 0
+HaveCells structs [] [] = Unit {0}
+HaveCells structs (t ∷ ts) (v ∷ vs) = (length v ≡ cells structs t) × HaveCells structs ts vs
+HaveCells structs (t ∷ ts) [] = ⊥
+HaveCells structs [] (v ∷ vs) = ⊥
+
+-- So a member, as an expression reads and writes it, is a field of its struct: of a value that has
+-- the fields' values in a row it reads that field's, and a new one takes that field's place.
+abbrev pub MembersAreFields : Type 0
+MembersAreFields =
+    (structs : Structs) (fields : List (List Ty)) (whole part : Ty) (before : ℕ) (m : IsMember structs fields whole part before)
+    (front : List (List Value)) (field : List Value) (back : List (List Value)) → HaveCells structs m.front front → length field ≡ cells structs part
+    → (parts_of before (cells structs part) (all_parts (front ++ field ∷ back)) ≡ field)
+    × ((new : List Value) → length new ≡ cells structs part → with_parts before new (all_parts (front ++ field ∷ back)) ≡ all_parts (front ++ new ∷ back))

@@ -1,5 +1,5 @@
 //! Laws about the definitions, each the contract of a function that does nothing.
-ghost use Rattle.source_meaning.specs.Laws.{EntriesSpendSteps, FieldsAreParts};
+ghost use Rattle.source_meaning.specs.Laws.{EntriesSpendSteps, FieldsAreParts, MembersAreFields};
 
 /// An entry is out of steps only where none is left; and where it ends, it ends equally with more
 /// steps, which are left besides.
@@ -8,7 +8,9 @@ pub fn entries_spend_steps()
 {}
 
 /// In the value of a struct the parts behind those of the fields before one are that field's value,
-/// when they are read and when they are written.
+/// when they are read and when they are written. So a typed member is a field: it stands as many
+/// cells behind the first one as the fields before it have.
 pub fn fields_are_parts()
     ensures are { FieldsAreParts }
+    ensures members { MembersAreFields }
 {}
