@@ -1,0 +1,1 @@
+string Say(int n) { return "round " + IntToString(n); }

@@ -1,0 +1,1 @@
+void main() { PrintString(Get2DAString("x","COST",0)); }

@@ -1,0 +1,1 @@
+void F() { AssignCommand(OBJECT_SELF, F()); } void main() { F(); }

@@ -1,0 +1,2 @@
+#include "nope"
+void main() {}
