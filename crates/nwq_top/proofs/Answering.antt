@@ -81,13 +81,13 @@ numbered words = one_of (list_any is_option words) NoForm (command_form words) t
 -- ---- the forms
 
 module _ (header : OneHeader) (some : SomeSplit) (trees : TreeOrPlace) (right : VerdictsAreRight) (settled : NoneKeptIsTyped) (pass : UnitsPass) (have : ScriptsHaveUnits)
-    (reads : HeadersHaveTables) (own : BuiltInIsTable) (made : SourcesCompile) where
+    (reads : HeadersHaveTables) (own : BuiltInIsTable) (made : SourcesCompile) (sizes : SizeLaws) (places : PlaceLaws) where
   plain_goes : (cell : CellLookup) (form : Form) → IsNumbered form → IsPlainForm form → (c : Contents) → AreBytes c → Goes (work_of cell form) c Anything
   plain_goes cell (Run word script) small plain c held = run_goes header some trees right settled pass have reads own cell word script c held
   plain_goes cell (Compile word script) small plain c held = compile_goes header some trees right settled pass have reads own word script c
   plain_goes cell (Tree file) small plain c held = shows_tree_goes file c
   plain_goes cell (Check word file) small plain c held = absurd plain
-  plain_goes cell (Disassemble file to) small plain c held = absurd plain
+  plain_goes cell (Disassemble file to) small plain c held = disassemble_goes sizes places file to c (files_of_bytes c held)
   plain_goes cell (Assemble file to) small plain c held = absurd plain
   plain_goes cell (Play word area plan to list) small plain c held = absurd plain
   plain_goes cell (Generate number) small plain c held = generate_goes header some trees right settled pass have reads own made cell number small c
@@ -99,33 +99,32 @@ module _ (header : OneHeader) (some : SomeSplit) (trees : TreeOrPlace) (right : 
   plain_have_outcomes cell words c t held plain =
       has_outcome (work_of cell (form_of words)) c t Anything (plain_goes cell (form_of words) (numbered words) plain c held)
 
-  module _ (sizes : SizeLaws) (places : PlaceLaws) where
-    form_goes : (cell : CellLookup) (form : Form) → IsNumbered form → (c : Contents) → CanSave cell c form → AreBytes c → Undeniable (Goes (work_of cell form) c Anything)
-    form_goes cell (Run word script) small c can held = surely (plain_goes cell (Run word script) tt tt c held)
-    form_goes cell (Compile word script) small c can held = surely (plain_goes cell (Compile word script) tt tt c held)
-    form_goes cell (Tree file) small c can held = surely (shows_tree_goes file c)
-    form_goes cell (Check word file) small c can held = check_goes sizes places header word file c (files_of_bytes c held)
-    form_goes cell (Disassemble file to) small c can held = disassemble_goes sizes places file to c (files_of_bytes c held)
-    form_goes cell (Assemble file to) small c can held = assemble_goes sizes places file to c
-    form_goes cell (Play word area plan to list) small c can held =
-        play_goes header some trees right settled pass have reads own sizes places cell word area to c held plan
-    form_goes cell (Generate number) small c can held = surely (plain_goes cell (Generate number) small tt c held)
-    form_goes cell (Save word area plan entries state list) small c can held =
-        save_goes header some trees right settled pass have reads own sizes places cell word area plan entries state c held can
-    form_goes cell (Resume state to list) small c can held = resume_goes cell state to c
-    form_goes cell NoForm small c can held = surely tt
+  form_goes : (cell : CellLookup) (form : Form) → IsNumbered form → (c : Contents) → CanSave cell c form → AreBytes c → Undeniable (Goes (work_of cell form) c Anything)
+  form_goes cell (Run word script) small c can held = surely (plain_goes cell (Run word script) tt tt c held)
+  form_goes cell (Compile word script) small c can held = surely (plain_goes cell (Compile word script) tt tt c held)
+  form_goes cell (Tree file) small c can held = surely (shows_tree_goes file c)
+  form_goes cell (Check word file) small c can held = check_goes sizes places header word file c (files_of_bytes c held)
+  form_goes cell (Disassemble file to) small c can held = surely (plain_goes cell (Disassemble file to) tt tt c held)
+  form_goes cell (Assemble file to) small c can held = assemble_goes sizes places file to c
+  form_goes cell (Play word area plan to list) small c can held =
+      play_goes header some trees right settled pass have reads own sizes places cell word area to c held plan
+  form_goes cell (Generate number) small c can held = surely (plain_goes cell (Generate number) small tt c held)
+  form_goes cell (Save word area plan entries state list) small c can held =
+      save_goes header some trees right settled pass have reads own sizes places cell word area plan entries state c held can
+  form_goes cell (Resume state to list) small c can held = resume_goes cell state to c
+  form_goes cell NoForm small c can held = surely tt
 
-    pub each_has_outcome : EachHasOutcome
-    each_has_outcome cell words c t held can none =
-        form_goes cell (form_of words) (numbered words) c can held (λ g. none (has_outcome (work_of cell (form_of words)) c t Anything g))
+  pub each_has_outcome : EachHasOutcome
+  each_has_outcome cell words c t held can none =
+      form_goes cell (form_of words) (numbered words) c can held (λ g. none (has_outcome (work_of cell (form_of words)) c t Anything g))
 
-    whole_goes : (form : Form) → IsNumbered form → (c : Contents) → ((tables : List Named) → CanSave (cell_of tables) c form) → AreBytes c
-        → Undeniable (Goes (whole_work form) c Anything)
-    unfolding whole_work
-    whole_goes form small c can held =
-        goes_both (tables_given (list_of form)) (work_with form) c (λ tables d. d ≡ c) Anything (given_go (list_of form) c)
-        (λ tables d same. subst (λ x. Undeniable (Goes (work_with form tables) x Anything)) (sym same) (form_goes (cell_of tables) form small c (can tables) held))
+  whole_goes : (form : Form) → IsNumbered form → (c : Contents) → ((tables : List Named) → CanSave (cell_of tables) c form) → AreBytes c
+      → Undeniable (Goes (whole_work form) c Anything)
+  unfolding whole_work
+  whole_goes form small c can held =
+      goes_both (tables_given (list_of form)) (work_with form) c (λ tables d. d ≡ c) Anything (given_go (list_of form) c)
+      (λ tables d same. subst (λ x. Undeniable (Goes (work_with form tables) x Anything)) (sym same) (form_goes (cell_of tables) form small c (can tables) held))
 
-    pub each_whole_has_outcome : EachWholeHasOutcome
-    each_whole_has_outcome words c t held can none =
-        whole_goes (form_of words) (numbered words) c can held (λ g. none (has_outcome (whole_work (form_of words)) c t Anything g))
+  pub each_whole_has_outcome : EachWholeHasOutcome
+  each_whole_has_outcome words c t held can none =
+      whole_goes (form_of words) (numbered words) c can held (λ g. none (has_outcome (whole_work (form_of words)) c t Anything g))

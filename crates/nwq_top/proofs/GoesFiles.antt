@@ -127,25 +127,25 @@ module _ (sizes : SizeLaws) (places : PlaceLaws) where
   code_fate_of bytes (code ops is e) = (codes_of.Whole ops, codes_of.whole ops is e)
   code_fate_of bytes (broken fails own h) = let flaw = load_flawed fails own in (codes_of.Faulty flaw.0, codes_of.broken fails flaw.0 h flaw.1)
 
-  code_fated : (bytes : List ℕ) → length bytes ≤ file_limit → IsSomeFile bytes → Undeniable (CodeFated bytes)
-  code_fated bytes small (are_bytes held) = with_it (code_comes sizes places bytes held small) (code_fate_of bytes)
-  code_fated bytes small (is_code ops is e) = surely (codes_of.Whole ops, codes_of.whole ops is e)
+  code_fated : (bytes : List ℕ) → length bytes ≤ file_limit → IsSomeFile bytes → CodeFated bytes
+  code_fated bytes small (are_bytes held) = code_fate_of bytes (code_comes sizes places bytes held small)
+  code_fated bytes small (is_code ops is e) = (codes_of.Whole ops, codes_of.whole ops is e)
 
-  pub code_goes : (name : List ℕ) (c : Contents) → AreFiles c → Undeniable (Goes (code_named name) c (Still c (ReadsCode c name)))
+  pub code_goes : (name : List ℕ) (c : Contents) → AreFiles c → Goes (code_named name) c (Still c (ReadsCode c name))
   unfolding code_named code_in
   code_goes name c held =
-      goes_both (file_named name) (code_in name) c (Still c (IsRead c name)) (Still c (ReadsCode c name)) (surely (file_goes name c))
-      (λ bytes d is. with_it (code_fated bytes is.1.small (held name bytes is.1.held)) (λ f. (f.0, f.1, by_fate bytes is.1 f.0 f.1 d is.0)))
+      goes_next (file_named name) (code_in name) c (Still c (IsRead c name)) (Still c (ReadsCode c name)) (file_goes name c)
+      (λ bytes d is. let f = code_fated bytes is.1.small (held name bytes is.1.held) in (f.0, f.1, by_fate bytes is.1 f.0 f.1 d is.0))
     where
       by_fate : (bytes : List ℕ) → IsRead c name bytes → (fate : CodeFate) → IsCodeFate bytes fate → (d : Contents) → d ≡ c
           → Goes (code_by name fate) d (Still c (ReadsCode c name))
       by_fate bytes read (codes_of.Whole ops) (codes_of.whole _ is e) d same = (same, record { read = subst (IsRead c name) e read; code = is })
       by_fate bytes read (codes_of.Faulty why) h d same = tt
 
-  pub disassemble_goes : (name to : List ℕ) (c : Contents) → AreFiles c → Undeniable (Goes (disassembles name to) c Anything)
+  pub disassemble_goes : (name to : List ℕ) (c : Contents) → AreFiles c → Goes (disassembles name to) c Anything
   unfolding disassembles writes_and_puts writes puts
   disassemble_goes name to c held =
-      goes_both (code_named name) (writes_listing to) c (Still c (ReadsCode c name)) Anything (code_goes name c held) (λ ops d is. surely tt)
+      goes_next (code_named name) (writes_listing to) c (Still c (ReadsCode c name)) Anything (code_goes name c held) (λ ops d is. tt)
 
   -- ---- a check
 
@@ -162,7 +162,7 @@ module _ (sizes : SizeLaws) (places : PlaceLaws) where
   pub binary_goes : (header : EngineTable) (name : List ℕ) (c : Contents) → AreFiles c → Undeniable (Goes (checked_named header name) c (Still c (HasCode header c name)))
   unfolding checked_named
   binary_goes header name c held =
-      goes_both (code_named name) (checked_in header name) c (Still c (ReadsCode c name)) (Still c (HasCode header c name)) (code_goes name c held)
+      goes_both (code_named name) (checked_in header name) c (Still c (ReadsCode c name)) (Still c (HasCode header c name)) (surely (code_goes name c held))
       (λ ops d is. subst (λ x. Undeniable (Goes (checked_in header name ops) x (Still c (HasCode header c name)))) (sym is.0) (checked_goes header name ops c is.1))
 
   pub check_goes : OneHeader → (word name : List ℕ) (c : Contents) → AreFiles c → Undeniable (Goes (checks word name) c Anything)

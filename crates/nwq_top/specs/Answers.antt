@@ -17,7 +17,7 @@ use Rattle.command_save.specs.declared.inputs.AreaFile.{AreaFile}
 use Rattle.command_save.specs.Saves.{IsStateAt}
 use Rattle.command_work.specs.declared.status.Status.{Status}
 use Rattle.command_work.specs.Work.{Work, IsCut, Does, Finished}
-use Rattle.command_words.specs.Words.{Form, Run, Compile, Tree, Generate, Save, NoForm, form_of}
+use Rattle.command_words.specs.Words.{Form, Run, Compile, Tree, Disassemble, Generate, Save, NoForm, form_of}
 use Rattle.nwq_top.specs.Command.{work_of, whole_work}
 use Rattle.nwq_top.specs.Saves.{AcceptsSave}
 
@@ -63,11 +63,12 @@ abbrev pub EachWholeHasOutcome : Type 0
 EachWholeHasOutcome = (words : List (List ℕ)) (c : Contents) (t : List ℕ) → AreBytes c
     → ((tables : List Named) → CanSave (cell_of tables) c (form_of words)) → HasOutcome (whole_work (form_of words)) c t
 
--- these read neither bytecode, nor a text by its lines, nor a state
+-- these check no bytecode, and read neither a text by its lines nor a state
 abbrev pub IsPlainForm : Form → Type 0
 IsPlainForm (Run header script) = Unit {0}
 IsPlainForm (Compile header script) = Unit {0}
 IsPlainForm (Tree file) = Unit {0}
+IsPlainForm (Disassemble file to) = Unit {0}
 IsPlainForm (Generate number) = Unit {0}
 IsPlainForm NoForm = Unit {0}
 IsPlainForm _ = ⊥
