@@ -3,6 +3,7 @@ ghost use Rattle.std.specs.Prelude.{◌≡◌, IsTrue};
 ghost use Rattle.std.specs.Process.{exit_status};
 ghost use Rattle.command_work.specs.Work.{IsCut, Does, ending};
 ghost use Rattle.command_work.specs.Counts.{Counted, Tallies, KeepsBut};
+ghost use Rattle.nwq_top.specs.Changes.{MayChange};
 ghost use Rattle.nwq_top.specs.Command.{whole_work, MayWrite};
 ghost use Rattle.nwq_top.specs.Cuts.{IsFrontOf};
 ghost use Rattle.nwq_top.specs.Endings.{ComesOf};
@@ -95,6 +96,10 @@ pub(crate) fn end_of<F: Files + Troubled, S: Sink, A: Files, E: Sink>(
         (Counted (F.counts files.old) (S.faults out.old.inner))
         (Counted (F.counts files.new) (S.faults out.new.inner)) }
     ensures names { KeepsBut (MayWrite (form_in words))
+        (F.contents files.old) (F.contents files.new) }
+    ensures changes { IsTrue F.tells → IsTrue S.tells →
+        KeepsBut (MayChange (form_in words) (F.contents files.old)
+        (ending (status_numbered (exit_status result))))
         (F.contents files.old) (F.contents files.new) }
     ensures only { ComesOf (form_in words) (status_numbered (exit_status result)) }
     // Where there was no memory for the words, it ends as where a command wants it.

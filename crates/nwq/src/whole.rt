@@ -3,6 +3,7 @@ ghost use Rattle.hook_table.specs.Standard.{function_numbered, IsAnswer};
 ghost use Rattle.command_work.specs.Work.{IsCut, Does, ending};
 ghost use Rattle.command_work.specs.Counts.{Counted, Tallies, KeepsBut};
 ghost use Rattle.command_words.specs.Words.{form_of};
+ghost use Rattle.nwq_top.specs.Changes.{MayChange};
 ghost use Rattle.nwq_top.specs.Command.{work_with, whole_work, MayWrite};
 ghost use Rattle.nwq_top.specs.Cuts.{IsFrontOf};
 ghost use Rattle.nwq_top.specs.Endings.{ComesOf};
@@ -12,7 +13,7 @@ ghost use Rattle.nwq_top.specs.Program.{status_number, status_numbered, words_of
 use hook_table::{Call, Hooks, cell_call};
 use nwq_hooks::{all_are_put, call_function, put_cell_hook, put_hook};
 use nwq_outside::{Files, Sink};
-use nwq_top::laws::{one_outcome, whole_means};
+use nwq_top::laws::{names_change, one_outcome, whole_means};
 use nwq_top::{nwq_program, program_tables};
 use nwq_value::{Args, NoMemory, Value};
 use std::alloc::Global;
@@ -149,10 +150,16 @@ pub(crate) fn run_all<F: Files, S: Sink>(
         (Counted (F.counts files.new) (S.faults out.new)) }
     ensures names { KeepsBut (MayWrite (form_of (words_of all.now)))
         (F.contents files.old) (F.contents files.new) }
+    // Of `play` and `save` these are the files of the sources that the plan lists, and the file of
+    // the area, or of the state, only where the status is 0, 7 or 8.
+    ensures changes { IsTrue F.tells → IsTrue S.tells →
+        KeepsBut (MayChange (form_of (words_of all.now)) (F.contents files.old)
+        (ending (status_numbered result))) (F.contents files.old) (F.contents files.new) }
     ensures only { ComesOf (form_of (words_of all.now)) (status_numbered result) }
 {
     whole_means();
     one_outcome();
+    names_change();
     files.contents_are_bytes();
     run_in_order(alloc, all, files, out)
 }

@@ -14,18 +14,20 @@ use Rattle.ncs_code.specs.Laws.{SizeLaws, PlaceLaws}
 use Rattle.generator_laws.specs.Scripts.{SourcesCompile}
 use Rattle.play_generator.specs.Made.{number_limit}
 use Rattle.world_rules.specs.Pure.{CellLookup}
+use Rattle.table_2da.specs.declared.tables.Named.{Named}
 use Rattle.table_2da.specs.Look.{cell_of}
 use Rattle.command_tables.specs.Tables.{tables_given}
 use Rattle.command_meaning.specs.Units.{UnitsPass}
 use Rattle.command_meaning.specs.Scripts.{ScriptsHaveUnits}
 use Rattle.command_words.specs.Words.{Form, Run, Compile, Tree, Check, Disassemble, Assemble, Play, Generate, Save, Resume, NoForm, is_option, run_form, compile_form, generate_form, save_form, command_form, form_of, list_of}
 use Rattle.nwq_top.specs.Command.{work_of, work_with, whole_work}
-use Rattle.nwq_top.specs.Answers.{IsNoSave, EachHasOutcome, EachWholeHasOutcome, IsPlainForm, PlainHaveOutcomes}
+use Rattle.nwq_top.specs.Answers.{CanSave, EachHasOutcome, EachWholeHasOutcome, IsPlainForm, PlainHaveOutcomes}
 use Rattle.nwq_top.proofs.Undeniable.{Undeniable, surely}
 use Rattle.nwq_top.proofs.Going.{Goes, Anything, goes_both, has_outcome}
 use Rattle.nwq_top.proofs.GoesSources.{run_goes, compile_goes, generate_goes}
 use Rattle.nwq_top.proofs.GoesFiles.{files_of_bytes, shows_tree_goes, disassemble_goes, check_goes, assemble_goes}
 use Rattle.nwq_top.proofs.GoesPlays.{play_goes, resume_goes}
+use Rattle.nwq_top.proofs.GoesSaves.{save_goes}
 use Rattle.nwq_top.proofs.GoesTables.{given_go}
 
 -- ---- numbers of plays
@@ -79,13 +81,13 @@ numbered words = one_of (list_any is_option words) NoForm (command_form words) t
 -- ---- the forms
 
 module _ (header : OneHeader) (some : SomeSplit) (trees : TreeOrPlace) (right : VerdictsAreRight) (settled : NoneKeptIsTyped) (pass : UnitsPass) (have : ScriptsHaveUnits)
-    (reads : HeadersHaveTables) (own : BuiltInIsTable) (made : SourcesCompile) where
+    (reads : HeadersHaveTables) (own : BuiltInIsTable) (made : SourcesCompile) (sizes : SizeLaws) (places : PlaceLaws) where
   plain_goes : (cell : CellLookup) (form : Form) → IsNumbered form → IsPlainForm form → (c : Contents) → AreBytes c → Goes (work_of cell form) c Anything
   plain_goes cell (Run word script) small plain c held = run_goes header some trees right settled pass have reads own cell word script c held
   plain_goes cell (Compile word script) small plain c held = compile_goes header some trees right settled pass have reads own word script c
   plain_goes cell (Tree file) small plain c held = shows_tree_goes file c
   plain_goes cell (Check word file) small plain c held = absurd plain
-  plain_goes cell (Disassemble file to) small plain c held = absurd plain
+  plain_goes cell (Disassemble file to) small plain c held = disassemble_goes sizes places file to c (files_of_bytes c held)
   plain_goes cell (Assemble file to) small plain c held = absurd plain
   plain_goes cell (Play word area plan to list) small plain c held = absurd plain
   plain_goes cell (Generate number) small plain c held = generate_goes header some trees right settled pass have reads own made cell number small c
@@ -97,31 +99,32 @@ module _ (header : OneHeader) (some : SomeSplit) (trees : TreeOrPlace) (right : 
   plain_have_outcomes cell words c t held plain =
       has_outcome (work_of cell (form_of words)) c t Anything (plain_goes cell (form_of words) (numbered words) plain c held)
 
-  module _ (sizes : SizeLaws) (places : PlaceLaws) where
-    form_goes : (cell : CellLookup) (form : Form) → IsNumbered form → IsNoSave form → (c : Contents) → AreBytes c → Undeniable (Goes (work_of cell form) c Anything)
-    form_goes cell (Run word script) small own_form c held = surely (plain_goes cell (Run word script) tt tt c held)
-    form_goes cell (Compile word script) small own_form c held = surely (plain_goes cell (Compile word script) tt tt c held)
-    form_goes cell (Tree file) small own_form c held = surely (shows_tree_goes file c)
-    form_goes cell (Check word file) small own_form c held = check_goes sizes places header word file c (files_of_bytes c held)
-    form_goes cell (Disassemble file to) small own_form c held = disassemble_goes sizes places file to c (files_of_bytes c held)
-    form_goes cell (Assemble file to) small own_form c held = assemble_goes sizes places file to c
-    form_goes cell (Play word area plan to list) small own_form c held =
-        play_goes header some trees right settled pass have reads own sizes places cell word area to c held plan
-    form_goes cell (Generate number) small own_form c held = surely (plain_goes cell (Generate number) small tt c held)
-    form_goes cell (Save word area plan entries state list) small own_form c held = absurd own_form
-    form_goes cell (Resume state to list) small own_form c held = resume_goes cell state to c
-    form_goes cell NoForm small own_form c held = surely tt
+  form_goes : (cell : CellLookup) (form : Form) → IsNumbered form → (c : Contents) → CanSave cell c form → AreBytes c → Undeniable (Goes (work_of cell form) c Anything)
+  form_goes cell (Run word script) small c can held = surely (plain_goes cell (Run word script) tt tt c held)
+  form_goes cell (Compile word script) small c can held = surely (plain_goes cell (Compile word script) tt tt c held)
+  form_goes cell (Tree file) small c can held = surely (shows_tree_goes file c)
+  form_goes cell (Check word file) small c can held = check_goes sizes places header word file c (files_of_bytes c held)
+  form_goes cell (Disassemble file to) small c can held = surely (plain_goes cell (Disassemble file to) tt tt c held)
+  form_goes cell (Assemble file to) small c can held = assemble_goes sizes places file to c
+  form_goes cell (Play word area plan to list) small c can held =
+      play_goes header some trees right settled pass have reads own sizes places cell word area to c held plan
+  form_goes cell (Generate number) small c can held = surely (plain_goes cell (Generate number) small tt c held)
+  form_goes cell (Save word area plan entries state list) small c can held =
+      save_goes header some trees right settled pass have reads own sizes places cell word area plan entries state c held can
+  form_goes cell (Resume state to list) small c can held = resume_goes cell state to c
+  form_goes cell NoForm small c can held = surely tt
 
-    pub each_has_outcome : EachHasOutcome
-    each_has_outcome cell words c t held own_form none =
-        form_goes cell (form_of words) (numbered words) own_form c held (λ g. none (has_outcome (work_of cell (form_of words)) c t Anything g))
+  pub each_has_outcome : EachHasOutcome
+  each_has_outcome cell words c t held can none =
+      form_goes cell (form_of words) (numbered words) c can held (λ g. none (has_outcome (work_of cell (form_of words)) c t Anything g))
 
-    whole_goes : (form : Form) → IsNumbered form → IsNoSave form → (c : Contents) → AreBytes c → Undeniable (Goes (whole_work form) c Anything)
-    unfolding whole_work
-    whole_goes form small own_form c held =
-        goes_both (tables_given (list_of form)) (work_with form) c (λ tables d. d ≡ c) Anything (given_go (list_of form) c)
-        (λ tables d same. form_goes (cell_of tables) form small own_form d (subst AreBytes (sym same) held))
+  whole_goes : (form : Form) → IsNumbered form → (c : Contents) → ((tables : List Named) → CanSave (cell_of tables) c form) → AreBytes c
+      → Undeniable (Goes (whole_work form) c Anything)
+  unfolding whole_work
+  whole_goes form small c can held =
+      goes_both (tables_given (list_of form)) (work_with form) c (λ tables d. d ≡ c) Anything (given_go (list_of form) c)
+      (λ tables d same. subst (λ x. Undeniable (Goes (work_with form tables) x Anything)) (sym same) (form_goes (cell_of tables) form small c (can tables) held))
 
-    pub each_whole_has_outcome : EachWholeHasOutcome
-    each_whole_has_outcome words c t held own_form none =
-        whole_goes (form_of words) (numbered words) own_form c held (λ g. none (has_outcome (whole_work (form_of words)) c t Anything g))
+  pub each_whole_has_outcome : EachWholeHasOutcome
+  each_whole_has_outcome words c t held can none =
+      whole_goes (form_of words) (numbered words) c can held (λ g. none (has_outcome (whole_work (form_of words)) c t Anything g))

@@ -1,7 +1,9 @@
--- What comes of bytes as a file of bytecode: it can't be that they are none, and that no test
--- fails.
+-- What comes of bytes as a file of bytecode: they are one, or a test fails.
 use Rattle.std.proofs.Common.{◌≡◌, ◌≢◌, ◌⊎◌, inl, inr, ℕ, zero, suc, ◌<◌, ◌≤◌, Bool, true, false, List, [], ◌∷◌, ◌++◌, length, take, drop, Option, Some, None, refl, sym, ap, subst, ◌∙◌, arith, take-append-drop, length-append, drop_at, drop-drop, length-drop, append_assoc}
 use Rattle.std.specs.List.{AllByRecursion}
+use Rattle.std.specs.Str.{bytes_eq}
+use Rattle.std.proofs.lemmas.Option.{same_Some, none-some}
+use Rattle.std.proofs.lemmas.Slice.Eq.{bytes_eq-Decides}
 use Rattle.nwq_value.specs.Limits.{file_limit}
 use Rattle.ncs_code.specs.declared.fault.CodeFault.{CodeFault}
 use Rattle.ncs_code.specs.Plain.{PlainOp}
@@ -11,7 +13,7 @@ use Rattle.ncs_code.specs.Laws.{SizeLaws, PlaceLaws}
 use Rattle.ncs_file.specs.declared.fault.LoadFault.{LoadFault}
 use Rattle.ncs_file.specs.declared.fault.LoadFault.TheVariants as load
 use Rattle.ncs_file.specs.Loading.{HasHeader, Fails}
-use Rattle.nwq_top.proofs.Undeniable.{Undeniable, surely, by_it, with_it, either_way, Least, least_one}
+use Rattle.nwq_top.proofs.Undeniable.{Least, search_below}
 use Rattle.nwq_top.proofs.Decoding.{Spelled, begins_spelled}
 
 abbrev Bytes : List ℕ → Type 0
@@ -64,6 +66,16 @@ module _ (ops : List PlainOp) where
       by_case true e = e
       by_case false e = absurd (none (record { op = op; is = is; bad = e }))
 
+  bad_or_not : (place : ℕ) (o : Option PlainOp) → op_at ops place ≡ o → LeadsBadly place ⊎ (LeadsBadly place → ⊥)
+  bad_or_not place None e = inr (λ bad. none-some bad.op (sym e ∙ bad.is))
+  bad_or_not place (Some op) e = by_case (leads_well ops place op) refl
+    where
+      by_case : (b : Bool) → leads_well ops place op ≡ b → LeadsBadly place ⊎ (LeadsBadly place → ⊥)
+      by_case true f = inr (λ bad.
+          let same : op ≡ bad.op = same_Some op bad.op (sym e ∙ bad.is) in
+          let apart : true ≡ false = sym f ∙ ap (λ x. leads_well ops place x) same ∙ bad.bad in cc)
+      by_case false f = inl (record { op = op; is = e; bad = f })
+
   -- the first that does
   first_bad : PlaceLaws → (l : Least LeadsBadly) → (index : ℕ) × IsFirstBad ops index l.number
   first_bad places l =
@@ -90,26 +102,28 @@ module _ (sizes : SizeLaws) (places : PlaceLaws) (bytes : List ℕ) (held : Byte
       omega (arith, ap length parts, length-append (magic ++ four (length bytes)) (spellings ops), header_length (length bytes), sizes.ops ops) in
       parts ∙ ap (λ n. (magic ++ four n) ++ spellings ops) size ∙ append_assoc magic (four (file_length ops)) (spellings ops)
 
+  inside_file : (ops : List PlainOp) (at : ℕ) (op : PlainOp) → op_at ops at ≡ Some op → at < file_length ops
+  inside_file ops at op h = omega (arith, (places.lies ops at op h).1, sizes.some op)
+
   fits_file : (ops : List PlainOp) → bytes ≡ file_bytes ops → file_length ops ≤ file_limit
   fits_file ops is = omega (arith, small, ap length is, sizes.file ops)
 
-  leads_by : (ops : List PlainOp) → AllByRecursion IsOp ops → bytes ≡ file_bytes ops → ((place : ℕ) × LeadsBadly ops place) ⊎ ((place : ℕ) × LeadsBadly ops place → ⊥)
-      → Undeniable (CodeComes bytes)
-  leads_by ops each is (inl bad) =
-      with_it (least_one (LeadsBadly ops) bad.0 bad.1)
-      (λ l. let k = first_bad ops places l in
-      broken (load.Target l.number) (λ same. absurd cc) (record { ops = ops; each = each; spelled = is; index = k.0; first = k.1 }))
-  leads_by ops each is (inr none) =
-      surely (code ops (record { each = each; leads = λ at op h. well ops at op (λ bad. none (at, bad)) h; bounded = fits_file ops is }) is)
+  leads_by : (ops : List PlainOp) → AllByRecursion IsOp ops → bytes ≡ file_bytes ops
+      → ((place : ℕ) → place < file_length ops → LeadsBadly ops place → ⊥) ⊎ Least (LeadsBadly ops) → CodeComes bytes
+  leads_by ops each is (inr l) =
+      let k = first_bad ops places l in
+      broken (load.Target l.number) (λ same. absurd cc) (record { ops = ops; each = each; spelled = is; index = k.0; first = k.1 })
+  leads_by ops each is (inl fine) =
+      code ops (record { each = each; leads = λ at op h. well ops at op (fine at (inside_file ops at op h)) h; bounded = fits_file ops is }) is
 
-  row_comes : HasHeader bytes → Row (drop 13 bytes) → Undeniable (CodeComes bytes)
+  row_comes : HasHeader bytes → Row (drop 13 bytes) → CodeComes bytes
   row_comes header (whole ops each is) =
-      by_it (either_way ((place : ℕ) × LeadsBadly ops place)) (leads_by ops each (whole_is ops header is))
+      leads_by ops each (whole_is ops header is) (search_below (LeadsBadly ops) (λ place. bad_or_not ops place (op_at ops place) refl) (file_length ops))
   row_comes header (stops ops rest fault each is some reason) =
       let behind : drop (file_length ops) bytes ≡ rest =
       sym (drop-drop (ops_size ops) 13 bytes) ∙ ap (drop (ops_size ops)) is ∙ drop_at (spellings ops) rest (ops_size ops) (sym (sizes.ops ops)) in
       let long : file_length ops < length bytes = inside ops rest behind some in
-      surely (broken (load.At (file_length ops) fault) (λ same. absurd cc) (record {
+      broken (load.At (file_length ops) fault) (λ same. absurd cc) (record {
         ops = ops;
         each = each;
         header = header;
@@ -117,7 +131,7 @@ module _ (sizes : SizeLaws) (places : PlaceLaws) (bytes : List ℕ) (held : Byte
         stands = refl;
         inside = long;
         reason = ap fault_of behind ∙ reason;
-      }))
+      })
     where
       inside : (os : List PlainOp) (more : List ℕ) → drop (file_length os) bytes ≡ more → more ≢ [] → file_length os < length bytes
       inside os [] e none = absurd (none refl)
@@ -126,13 +140,19 @@ module _ (sizes : SizeLaws) (places : PlaceLaws) (bytes : List ℕ) (held : Byte
   bytes_behind_header : Bytes (drop 13 bytes)
   bytes_behind_header = bytes_behind (take 13 bytes) (drop 13 bytes) (subst Bytes (sym (take-append-drop 13 bytes)) held)
 
-  header_by : take 9 bytes ≡ magic → HasHeader bytes ⊎ (HasHeader bytes → ⊥) → Undeniable (CodeComes bytes)
-  header_by e (inl header) = row_comes header (row_by sizes (suc (length (drop 13 bytes))) (drop 13 bytes) bytes_behind_header (omega arith))
-  header_by e (inr none) = surely (broken load.Length (λ same. absurd cc) (e, none))
+  header_by : take 9 bytes ≡ magic → (b : Bool) → bytes_eq (take 13 bytes) (magic ++ four (length bytes)) ≡ b → CodeComes bytes
+  header_by e true f =
+      row_comes ((bytes_eq-Decides (take 13 bytes) (magic ++ four (length bytes))).0 f)
+      (row_by sizes (suc (length (drop 13 bytes))) (drop 13 bytes) bytes_behind_header (omega arith))
+  header_by e false f =
+      broken load.Length (λ same. absurd cc)
+      (e, λ same. let apart : false ≡ true = sym f ∙ (bytes_eq-Decides (take 13 bytes) (magic ++ four (length bytes))).1 same in cc)
 
-  magic_by : (take 9 bytes ≡ magic) ⊎ (take 9 bytes ≡ magic → ⊥) → Undeniable (CodeComes bytes)
-  magic_by (inl e) = by_it (either_way (HasHeader bytes)) (header_by e)
-  magic_by (inr none) = surely (broken load.Magic (λ same. absurd cc) none)
+  magic_by : (b : Bool) → bytes_eq (take 9 bytes) magic ≡ b → CodeComes bytes
+  magic_by true e =
+      header_by ((bytes_eq-Decides (take 9 bytes) magic).0 e) (bytes_eq (take 13 bytes) (magic ++ four (length bytes))) refl
+  magic_by false e =
+      broken load.Magic (λ same. absurd cc) (λ same. let apart : false ≡ true = sym e ∙ (bytes_eq-Decides (take 9 bytes) magic).1 same in cc)
 
-  pub code_comes : Undeniable (CodeComes bytes)
-  code_comes = by_it (either_way (take 9 bytes ≡ magic)) magic_by
+  pub code_comes : CodeComes bytes
+  code_comes = magic_by (bytes_eq (take 9 bytes) magic) refl

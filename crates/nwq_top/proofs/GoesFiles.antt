@@ -41,7 +41,7 @@ use Rattle.command_files.specs.Checks as check
 use Rattle.command_files.specs.Assemblies.{AssemblyFate, IsAssemblyFate, asm_flaw, assembly_by, assembly_in, assembly_named}
 use Rattle.command_files.specs.Assemblies as assemblies
 use Rattle.command_files.specs.Commands.{puts_tree, shows_tree, writes_and_puts, writes_listing, disassembles, writes_assembly, assembles}
-use Rattle.nwq_top.specs.Accepting.{HasHeader}
+use Rattle.nwq_top.specs.Accepting.{HasHeader, HasCode, ReadsCode}
 use Rattle.nwq_top.proofs.Undeniable.{Undeniable, surely, with_it, either_way}
 use Rattle.nwq_top.proofs.Going.{Goes, Anything, Still, goes_weaker, goes_next, goes_both, file_goes}
 use Rattle.nwq_top.proofs.CodeFates.{CodeComes, code, broken, code_comes}
@@ -77,7 +77,7 @@ module _ (bytes : List ℕ) where
   pub tree_fated : TreeFated
   tree_fated = opened_fated (open_fault bytes) refl
 
-pub tree_in_goes : (name bytes : List ℕ) (c : Contents) → Goes (tree_in name bytes) c (Still c (Stands bytes))
+tree_in_goes : (name bytes : List ℕ) (c : Contents) → Goes (tree_in name bytes) c (Still c (Stands bytes))
 unfolding tree_in
 tree_in_goes name bytes c = let f = tree_fated bytes in (f.0, f.1, by_fate f.0 f.1)
   where
@@ -127,47 +127,49 @@ module _ (sizes : SizeLaws) (places : PlaceLaws) where
   code_fate_of bytes (code ops is e) = (codes_of.Whole ops, codes_of.whole ops is e)
   code_fate_of bytes (broken fails own h) = let flaw = load_flawed fails own in (codes_of.Faulty flaw.0, codes_of.broken fails flaw.0 h flaw.1)
 
-  code_fated : (bytes : List ℕ) → length bytes ≤ file_limit → IsSomeFile bytes → Undeniable (CodeFated bytes)
-  code_fated bytes small (are_bytes held) = with_it (code_comes sizes places bytes held small) (code_fate_of bytes)
-  code_fated bytes small (is_code ops is e) = surely (codes_of.Whole ops, codes_of.whole ops is e)
+  code_fated : (bytes : List ℕ) → length bytes ≤ file_limit → IsSomeFile bytes → CodeFated bytes
+  code_fated bytes small (are_bytes held) = code_fate_of bytes (code_comes sizes places bytes held small)
+  code_fated bytes small (is_code ops is e) = (codes_of.Whole ops, codes_of.whole ops is e)
 
-  pub code_goes : (name : List ℕ) (c : Contents) → AreFiles c → Undeniable (Goes (code_named name) c (λ ops d. d ≡ c))
+  pub code_goes : (name : List ℕ) (c : Contents) → AreFiles c → Goes (code_named name) c (Still c (ReadsCode c name))
   unfolding code_named code_in
   code_goes name c held =
-      goes_both (file_named name) (code_in name) c (Still c (IsRead c name)) (λ ops d. d ≡ c) (surely (file_goes name c))
-      (λ bytes d is. with_it (code_fated bytes is.1.small (held name bytes is.1.held)) (λ f. (f.0, f.1, by_fate f.0 d is.0)))
+      goes_next (file_named name) (code_in name) c (Still c (IsRead c name)) (Still c (ReadsCode c name)) (file_goes name c)
+      (λ bytes d is. let f = code_fated bytes is.1.small (held name bytes is.1.held) in (f.0, f.1, by_fate bytes is.1 f.0 f.1 d is.0))
     where
-      by_fate : (fate : CodeFate) (d : Contents) → d ≡ c → Goes (code_by name fate) d (λ ops e. e ≡ c)
-      by_fate (codes_of.Whole ops) d same = same
-      by_fate (codes_of.Faulty why) d same = tt
+      by_fate : (bytes : List ℕ) → IsRead c name bytes → (fate : CodeFate) → IsCodeFate bytes fate → (d : Contents) → d ≡ c
+          → Goes (code_by name fate) d (Still c (ReadsCode c name))
+      by_fate bytes read (codes_of.Whole ops) (codes_of.whole _ is e) d same = (same, record { read = subst (IsRead c name) e read; code = is })
+      by_fate bytes read (codes_of.Faulty why) h d same = tt
 
-  pub disassemble_goes : (name to : List ℕ) (c : Contents) → AreFiles c → Undeniable (Goes (disassembles name to) c Anything)
+  pub disassemble_goes : (name to : List ℕ) (c : Contents) → AreFiles c → Goes (disassembles name to) c Anything
   unfolding disassembles writes_and_puts writes puts
   disassemble_goes name to c held =
-      goes_both (code_named name) (writes_listing to) c (λ ops d. d ≡ c) Anything (code_goes name c held) (λ ops d is. surely tt)
+      goes_next (code_named name) (writes_listing to) c (Still c (ReadsCode c name)) Anything (code_goes name c held) (λ ops d is. tt)
 
   -- ---- a check
 
-  checked_goes : (header : EngineTable) (name : List ℕ) (ops : List PlainOp) (c : Contents) → Undeniable (Goes (checked_in header name ops) c (λ os d. d ≡ c))
+  checked_goes : (header : EngineTable) (name : List ℕ) (ops : List PlainOp) (c : Contents) → ReadsCode c name ops
+      → Undeniable (Goes (checked_in header name ops) c (Still c (HasCode header c name)))
   unfolding checked_in
-  checked_goes header name ops c = with_it (either_way (WellStacked header ops)) by_case
+  checked_goes header name ops c reads = with_it (either_way (WellStacked header ops)) by_case
     where
       by_case : WellStacked header ops ⊎ (WellStacked header ops → ⊥)
-          → (fate : CheckFate) × IsCheckFate header ops fate × Goes (check_by name ops fate) c (λ os d. d ≡ c)
-      by_case (inl stacked) = (check.Passes, check.passes stacked, refl)
+          → (fate : CheckFate) × IsCheckFate header ops fate × Goes (check_by name ops fate) c (Still c (HasCode header c name))
+      by_case (inl stacked) = (check.Passes, check.passes stacked, (refl, record { read = reads.read; code = reads.code; stacked = stacked }))
       by_case (inr unstacked) = (check.Unstacked, check.unstacked unstacked, tt)
 
-  pub binary_goes : (header : EngineTable) (name : List ℕ) (c : Contents) → AreFiles c → Undeniable (Goes (checked_named header name) c (λ ops d. d ≡ c))
+  pub binary_goes : (header : EngineTable) (name : List ℕ) (c : Contents) → AreFiles c → Undeniable (Goes (checked_named header name) c (Still c (HasCode header c name)))
   unfolding checked_named
   binary_goes header name c held =
-      goes_both (code_named name) (checked_in header name) c (λ ops d. d ≡ c) (λ ops d. d ≡ c) (code_goes name c held)
-      (λ ops d same. subst (λ x. Undeniable (Goes (checked_in header name ops) d (λ os e. e ≡ x))) same (checked_goes header name ops d))
+      goes_both (code_named name) (checked_in header name) c (Still c (ReadsCode c name)) (Still c (HasCode header c name)) (surely (code_goes name c held))
+      (λ ops d is. subst (λ x. Undeniable (Goes (checked_in header name ops) x (Still c (HasCode header c name)))) (sym is.0) (checked_goes header name ops c is.1))
 
   pub check_goes : OneHeader → (word name : List ℕ) (c : Contents) → AreFiles c → Undeniable (Goes (checks word name) c Anything)
   unfolding checks checks_under puts
   check_goes header word name c held =
       goes_both (table_of word) (checks_under name) c (Still c (HasHeader c word)) Anything (surely (table_goes header word c))
-      (λ table d is. goes_both (checked_named table name) puts_passed d (λ ops e. e ≡ d) Anything
+      (λ table d is. goes_both (checked_named table name) puts_passed d (Still d (HasCode table d name)) Anything
       (binary_goes table name d (subst AreFiles (sym is.0) held)) (λ ops e same. surely tt))
 
   -- ---- assembler texts

@@ -1,5 +1,6 @@
 -- Plans, areas, listed scripts and plays: it can't be that they come to no end.
-use Rattle.std.proofs.Common.{◌≡◌, ℕ, nat_lt, min, ◌-◌, ◌^◌, Bool, true, false, cond, List, [], ◌∷◌, ◌++◌, length, Option, Some, Result, Ok, Err, refl, sym, subst, ◌∙◌}
+use Rattle.std.proofs.Common.{◌≡◌, ℕ, nat_lt, min, ◌-◌, ◌^◌, Bool, true, false, cond, List, [], ◌∷◌, ◌++◌, length, Option, Some, Result, Ok, Err, refl, sym, subst, ◌∙◌, append_assoc}
+use Rattle.std.proofs.lemmas.List.{append-nil}
 use Rattle.std.proofs.lemmas.Option.{same_Some}
 use Rattle.std.proofs.lemmas.Cmp.{nat_list_cmp_total}
 use Rattle.std.specs.Cmp.Lexicographic.{slice_cmp}
@@ -15,6 +16,7 @@ use Rattle.area_rules.specs.Broken.{Place, broken_places}
 use Rattle.area_rules.specs.Area.{PlainArea}
 use Rattle.typing_rules.specs.Typed.{TypedUnit}
 use Rattle.emission_rules.specs.Units.{unit_file}
+use Rattle.ncs_code.specs.Plain.{PlainOp}
 use Rattle.ncs_code.specs.Laws.{SizeLaws, PlaceLaws}
 use Rattle.plan_text.specs.declared.plan.Plan.{Plan}
 use Rattle.plan_text.specs.declared.plan.Script.{Script as ScriptLine}
@@ -48,7 +50,8 @@ use Rattle.command_save.specs.Resumes.{StateFate, IsStateFate, Whole, Stops, Unf
 use Rattle.play_save.specs.Rules.{IsAccepted}
 use Rattle.command_meaning.specs.Units.{code_of, Passes, UnitsPass}
 use Rattle.command_meaning.specs.Scripts.{HoldBytes, ScriptsHaveUnits}
-use Rattle.nwq_top.specs.Accepting.{HasHeader, with_file}
+use Rattle.nwq_top.specs.Accepting as accepting
+use Rattle.nwq_top.specs.Accepting.{HasHeader, HasCode, HasLine, HasScripts, ReadsPlan, with_file}
 use Rattle.nwq_top.proofs.Headers.{is_table}
 use Rattle.nwq_top.proofs.Sources.{IsMade}
 use Rattle.nwq_top.proofs.Listing.{still_bytes}
@@ -66,19 +69,20 @@ plan_fated : (bytes : List ℕ) → (end : Result Draft ℕ) × Gives bytes end 
 plan_fated bytes (Ok d, gives) = (plans.Whole (plan_of d), plans.whole (plan_of d) (d, gives, refl))
 plan_fated bytes (Err line, gives) = (plans.Faulty line, plans.faulty line gives)
 
-pub plan_goes : (name : List ℕ) (c : Contents) → Undeniable (Goes (plan_named name) c (λ plan d. d ≡ c))
+pub plan_goes : (name : List ℕ) (c : Contents) → Undeniable (Goes (plan_named name) c (Still c (ReadsPlan c name)))
 unfolding plan_named plan_in
 plan_goes name c =
-    goes_both (file_named name) (plan_in name) c (Still c (IsRead c name)) (λ plan d. d ≡ c) (surely (file_goes name c))
-    (λ bytes d is. with_it (plan_comes bytes) (λ k. let f = plan_fated bytes k in (f.0, f.1, by_fate f.0 d is.0)))
+    goes_both (file_named name) (plan_in name) c (Still c (IsRead c name)) (Still c (ReadsPlan c name)) (surely (file_goes name c))
+    (λ bytes d is. with_it (plan_comes bytes) (λ k. let f = plan_fated bytes k in (f.0, f.1, by_fate bytes is.1 f.0 f.1 d is.0)))
   where
-    by_fate : (fate : plans.PlanFate) (d : Contents) → d ≡ c → Goes (plan_by name fate) d (λ plan e. e ≡ c)
-    by_fate (plans.Whole plan) d same = same
-    by_fate (plans.Faulty line) d same = tt
+    by_fate : (bytes : List ℕ) → IsRead c name bytes → (fate : plans.PlanFate) → plans.IsPlanFate bytes fate → (d : Contents) → d ≡ c
+        → Goes (plan_by name fate) d (Still c (ReadsPlan c name))
+    by_fate bytes read (plans.Whole plan) (plans.whole _ is) d same = (same, record { bytes = bytes; read = read; is = is })
+    by_fate bytes read (plans.Faulty line) h d same = tt
 
 -- ---- an area
 
-pub area_in_goes : (name : List ℕ) (tree : PlainGff) (d : Contents) → Goes (area_in name tree) d Anything
+area_in_goes : (name : List ℕ) (tree : PlainGff) (d : Contents) → Goes (area_in name tree) d Anything
 unfolding area_in
 area_in_goes name tree d = by_places (broken_places tree.top) refl
   where
@@ -86,7 +90,7 @@ area_in_goes name tree d = by_places (broken_places tree.top) refl
     by_places [] e = (areas.Whole, areas.whole e, tt)
     by_places (place ∷ others) e = (areas.Broken place, areas.broken place others e, tt)
 
-pub area_goes : (name : List ℕ) (c : Contents) → Goes (area_named name) c Anything
+area_goes : (name : List ℕ) (c : Contents) → Goes (area_named name) c Anything
 unfolding area_named
 area_goes name c = goes_next (tree_named name) (area_in name) c (λ tree d. d ≡ c) Anything (tree_goes name c) (λ tree d is. area_in_goes name tree d)
 
@@ -107,7 +111,7 @@ ends_go plays.OutOfEntries to area text c = λ x. x
 ends_go plays.StoppedInside to area text c = λ x. x
 ends_go plays.Paused to area text c = tt
 
-pub tells_goes : (to : List ℕ) (scripts : List Script) (p : Played Saved) (c : Contents) → Goes (tells to scripts p) c Anything
+tells_goes : (to : List ℕ) (scripts : List Script) (p : Played Saved) (c : Contents) → Goes (tells to scripts p) c Anything
 tells_goes to scripts p c = ends_go p.ending to p.last.world.area _ c
 
 -- ---- listed scripts
@@ -134,50 +138,86 @@ fine_more c script unit table pass fine = record {
   files = files_more c (code_name script) (unit_file unit) (is_code (code_of unit) pass.loads refl) fine.files;
 }
 
--- what is listed leaves fine files
-abbrev Fine : {A : Type 0} → A → Contents → Type 0
-Fine a d = AreFine d
-
 module _ (header : OneHeader) (some : SomeSplit) (trees : TreeOrPlace) (right : VerdictsAreRight) (settled : NoneKeptIsTyped) (pass : UnitsPass) (have : ScriptsHaveUnits)
     (reads : HeadersHaveTables) (own : BuiltInIsTable) (sizes : SizeLaws) (places : PlaceLaws) where
   module _ (table : EngineTable) (kept : IsTable table) where
-    loads_go : (name bytes : List ℕ) (c d : Contents) → AreFine c → Still c (IsMade table c name) bytes d → Goes (writes_loaded table (code_name name) bytes) d Fine
+    -- the line lists these instructions, and leaves fine files
+    record IsLined (line : ScriptLine) (c : Contents) (ops : List PlainOp) (d : Contents) : Type 0 where
+      has : HasLine table c line (playable line ops) d
+      fine : AreFine d
+
+    loads_go : (line : ScriptLine) (bytes : List ℕ) (c d : Contents) → line.binary ≡ false → AreFine c → Still c (IsMade table c line.name) bytes d
+        → Goes (writes_loaded table (code_name line.name) bytes) d (IsLined line c)
     unfolding writes_loaded writes
-    loads_go name bytes c d fine (same, made) =
+    loads_go line bytes c d e fine (same, made) =
+        let name = line.name in
         let passes = made_passes header some trees right settled pass have reads own table c name bytes kept fine.sources made in
-        subst (λ x. Goes (loaded_in table (code_name name) bytes) (map.insert x (code_name name) bytes) Fine) (sym same)
-        (subst (λ b. Goes (loaded_in table (code_name name) b) (map.insert c (code_name name) b) Fine) (sym made.is)
-        (goes_weaker (loaded_in table (code_name name) (unit_file made.unit)) (with_file c name made.unit) (Still (with_file c name made.unit) (λ ops. ops ≡ code_of made.unit)) Fine
-        (loaded_goes table (code_name name) made.unit (with_file c name made.unit) passes)
-        (λ ops e k. subst AreFine (sym k.0) (fine_more c name made.unit table passes fine))))
+        let has : HasLine table c line (playable line (code_of made.unit)) (with_file c name made.unit) =
+        accepting.source e made.unit (record { script = made.script; small = made.small; passes = passes }) in
+        subst (λ x. Goes (loaded_in table (code_name name) bytes) (map.insert x (code_name name) bytes) (IsLined line c)) (sym same)
+        (subst (λ b. Goes (loaded_in table (code_name name) b) (map.insert c (code_name name) b) (IsLined line c)) (sym made.is)
+        (goes_weaker (loaded_in table (code_name name) (unit_file made.unit)) (with_file c name made.unit) (Still (with_file c name made.unit) (λ ops. ops ≡ code_of made.unit))
+        (IsLined line c) (loaded_goes table (code_name name) made.unit (with_file c name made.unit) passes)
+        (λ ops d k. record {
+          has = subst (λ x. HasLine table c line (playable line ops) x) (sym k.0) (subst (λ os. HasLine table c line (playable line os) (with_file c name made.unit)) (sym k.1) has);
+          fine = subst AreFine (sym k.0) (fine_more c name made.unit table passes fine);
+        })))
 
-    source_goes : (name : List ℕ) (c : Contents) → AreFine c → Goes (source_named table name) c Fine
+    source_goes : (line : ScriptLine) (c : Contents) → line.binary ≡ false → AreFine c → Goes (source_named table line.name) c (IsLined line c)
     unfolding source_named
-    source_goes name c fine =
-        goes_next (compiled_named table name) (writes_loaded table (code_name name)) c (Still c (IsMade table c name)) Fine
-        (compiled_goes right settled table some trees name c) (λ bytes d is. loads_go name bytes c d fine is)
+    source_goes line c e fine =
+        goes_next (compiled_named table line.name) (writes_loaded table (code_name line.name)) c (Still c (IsMade table c line.name)) (IsLined line c)
+        (compiled_goes right settled table some trees line.name c) (λ bytes d is. loads_go line bytes c d e fine is)
 
-    code_goes : (b : Bool) (name : List ℕ) (c : Contents) → AreFine c → Undeniable (Goes (code_by b table name) c Fine)
-    code_goes true name c fine =
-        with_it (binary_goes sizes places table (code_name name) c fine.files)
-        (λ g. goes_weaker (checked_named table (code_name name)) c (λ ops d. d ≡ c) Fine g (λ ops d same. subst AreFine (sym same) fine))
-    code_goes false name c fine = surely (source_goes name c fine)
+    code_goes : (b : Bool) (line : ScriptLine) (c : Contents) → line.binary ≡ b → AreFine c → Undeniable (Goes (code_by b table line.name) c (IsLined line c))
+    code_goes true line c e fine =
+        with_it (binary_goes sizes places table (code_name line.name) c fine.files)
+        (λ g. goes_weaker (checked_named table (code_name line.name)) c (Still c (HasCode table c (code_name line.name))) (IsLined line c) g
+        (λ ops d k. record {
+          has = subst (λ x. HasLine table c line (playable line ops) x) (sym k.0) (accepting.binary e ops k.1);
+          fine = subst AreFine (sym k.0) fine;
+        }))
+    code_goes false line c e fine = surely (source_goes line c e fine)
 
-    script_goes : (line : ScriptLine) (c : Contents) → AreFine c → Undeniable (Goes (script_in table line) c Fine)
+    -- these lines list these scripts behind others, and leave fine files
+    record AreLined (lines : List ScriptLine) (before : List Script) (c : Contents) (all : List Script) (d : Contents) : Type 0 where
+      scripts : List Script
+      is : all ≡ before ++ scripts
+      has : HasScripts table lines c scripts d
+      fine : AreFine d
+
+    script_goes : (line : ScriptLine) (c : Contents) → AreFine c → Undeniable (Goes (script_in table line) c (λ script d. HasLine table c line script d × AreFine d))
     unfolding script_in
     script_goes line c fine =
-        goes_both (code_by line.binary table line.name) (λ ops. work.Gives (playable line ops)) c Fine Fine (code_goes line.binary line.name c fine) (λ ops d is. surely is)
+        goes_both (code_by line.binary table line.name) (λ ops. work.Gives (playable line ops)) c (IsLined line c) (λ script d. HasLine table c line script d × AreFine d)
+        (code_goes line.binary line c refl fine) (λ ops d is. surely (is.has, is.fine))
 
-    lists_go : (lines : List ScriptLine) (before : List Script) (c : Contents) → AreFine c → Undeniable (Goes (lists_on table before lines) c Fine)
+    one_more : (line : ScriptLine) (lines : List ScriptLine) (before : List Script) (c d : Contents) (script : Script) → HasLine table c line script d
+        → (all : List Script) (e : Contents) → AreLined lines (before ++ script ∷ []) d all e → AreLined (line ∷ lines) before c all e
+    one_more line lines before c d script has all e k = record {
+      scripts = script ∷ k.scripts;
+      is = k.is ∙ append_assoc before (script ∷ []) k.scripts;
+      has = accepting.more line lines c d e script k.scripts has k.has;
+      fine = k.fine;
+    }
+
+    lists_go : (lines : List ScriptLine) (before : List Script) (c : Contents) → AreFine c → Undeniable (Goes (lists_on table before lines) c (AreLined lines before c))
     unfolding lists_on
-    lists_go [] before c fine = surely fine
+    lists_go [] before c fine = surely (record { scripts = []; is = sym (append-nil before); has = accepting.none c; fine = fine })
     lists_go (line ∷ lines) before c fine =
-        goes_both (script_in table line) (λ script. lists_on table (before ++ script ∷ []) lines) c Fine Fine (script_goes line c fine)
-        (λ script d is. lists_go lines (before ++ script ∷ []) d is)
+        goes_both (script_in table line) (λ script. lists_on table (before ++ script ∷ []) lines) c (λ script d. HasLine table c line script d × AreFine d)
+        (AreLined (line ∷ lines) before c) (script_goes line c fine)
+        (λ script d is. with_it (lists_go lines (before ++ script ∷ []) d is.1)
+        (λ g. goes_weaker (lists_on table (before ++ script ∷ []) lines) d (AreLined lines (before ++ script ∷ []) d) (AreLined (line ∷ lines) before c) g
+        (one_more line lines before c d script is.0)))
 
-    pub listed_goes : (lines : List ScriptLine) (c : Contents) → AreFine c → Undeniable (Goes (scripts_listed table lines) c Fine)
+    pub listed_goes : (lines : List ScriptLine) (c : Contents) → AreFine c
+        → Undeniable (Goes (scripts_listed table lines) c (λ scripts d. HasScripts table lines c scripts d))
     unfolding scripts_listed
-    listed_goes lines c fine = lists_go lines [] c fine
+    listed_goes lines c fine =
+        with_it (lists_go lines [] c fine)
+        (λ g. goes_weaker (lists_on table [] lines) c (AreLined lines [] c) (λ scripts d. HasScripts table lines c scripts d) g
+        (λ all d k. subst (λ xs. HasScripts table lines c xs d) (sym k.is) k.has))
 
   -- ---- the plays
 
@@ -190,7 +230,7 @@ module _ (header : OneHeader) (some : SomeSplit) (trees : TreeOrPlace) (right : 
     scripts_play : (plan : Plan) (table : EngineTable) (d : Contents) → Still c (HasHeader c word) table d → Undeniable (Goes (plays_scripts cell area plan to table) d Anything)
     unfolding plays_scripts
     scripts_play plan table d (same, has) =
-        goes_both (scripts_listed table plan.scripts) (plays_area cell table area plan to) d Fine Anything
+        goes_both (scripts_listed table plan.scripts) (plays_area cell table area plan to) d (λ scripts e. HasScripts table plan.scripts d scripts e) Anything
         (listed_goes table (is_table reads own c word table held has) plan.scripts d (subst AreFine (sym same) (fine_bytes c held)))
         (λ scripts e is. surely (area_plays table plan scripts e))
 
@@ -202,7 +242,7 @@ module _ (header : OneHeader) (some : SomeSplit) (trees : TreeOrPlace) (right : 
 
     pub play_goes : (plan : List ℕ) → Undeniable (Goes (games.plays cell word area plan to) c Anything)
     unfolding games.plays
-    play_goes plan = goes_both (plan_named plan) (plays_under cell word area to) c (λ p d. d ≡ c) Anything (plan_goes plan c) header_plays
+    play_goes plan = goes_both (plan_named plan) (plays_under cell word area to) c (Still c (ReadsPlan c plan)) Anything (plan_goes plan c) (λ p d is. header_plays p d is.0)
 
 -- ---- a play that goes on
 

@@ -139,7 +139,7 @@ module _ (some : SomeSplit) (trees : TreeOrPlace) (name : List ℕ) (c : Content
   unit_fated tokens files (Some (gather.Include spot)) unit told = (units.Faulty cause.Include spot, units.include tokens files spot unit, tt)
   unit_fated tokens files (Some gather.NoMemory) unit told = absurd told
 
-  pub unit_goes : Goes (unit_of name) c (Still c IsHeld)
+  unit_goes : Goes (unit_of name) c (Still c IsHeld)
   unfolding unit_of
   unit_goes = let u = unit_comes some (map.get c) name in unit_fated u.tokens u.files u.ending u.is u.told
 
@@ -190,7 +190,7 @@ loaded_goes header file unit d pass =
 
 -- ---- what is told last
 
-pub end_goes : (e : PlayEnd) (c : Contents) → Goes (ends_by e) c Anything
+end_goes : (e : PlayEnd) (c : Contents) → Goes (ends_by e) c Anything
 end_goes plays.Done c = tt
 end_goes plays.OutOfEntries c = λ x. x
 end_goes plays.StoppedInside c = λ x. x

@@ -38,4 +38,5 @@ mod GoesSources
 mod GoesFiles
 mod GoesTables
 mod GoesPlays
+mod GoesSaves
 mod Answering

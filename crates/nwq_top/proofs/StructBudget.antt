@@ -57,7 +57,7 @@ numbers_length : (n : ℕ) (tokens : List Symbol) → length (numbered_from n to
 numbers_length n [] = refl
 numbers_length n (t ∷ ts) = ap suc (numbers_length (n + 1) ts)
 
-pub few_structs : (tokens : List Symbol) (x : SourceTree) → Parses tokens x → 8 * in_all structs_of x.items ≤ length tokens
+few_structs : (tokens : List Symbol) (x : SourceTree) → Parses tokens x → 8 * in_all structs_of x.items ≤ length tokens
 few_structs tokens x parses = omega (arith, items_length parses.items, numbers_length 0 tokens)
 
 -- ---- a unit within its count of tokens

@@ -54,3 +54,18 @@ least_one P n p = with_it (least_or_none P (suc n)) by_case
     by_case : NoneBelow P (suc n) ⊎ Least P → Least P
     by_case (inl none_below) = absurd (none_below n (omega arith) p)
     by_case (inr least) = least
+
+-- ---- where each number is known to be one or not
+
+decided_here : (P : ℕ → Type 0) (n : ℕ) → NoneBelow P n → P n ⊎ (P n → ⊥) → NoneBelow P (suc n) ⊎ Least P
+decided_here P n none_below (inl p) = inr (record { number = n; is = p; below = none_below })
+decided_here P n none_below (inr none_here) = inl (λ k lt p. below_or_here P n k none_below none_here lt p)
+
+decided_further : (P : ℕ → Type 0) (n : ℕ) → P n ⊎ (P n → ⊥) → NoneBelow P n ⊎ Least P → NoneBelow P (suc n) ⊎ Least P
+decided_further P n here (inl none_below) = decided_here P n none_below here
+decided_further P n here (inr least) = inr least
+
+-- there is a least one, or none below a bound
+pub search_below : (P : ℕ → Type 0) → ((k : ℕ) → P k ⊎ (P k → ⊥)) → (n : ℕ) → ((k : ℕ) → k < n → P k → ⊥) ⊎ Least P
+search_below P decide zero = inl (λ k lt p. absurd (omega (arith, lt)))
+search_below P decide (suc n) = decided_further P n (decide n) (search_below P decide n)

@@ -1,12 +1,25 @@
 -- That an input has an answer: an outcome of the work that isn't cut. Each statement stands on the
 -- contract of a function of `laws`.
-use Rattle.std.specs.Prelude.{ℕ, List, Result}
+use Rattle.std.specs.Prelude.{ℕ, ◌≢◌, List, Result}
 use Rattle.nwq_outside.specs.Outside.{Contents, AreBytes}
+use Rattle.table_2da.specs.declared.tables.Named.{Named}
+use Rattle.table_2da.specs.Look.{cell_of}
+use Rattle.plan_text.specs.declared.plan.Plan.{Plan}
+use Rattle.machine_rules.specs.Machine.{Script}
+use Rattle.saved_state.specs.declared.saved.Saved.{Saved}
+use Rattle.state_format.specs.declared.parts.Parts.{Parts}
 use Rattle.world_rules.specs.Pure.{CellLookup}
+use Rattle.world_rules.specs.Plays.{StoppedInside, Played}
+use Rattle.play_worlds.specs.Worlds.{plan_world}
+use Rattle.command_plays.specs.Plays.{played_first}
+use Rattle.command_save.specs.declared.inputs.HeaderFile.{HeaderFile}
+use Rattle.command_save.specs.declared.inputs.AreaFile.{AreaFile}
+use Rattle.command_save.specs.Saves.{IsStateAt}
 use Rattle.command_work.specs.declared.status.Status.{Status}
 use Rattle.command_work.specs.Work.{Work, IsCut, Does, Finished}
-use Rattle.command_words.specs.Words.{Form, Run, Compile, Tree, Generate, Save, NoForm, form_of}
+use Rattle.command_words.specs.Words.{Form, Run, Compile, Tree, Disassemble, Generate, Save, NoForm, form_of}
 use Rattle.nwq_top.specs.Command.{work_of, whole_work}
+use Rattle.nwq_top.specs.Saves.{AcceptsSave}
 
 -- from these contents and taken bytes on the work has this outcome, which isn't cut
 pub record Outcome (w : Work Finished) (c : Contents) (t : List ℕ) : Type 0 where
@@ -20,25 +33,42 @@ pub record Outcome (w : Work Finished) (c : Contents) (t : List ℕ) : Type 0 wh
 abbrev pub HasOutcome : Work Finished → Contents → List ℕ → Type 0
 HasOutcome w c t = (Outcome w c t → ⊥) → ⊥
 
--- every form but that of `save`
-abbrev pub IsNoSave : Form → Type 0
-IsNoSave (Save header area plan entries state list) = ⊥
-IsNoSave _ = Unit {0}
+-- ---- plays that can be saved
+
+-- there is a state from which the play can go on as it stands at its end
+abbrev pub StateIsThere : HeaderFile → List ℕ → Plan → List Script → Played Saved → Type 0
+StateIsThere header file plan scripts played = ((s : Parts) × IsStateAt header file plan scripts played.last s → ⊥) → ⊥
+
+-- So it is of the first entries of every play that `save` accepts, unless they are stopped.
+abbrev pub PlaysCanBeSaved : CellLookup → List ℕ → List ℕ → List ℕ → ℕ → Contents → Type 0
+PlaysCanBeSaved cell header area plan n c =
+    (h : HeaderFile) (p : Plan) (scripts : List Script) (a : AreaFile) (left : Contents) → AcceptsSave header area plan c h p scripts a left
+    → (played_first cell h.table p scripts n (plan_world a.area p)).ending ≢ StoppedInside
+    → StateIsThere h a.bytes p scripts (played_first cell h.table p scripts n (plan_world a.area p))
+
+-- what is asked of a form of words: of `save` alone, that its play can be saved
+abbrev pub CanSave : CellLookup → Contents → Form → Type 0
+CanSave cell c (Save header area plan entries state list) = PlaysCanBeSaved cell header area plan entries c
+CanSave cell c _ = Unit {0}
+
+-- ---- the law
 
 -- whatever the words are, whatever bytes the files hold, and whatever was taken
 abbrev pub EachHasOutcome : Type 0
-EachHasOutcome = (cell : CellLookup) (words : List (List ℕ)) (c : Contents) (t : List ℕ) → AreBytes c → IsNoSave (form_of words)
+EachHasOutcome = (cell : CellLookup) (words : List (List ℕ)) (c : Contents) (t : List ℕ) → AreBytes c → CanSave cell c (form_of words)
     → HasOutcome (work_of cell (form_of words)) c t
 
 -- the same of the whole program, which reads tables first
 abbrev pub EachWholeHasOutcome : Type 0
-EachWholeHasOutcome = (words : List (List ℕ)) (c : Contents) (t : List ℕ) → AreBytes c → IsNoSave (form_of words) → HasOutcome (whole_work (form_of words)) c t
+EachWholeHasOutcome = (words : List (List ℕ)) (c : Contents) (t : List ℕ) → AreBytes c
+    → ((tables : List Named) → CanSave (cell_of tables) c (form_of words)) → HasOutcome (whole_work (form_of words)) c t
 
--- these read neither bytecode, nor a text by its lines, nor a state
+-- these check no bytecode, and read neither a text by its lines nor a state
 abbrev pub IsPlainForm : Form → Type 0
 IsPlainForm (Run header script) = Unit {0}
 IsPlainForm (Compile header script) = Unit {0}
 IsPlainForm (Tree file) = Unit {0}
+IsPlainForm (Disassemble file to) = Unit {0}
 IsPlainForm (Generate number) = Unit {0}
 IsPlainForm NoForm = Unit {0}
 IsPlainForm _ = ⊥

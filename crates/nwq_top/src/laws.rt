@@ -46,10 +46,11 @@ pub fn one_outcome()
     one_set_of_tables();
 }
 
-/// Each input has an answer: whatever the words are, those of `save` aside, whatever bytes the
-/// files hold, and whatever was taken, the work has an outcome that isn't cut. So has the whole
-/// program. Of words for which nothing is read but headers, sources and trees it is there; of all
-/// others it is refuted that there is none, which is the same by excluded middle.
+/// Each input has an answer: whatever the words are, whatever bytes the files hold, and whatever
+/// was taken, the work has an outcome that isn't cut; that of `save` has one where the play that it
+/// accepts can be saved. So has the whole program. Of words for which no code is checked, and
+/// neither a text by its lines nor a state is read, it is there; of all others it is refuted that
+/// there is none, which is the same by excluded middle.
 pub fn each_has_outcome()
     ensures each { EachHasOutcome }
     ensures whole { EachWholeHasOutcome }
