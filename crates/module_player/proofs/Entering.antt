@@ -39,7 +39,7 @@ runner_script : (s : Scene) (limit n o : ℕ) (w : World Saved) → (runner_in s
 unfolding code_runner
 runner_script s limit n o w = refl
 
-runner_stored : (s : Scene) (limit : ℕ) (x : Saved) (o : ℕ) (w : World Saved) → (runner_in s limit).stored x o w ≡ run_of (run_stored (host_in s) limit x o w)
+pub runner_stored : (s : Scene) (limit : ℕ) (x : Saved) (o : ℕ) (w : World Saved) → (runner_in s limit).stored x o w ≡ run_of (run_stored (host_in s) limit x o w)
 unfolding code_runner
 runner_stored s limit x o w = refl
 
@@ -88,7 +88,7 @@ named_listed : (s : Scene) (limit o n : ℕ) (name : List ℕ) (w : World Saved)
 named_listed s limit o n name w is =
     ap (λ m. named_entry (runner_in s limit) o name m w) (runner_named s limit name ∙ is) ∙ ap (finished (λ x. x)) (runner_script s limit n o w)
 
-event_is : (s : Scene) (limit o n : ℕ) (name : List ℕ) (w : World Saved) → (length name == 0) ≡ false → script_named (scripts_in s) name ≡ Some n
+pub event_is : (s : Scene) (limit o n : ℕ) (name : List ℕ) (w : World Saved) → (length name == 0) ≡ false → script_named (scripts_in s) name ≡ Some n
     → event_entry (runner_in s limit) o name w ≡ finished (λ x. x) (run_of (run_from (host_in s) limit n begins.Start o w))
 event_is s limit o n [] w some is = absurd cc
 event_is s limit o n (b ∷ name) w some is = named_listed s limit o n (b ∷ name) w is

@@ -1,5 +1,7 @@
 pub mod Runs
 pub mod Entering
+pub mod Cutting
+pub mod Pausing
 pub mod Turning
 pub mod Playing
 pub mod Whole

@@ -21,9 +21,11 @@ use Rattle.module_player.specs.declared.played.How.{How}
 use Rattle.module_player.specs.declared.played.How.TheVariants as how
 use Rattle.module_player.specs.declared.played.Played.{Played as Answer}
 use Rattle.module_player.specs.Answers.{HasPlayed, IsLastEnd}
+use Rattle.module_player.specs.Cuts.{IsCutAt, IsCutShort, cut_lines}
 use Rattle.module_player.specs.CodePlays.{played_before}
-use Rattle.module_player.specs.Scenes.{Scene, FitIn, runner_in}
+use Rattle.module_player.specs.Scenes.{Scene, FitIn, host_in, runner_in}
 use Rattle.module_player.specs.Turns.{IsInside, IsTaken, Turns, lines_of}
+use Rattle.module_player.proofs.Pausing.{further_on, paused}
 
 -- ---- texts of traces
 
@@ -83,6 +85,10 @@ pub record SoFar (s : Scene) (limit : ℕ) (bounds : Bounds) (first : Progress S
   pub total : count ≤ 2 ^ 61 + number * 33554432
   pub posted : w.agenda.next ≤ first.world.agenda.next + number * 33554432
   pub executed : count ≤ first.count + number * 33554432
+  pub from : first.entries ≤ number
+  -- the play that is broken off here
+  pub finished : (stop : ℕ) → plays_from (runner_in s limit) (record { entries = bounds.entries; until = bounds.until; stop = stop }) (number - first.entries) first
+      ≡ paused (record { entries = number; count = count; trace = lines; world = w })
 
 module _ (s : Scene) (limit : ℕ) (bounds : Bounds) (first : Progress Saved) where
   abbrev Run : Runner Saved
@@ -181,6 +187,22 @@ module _ (s : Scene) (limit : ℕ) (bounds : Bounds) (first : Progress Saved) wh
   text_on lines more t0 t t' a b =
       b ∙ ap (λ x. x ++ trace_text more) a ∙ append_assoc t0 (trace_text lines) (trace_text more) ∙ ap (λ x. t0 ++ x) (sym (trace_append lines more))
 
+  one_since : (number from : ℕ) → from ≤ number → number + 1 - from ≡ suc (number - from)
+  one_since number from less = omega (arith, less)
+
+  -- one entry more is finished
+  one_finished : (stop number count k n : ℕ) (w v : World Saved) (lines : List Line)
+      → plays_from (runner_in s limit) (record { entries = bounds.entries; until = bounds.until; stop = stop }) k first ≡ paused (at_place number count lines w)
+      → number ≢ bounds.entries → Turns (Goes n) s limit (runner_in s limit) (begin bounds.until w) w v
+      → plays_from (runner_in s limit) (record { entries = bounds.entries; until = bounds.until; stop = stop }) (suc k) first
+      ≡ paused (gone (at_place number count lines w) n (lines_of (runner_in s limit) (begin bounds.until w)) v)
+  one_finished stop number count k n w v lines so_far apart h =
+      further_on (runner_in s limit) (record { entries = bounds.entries; until = bounds.until; stop = stop }) (at_place number count lines w)
+      (paused (gone (at_place number count lines w) n (lines_of (runner_in s limit) (begin bounds.until w)) v)) k first so_far
+      (ap (λ b. if b then record { ending = full (begin bounds.until w); last = at_place number count lines w }
+      else next_entry (runner_in s limit) (begin bounds.until w) (at_place number count lines w) paused) (not_equal number bounds.entries apart)
+      ∙ next_goes n (begin bounds.until w) (at_place number count lines w) w v paused h)
+
   module _ (tells : Bool) (t0 t : List ℕ) (f0 f number count : ℕ) (w : World Saved) (x : SoFar s limit bounds first tells t0 t f0 f number count w) where
     whole_goes : number < bounds.stop → number ≢ bounds.entries
         → next_entry (runner_in s limit) (begin bounds.until w) (at_place number count x.lines w) (plays_from (runner_in s limit) bounds (bounds.stop - (number + 1))) ≡ Whole
@@ -206,6 +228,9 @@ module _ (s : Scene) (limit : ℕ) (bounds : Bounds) (first : Progress Saved) wh
           total = let k = x.total in let m = l.inside.within in omega (arith, limited);
           posted = let k = x.posted in let m = l.inside.few in omega (arith, limited);
           executed = let k = x.executed in let m = l.inside.within in omega (arith, limited);
+          from = let k = x.from in omega arith;
+          finished = λ stop. ap (λ k. plays_from (runner_in s limit) (record { entries = bounds.entries; until = bounds.until; stop = stop }) k first)
+              (let k = x.from in one_since number first.entries k) ∙ one_finished stop number count (number - first.entries) n w v x.lines (x.finished stop) apart h;
         }
 
     pub play_stops : (n : ℕ) (t' : List ℕ) (f' : ℕ) (v : World Saved) → number < bounds.stop → number ≢ bounds.entries → limit ≤ instruction_limit → bounds.entries ≤ entry_limit
@@ -359,6 +384,27 @@ module _ (s : Scene) (limit : ℕ) (bounds : Bounds) (first : Progress Saved) wh
       counts = faults ∙ x.faults;
     }
 
+    -- where it is cut short: the entries so far are finished
+    pub cut_short : (v : World Saved) → IsCutAt (host_in s) limit (begin bounds.until w) w v
+        → IsCutShort (host_in s) limit bounds.until (play_on (runner_in s limit) (record { entries = bounds.entries; until = bounds.until; stop = number }) first) number count v
+    cut_short v c =
+        let is = sym (x.finished number) in
+        record {
+          ending = sym (ap (λ (q : Played Saved). q.ending) is);
+          entries = ap (λ (q : Played Saved). q.last.entries) is;
+          instructions = ap (λ (q : Played Saved). q.last.count) is;
+          world = subst (λ (q : Played Saved). IsCutAt (host_in s) limit (begin bounds.until q.last.world) q.last.world v) is c;
+        }
+
+    -- and their lines are told, and a prefix of the next one's
+    pub cut_told : (t' : List ℕ) → (IsTrue tells → TookPrefix (trace_text More) t t') → IsTrue tells
+        → TookPrefix (cut_lines (host_in s) limit bounds.until (play_on (runner_in s limit) (record { entries = bounds.entries; until = bounds.until; stop = number }) first))
+        (t0 ++ trace_text (play_on (runner_in s limit) (record { entries = bounds.entries; until = bounds.until; stop = number }) first).last.trace) t'
+    cut_told t' told can =
+        let is = sym (x.finished number) in
+        subst (λ (q : Played Saved). TookPrefix (cut_lines (host_in s) limit bounds.until q) (t0 ++ trace_text q.last.trace) t') is
+        (subst (λ y. TookPrefix (trace_text More) y t') (x.text can) (told can))
+
 pub play_begins : (s : Scene) (limit : ℕ) (bounds : Bounds) (taken done : ℕ) (w : World Saved) (tells : Bool) (t : List ℕ) (f : ℕ)
     → FitIn s w → w.trace ≡ [] → taken ≤ bounds.entries → w.agenda.next < 2 ^ 61 → done < 2 ^ 61
     → SoFar s limit bounds (played_before taken done w) tells t t f f taken done w
@@ -375,8 +421,13 @@ play_begins s limit bounds taken done w tells t f fit quiet within next total = 
   total = omega (arith, total);
   posted = omega arith;
   executed = omega arith;
+  from = omega arith;
+  finished = λ stop. ap (λ k. plays_from (runner_in s limit) (record { entries = bounds.entries; until = bounds.until; stop = stop }) k (played_before taken done w)) (none_since taken);
 }
   where
+    none_since : (n : ℕ) → n - n ≡ 0
+    none_since n = omega arith
+
     none : (xs : List ℕ) → xs ≡ xs ++ []
     none [] = refl
     none (x ∷ xs) = ap (λ ys. x ∷ ys) (none xs)
@@ -416,6 +467,6 @@ due_later until due (e ∷ es) w is less =
 pub one_later : (until due : ℕ) (w : World Saved) → first_due w.agenda.entries ≡ Some due → until < due → full (begin until w) ≡ plays.Done
 one_later until due w is less = due_later until due w.agenda.entries w is less
 
-pub ruleset play_lemmas = (play_begins, plays_go_on, play_stops, play_rests, play_is_last, play_pauses, play_fails, play_runs_out)
+pub ruleset play_lemmas = (play_begins, plays_go_on, play_stops, play_rests, play_is_last, play_pauses, play_fails, play_runs_out, cut_short, cut_told)
 
 pub ruleset due_lemmas = (none_due, one_due, one_later)

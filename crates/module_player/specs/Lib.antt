@@ -3,5 +3,6 @@ pub mod Scenes
 pub mod Entries
 pub mod Turns
 pub mod Answers
+pub mod Cuts
 pub mod EndTexts
 pub mod Resting

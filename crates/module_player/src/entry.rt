@@ -1,5 +1,6 @@
 //! One agenda entry.
-ghost use Rattle.std.specs.Prelude.{◌≡◌, ◌≤◌, ◌<◌, ◌+◌, ◌^◌, ℕ, IfOk, OnOk, false, length, map};
+ghost use Rattle.std.specs.Prelude.{◌≡◌, ◌≤◌, ◌<◌, ◌+◌, ◌^◌, ℕ, IfOk, OnErr, OnOk, false};
+ghost use Rattle.std.specs.Prelude.{length, map};
 ghost use Rattle.delay_agenda.specs.declared.entry.Kind.TheVariants as kind;
 ghost use Rattle.nwq_value.specs.Limits.{instruction_limit};
 ghost use Rattle.stack_rules.specs.Fits.{FitsOne};
@@ -12,6 +13,7 @@ ghost use Rattle.ncs_machine.specs.Endings.{FitsBegin};
 ghost use Rattle.ncs_machine.specs.Host.{run_from};
 ghost use Rattle.ncs_machine.specs.Stored.{KindFits};
 ghost use Rattle.module_player.specs.CodePlays.{run_of};
+ghost use Rattle.module_player.specs.Cuts.{IsCutIn, IsDivided};
 ghost use Rattle.module_player.specs.Entries.{HasActed, HasEntered, IsReady, KeepsFits, run};
 ghost use Rattle.module_player.specs.Entries.{turn_taken};
 ghost use Rattle.module_player.specs.Scenes.{FitIn, IsSet, host_in, runner_in};
@@ -47,6 +49,8 @@ fn finish(world: &mut World<Saved>, ended: Ended) -> Result<bool, NoMemory>
         world.old.world) ≡ record { stopped = stopped; count = n; world = world.new.world }) }
     ensures agenda { OnOk result (world.new.world.agenda ≡ world.old.world.agenda) }
     ensures things { OnOk result (world.new.world.things ≡ world.old.world.things) }
+    ensures kept { OnErr result (world.new.world ≡ world.old.world) }
+    ensures divided { OnErr result (IsDivided ended) }
 {
     match ended {
         Ended::Over => Ok(false),
@@ -71,6 +75,8 @@ fn finish_turn(world: &mut World<Saved>, object: u32, ended: Ended) -> Result<bo
         world.old.world) ≡ record { stopped = stopped; count = n; world = world.new.world }) }
     ensures few { OnOk result (world.new.world.agenda.next ≤ world.old.world.agenda.next + 1) }
     ensures fit { OnOk result (KeepsFits world.old.world world.new.world) }
+    ensures kept { OnErr result (world.new.world ≡ world.old.world) }
+    ensures divided { OnErr result (IsDivided ended) }
 {
     entries_keep_worlds::<Saved>();
     entries_keep_fits();
@@ -118,6 +124,10 @@ fn script_entry(
         (finished (λ v. v) (run_of (run_from (host_in (scene setting.now.scripts.now
         setting.now.table.now (map (λ h. h.known) setting.now.hooks.now.all.items))) limit script
         begin object world.old.world))) world.old.world world.new.world) }
+    ensures cut { OnErr result (IsCutIn (λ n. finished (λ v. v) (run_of (run_from (host_in (scene
+        setting.now.scripts.now setting.now.table.now (map (λ h. h.known)
+        setting.now.hooks.now.all.items))) n script begin object world.old.world))) limit
+        world.old.world world.new.world) }
 {
     let (ended, count) = run_scripts(alloc, setting, world, script, begin, object, limit)?;
     let stopped = finish(world, ended)?;
@@ -146,6 +156,10 @@ fn event_entry(
         setting.now.table.now (map (λ h. h.known) setting.now.hooks.now.all.items)) limit e
         (event_entry (runner_in (scene setting.now.scripts.now setting.now.table.now (map (λ h.
         h.known) setting.now.hooks.now.all.items)) limit) object name.now world.old.world)
+        world.old.world world.new.world) }
+    ensures cut { OnErr result (IsCutIn (λ n. event_entry (runner_in (scene
+        setting.now.scripts.now setting.now.table.now (map (λ h. h.known)
+        setting.now.hooks.now.all.items)) n) object name.now world.old.world) limit
         world.old.world world.new.world) }
 {
     if name.bytes().is_empty() {
@@ -198,6 +212,10 @@ fn action_entry(
         (finished (turn_done object) (run_of (run_stored (host_in (scene setting.now.scripts.now
         setting.now.table.now (map (λ h. h.known) setting.now.hooks.now.all.items))) limit saved
         object world.old.world))) world.old.world world.new.world) }
+    ensures cut { OnErr result (IsCutIn (λ n. finished (turn_done object) (run_of (run_stored
+        (host_in (scene setting.now.scripts.now setting.now.table.now (map (λ h. h.known)
+        setting.now.hooks.now.all.items))) n saved object world.old.world))) limit
+        world.old.world world.new.world) }
 {
     let script = saved.script;
     let begin = Begin::Stored(saved);
@@ -230,6 +248,9 @@ fn turn_entry(
         (turn_taken (runner_in (scene setting.now.scripts.now setting.now.table.now (map (λ h.
         h.known) setting.now.hooks.now.all.items)) limit) object world.old.world) world.old.world
         world.new.world) }
+    ensures cut { OnErr result (IsCutIn (λ n. turn_taken (runner_in (scene setting.now.scripts.now
+        setting.now.table.now (map (λ h. h.known) setting.now.hooks.now.all.items)) n) object
+        world.old.world) limit world.old.world world.new.world) }
 {
     entries_keep_worlds::<Saved>();
     entries_keep_fits();
@@ -248,6 +269,7 @@ fn unapply_entry(world: &mut World<Saved>, object: u32, number: u64) -> Result<E
     ensures world { OnOk result (world.new.world ≡ unapply object number world.old.world) }
     ensures few { OnOk result (world.new.world.agenda.next ≤ world.old.world.agenda.next + 1) }
     ensures fit { OnOk result (KeepsFits world.old.world world.new.world) }
+    ensures kept { OnErr result (world.new.world ≡ world.old.world) }
 {
     entries_keep_worlds::<Saved>();
     entries_keep_fits();
@@ -283,6 +305,9 @@ pub(crate) fn enter(
         (entered_as (runner_in (scene setting.now.scripts.now setting.now.table.now (map (λ h.
         h.known) setting.now.hooks.now.all.items)) limit) entry.kind entry.number world.old.world)
         world.old.world world.new.world) }
+    ensures cut { OnErr result (IsCutIn (λ n. entered_as (runner_in (scene setting.now.scripts.now
+        setting.now.table.now (map (λ h. h.known) setting.now.hooks.now.all.items)) n) entry.kind
+        entry.number world.old.world) limit world.old.world world.new.world) }
 {
     let Entry {
         due: _,

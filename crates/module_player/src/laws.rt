@@ -5,8 +5,8 @@ use ncs_machine::runs_lead;
 use saved_state::Saved;
 use world_rules::plays_settle;
 
-/// A play of files that goes on from a world between entries, inside a plan's limits, ends in such a
-/// world too, unless it is stopped inside an entry: so it can be saved.
+/// A play of files that goes on from a world between entries, inside a plan's limits, ends in such
+/// a world too, unless it is stopped inside an entry: so it can be saved.
 pub fn plays_can_rest()
     ensures rest { PlaysCanRest }
 {

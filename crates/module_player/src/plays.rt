@@ -1,5 +1,7 @@
 //! Plays: entry after entry.
-ghost use Rattle.std.specs.Prelude.{◌≡◌, ◌≢◌, ◌≤◌, ◌<◌, ◌+◌, ◌^◌, [], IsTrue, length, map};
+ghost use Rattle.std.specs.Prelude.{◌≡◌, ◌≢◌, ◌≤◌, ◌<◌, ◌+◌, ◌^◌, ◌++◌, [], IsTrue};
+ghost use Rattle.std.specs.Prelude.{length, map};
+ghost use Rattle.nwq_outside.specs.Outside.{TookPrefix};
 ghost use Rattle.nwq_value.specs.Limits.{entry_limit, instruction_limit, time_limit};
 ghost use Rattle.stack_rules.specs.Laws.{AllMeet};
 ghost use Rattle.world_rules.specs.Trace.{trace_text};
@@ -11,7 +13,8 @@ ghost use Rattle.ncs_machine.specs.Stored.{StatesFit};
 ghost use Rattle.module_player.specs.Answers.{CountsPlay, EndsAs, HasPlayed, IsLastEnd};
 ghost use Rattle.module_player.specs.Answers.{TakesTrace, WherePlayed};
 ghost use Rattle.module_player.specs.CodePlays.{code_play, code_play_on, host_of, played_before};
-ghost use Rattle.module_player.specs.Scenes.{FitIn, IsSet, runner_in, scene};
+ghost use Rattle.module_player.specs.Cuts.{IsCutShort, WhereCut, cut_lines};
+ghost use Rattle.module_player.specs.Scenes.{FitIn, IsSet, host_in, runner_in, scene};
 ghost use Rattle.module_player.specs.declared.played.How.TheVariants as answer;
 
 use crate::played::{How, Played};
@@ -76,6 +79,24 @@ fn play_from<S: Sink>(
         (record { entries = entries; until = until; stop = stop })
         (played_before taken done world.old.world)) S.tells (S.taken out.old) (S.taken out.new)
         (S.faults out.old) (S.faults out.new) world.new.world }
+    ensures cut { WhereCut result.how (IsCutShort (host_in (scene setting.now.scripts.now
+        setting.now.table.now (map (λ h. h.known) setting.now.hooks.now.all.items))) limit until
+        (play_on (runner_in (scene setting.now.scripts.now setting.now.table.now
+        (map (λ h. h.known) setting.now.hooks.now.all.items)) limit)
+        (record { entries = entries; until = until; stop = result.entries })
+        (played_before taken done world.old.world)) result.entries result.instructions
+        world.new.world) }
+    ensures told { IsTrue S.tells → WhereCut result.how (TookPrefix (cut_lines (host_in (scene
+        setting.now.scripts.now setting.now.table.now (map (λ h. h.known)
+        setting.now.hooks.now.all.items))) limit until (play_on (runner_in (scene
+        setting.now.scripts.now setting.now.table.now (map (λ h. h.known)
+        setting.now.hooks.now.all.items)) limit)
+        (record { entries = entries; until = until; stop = result.entries })
+        (played_before taken done world.old.world))) (S.taken out.old ++ trace_text (play_on
+        (runner_in (scene setting.now.scripts.now setting.now.table.now (map (λ h. h.known)
+        setting.now.hooks.now.all.items)) limit)
+        (record { entries = entries; until = until; stop = result.entries })
+        (played_before taken done world.old.world)).last.trace) (S.taken out.new)) }
 {
     let mut count = done;
     for number in taken..stop {
@@ -182,6 +203,19 @@ pub fn play_on<S: Sink>(
         (tables_of scripts.now) world.new.world) }
     ensures quiet { WherePlayed result.how (world.new.world.trace ≡ []) }
     ensures next { WherePlayed result.how (world.new.world.agenda.next < 2 ^ 62) }
+    // Where it was cut short: the entries that are counted were finished, as if the play were broken
+    // off behind them, and the world is the one there, or that of the next entry: not begun, stopped
+    // after some of its instructions, or done. The sink took a prefix of that entry's lines.
+    ensures cut { WhereCut result.how (IsCutShort (host_of scripts.now table.now
+        (map (λ h. h.known) hooks.now.all.items)) limit until (code_play_on (host_of scripts.now
+        table.now (map (λ h. h.known) hooks.now.all.items)) limit entries until result.entries
+        taken done world.old.world) result.entries result.instructions world.new.world) }
+    ensures told { IsTrue S.tells → WhereCut result.how (TookPrefix (cut_lines (host_of scripts.now
+        table.now (map (λ h. h.known) hooks.now.all.items)) limit until (code_play_on (host_of
+        scripts.now table.now (map (λ h. h.known) hooks.now.all.items)) limit entries until
+        result.entries taken done world.old.world)) (S.taken out.old ++ trace_text (code_play_on
+        (host_of scripts.now table.now (map (λ h. h.known) hooks.now.all.items)) limit entries
+        until result.entries taken done world.old.world).last.trace) (S.taken out.new)) }
     // How much at most was posted, and executed.
     ensures posted { WherePlayed result.how
         (world.new.world.agenda.next ≤ world.old.world.agenda.next + 2 ^ 45) }
@@ -243,6 +277,19 @@ pub fn play<S: Sink>(
         (tables_of scripts.now) world.new.world) }
     ensures quiet { WherePlayed result.how (world.new.world.trace ≡ []) }
     ensures next { WherePlayed result.how (world.new.world.agenda.next < 2 ^ 62) }
+    // Where it was cut short: the entries that are counted were finished, as if the play were broken
+    // off behind them, and the world is the one there, or that of the next entry: not begun, stopped
+    // after some of its instructions, or done. The sink took a prefix of that entry's lines.
+    ensures cut { WhereCut result.how (IsCutShort (host_of scripts.now table.now
+        (map (λ h. h.known) hooks.now.all.items)) limit until (code_play_on (host_of scripts.now
+        table.now (map (λ h. h.known) hooks.now.all.items)) limit entries until result.entries
+        0 0 world.old.world) result.entries result.instructions world.new.world) }
+    ensures told { IsTrue S.tells → WhereCut result.how (TookPrefix (cut_lines (host_of scripts.now
+        table.now (map (λ h. h.known) hooks.now.all.items)) limit until (code_play_on (host_of
+        scripts.now table.now (map (λ h. h.known) hooks.now.all.items)) limit entries until
+        result.entries 0 0 world.old.world)) (S.taken out.old ++ trace_text (code_play_on
+        (host_of scripts.now table.now (map (λ h. h.known) hooks.now.all.items)) limit entries
+        until result.entries 0 0 world.old.world).last.trace) (S.taken out.new)) }
     // It isn't broken off.
     ensures whole { result.how ≢ answer.Pause }
 {

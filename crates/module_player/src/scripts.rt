@@ -1,10 +1,11 @@
 //! The scripts of an entry.
-ghost use Rattle.std.specs.Prelude.{◌≤◌, ◌<◌, ◌^◌, IfOk, length, map};
+ghost use Rattle.std.specs.Prelude.{◌≤◌, ◌<◌, ◌^◌, IfOk, OnErr, length, map};
 ghost use Rattle.nwq_value.specs.Limits.{instruction_limit};
 ghost use Rattle.world_rules.specs.World.{count as object_count};
 ghost use Rattle.ncs_machine.specs.Endings.{FitsBegin};
 ghost use Rattle.ncs_machine.specs.Host.{run_from};
 ghost use Rattle.module_player.specs.CodePlays.{run_of};
+ghost use Rattle.module_player.specs.Cuts.{IsRunCut};
 ghost use Rattle.module_player.specs.Entries.{HasRun};
 ghost use Rattle.module_player.specs.Scenes.{FitIn, IsSet, host_in, scene, scripts_in, tables_in};
 
@@ -55,6 +56,10 @@ pub(crate) fn run_scripts(
         (host_in (scene setting.now.scripts.now setting.now.table.now (map (λ h. h.known)
         setting.now.hooks.now.all.items))) limit script begin object world.old.world))
         world.old.world world.new.world) }
+    ensures cut { OnErr result (IsRunCut (λ n. run_of (run_from (host_in (scene
+        setting.now.scripts.now setting.now.table.now (map (λ h. h.known)
+        setting.now.hooks.now.all.items))) n script begin object world.old.world))
+        world.new.world) }
     ensures room { 1 ≤ world.new.room }
 {
     let (ran, count, last) = run(

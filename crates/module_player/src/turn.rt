@@ -1,5 +1,5 @@
 //! One turn of a play: the next entry, where one is due, and its lines.
-ghost use Rattle.std.specs.Prelude.{◌≡◌, ◌≤◌, ◌<◌, ◌+◌, ◌^◌, ℕ, IsTrue, map};
+ghost use Rattle.std.specs.Prelude.{◌≡◌, ◌≤◌, ◌<◌, ◌+◌, ◌^◌, ◌⊎◌, ℕ, IsTrue, map};
 ghost use Rattle.delay_agenda.specs.declared.entry.Kind.TheVariants as kind;
 ghost use Rattle.nwq_outside.specs.Outside.{CountsDone, Takes as TakesPiece};
 ghost use Rattle.nwq_outside.specs.declared.answer.Done.TheVariants as done;
@@ -10,8 +10,9 @@ ghost use Rattle.world_rules.specs.Turns.{begin, drained};
 ghost use Rattle.world_rules.specs.World.{count as object_count};
 ghost use Rattle.world_rules.specs.Plays.{entered_as};
 ghost use Rattle.ncs_machine.specs.Stored.{KindFits};
+ghost use Rattle.module_player.specs.Cuts.{IsCutAt, IsCutIn, WhereCutIn};
 ghost use Rattle.module_player.specs.Entries.{IsReady};
-ghost use Rattle.module_player.specs.Scenes.{FitIn, IsSet, runner_in, scene, scripts_in};
+ghost use Rattle.module_player.specs.Scenes.{FitIn, IsSet, host_in, runner_in, scene, scripts_in};
 ghost use Rattle.module_player.specs.Scenes.{tables_in};
 ghost use Rattle.module_player.specs.Turns.{CountsNext, Takes, TakesText, Turns, lines_of};
 ghost use Rattle.module_player.specs.Turns.{lines_text};
@@ -46,6 +47,9 @@ fn put_lines<S: Sink>(alloc: Global, world: &mut World<Saved>, out: &mut S) -> D
     ensures taken { IsTrue S.tells → TakesPiece (trace_text world.old.world.trace) (S.taken
         out.old) (S.taken out.new) result }
     ensures counts { CountsDone result (S.faults out.old) (S.faults out.new) }
+    ensures failed { result ≡ done.Failed → world.new.world ≡ drained world.old.world }
+    ensures cut { result ≡ done.NoMemory → (world.new.world ≡ world.old.world)
+        ⊎ (world.new.world ≡ drained world.old.world) }
 {
     let mut text = Vec::new(alloc);
     match world.drain(&mut text) {
@@ -93,6 +97,10 @@ fn take<S: Sink>(
         (map (λ h. h.known) setting.now.hooks.now.all.items)) limit) entry.kind entry.number
         world.old.world)) (S.taken out.old) (S.taken out.new) }
     ensures counts { CountsNext result (S.faults out.old) (S.faults out.new) }
+    ensures cut { WhereCutIn result (IsCutIn (λ n. entered_as (runner_in (scene
+        setting.now.scripts.now setting.now.table.now (map (λ h. h.known)
+        setting.now.hooks.now.all.items)) n) entry.kind entry.number world.old.world) limit
+        world.old.world world.new.world) }
 {
     match enter(alloc, setting, world, entry, limit) {
         Err(_) => Next::NoMemory,
@@ -136,6 +144,9 @@ pub(crate) fn turn<S: Sink>(
         setting.now.hooks.now.all.items)) limit) (begin until world.old.world))) (S.taken out.old)
         (S.taken out.new) }
     ensures counts { CountsNext result (S.faults out.old) (S.faults out.new) }
+    ensures cut { WhereCutIn result (IsCutAt (host_in (scene setting.now.scripts.now
+        setting.now.table.now (map (λ h. h.known) setting.now.hooks.now.all.items))) limit (begin
+        until world.old.world) world.old.world world.new.world) }
 {
     entries_keep_fits();
     match world.begin(until) {

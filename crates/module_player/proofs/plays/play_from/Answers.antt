@@ -1,4 +1,5 @@
-use Rattle.module_player.proofs.Playing.{play_begins, play_fails, play_is_last, play_rests, play_runs_out, play_stops, plays_go_on}
+use Rattle.module_player.proofs.Cutting.{last_whole}
+use Rattle.module_player.proofs.Playing.{cut_short, cut_told, play_begins, play_fails, play_is_last, play_rests, play_runs_out, play_stops, plays_go_on}
 use Rattle.module_player.proofs.plays.play_from.Goals as goal
 
 pub loop-number-init : goal.loop-number-init
@@ -11,24 +12,34 @@ loop-number-preserved g c =
 pub returns-in-Stops : goal.returns-in-Stops
 returns-in-Stops g c = record {
   played = play_stops _ _ _ _ _ _ _ _ _ _ _ _ c.loop-number.invariant _ _ _ _ c.loop-number-test.true c.if-number-entries.false c.requires.limit c.requires.entries c.in-Stops.ensures.turns c.in-Stops.ensures.taken c.in-Stops.ensures.counts;
+  cut = tt;
+  told = λ can. tt;
 }
 
 pub returns-in-Rests : goal.returns-in-Rests
 returns-in-Rests g c = record {
   played = play_rests _ _ _ _ _ _ _ _ _ _ _ _ c.loop-number.invariant _ _ _ c.loop-number-test.true c.if-number-entries.false c.requires.entries c.in-Rests.ensures.turns c.in-Rests.ensures.taken c.in-Rests.ensures.counts;
+  cut = tt;
+  told = λ can. tt;
 }
 
 pub returns-in-Fault : goal.returns-in-Fault
 returns-in-Fault g c = record {
   played = play_fails _ _ _ _ _ _ _ _ _ _ _ _ c.loop-number.invariant _ _ _ _ _ c.loop-number-test.true c.if-number-entries.false c.in-Fault.ensures.taken c.in-Fault.ensures.counts;
+  cut = cut_short _ _ _ _ _ _ _ _ _ _ _ _ c.loop-number.invariant _ c.in-Fault.ensures.cut;
+  told = λ can. cut_told _ _ _ _ _ _ _ _ _ _ _ _ c.loop-number.invariant _ c.in-Fault.ensures.taken can;
 }
 
 pub returns-in-NoMemory : goal.returns-in-NoMemory
 returns-in-NoMemory g c = record {
   played = play_runs_out _ _ _ _ _ _ _ _ _ _ _ _ c.loop-number.invariant _ _ _ _ _ c.loop-number-test.true c.if-number-entries.false c.in-NoMemory.ensures.taken c.in-NoMemory.ensures.counts;
+  cut = cut_short _ _ _ _ _ _ _ _ _ _ _ _ c.loop-number.invariant _ c.in-NoMemory.ensures.cut;
+  told = λ can. cut_told _ _ _ _ _ _ _ _ _ _ _ _ c.loop-number.invariant _ c.in-NoMemory.ensures.taken can;
 }
 
 pub returns-then-number-entries : goal.returns-then-number-entries
 returns-then-number-entries g c = record {
   played = play_is_last _ _ _ _ _ _ _ _ _ _ _ _ c.loop-number.invariant _ c.loop-number-test.true c.if-number-entries.true c.requires.entries c.last_end.ensures.ending;
+  cut = last_whole _ _ _ c.last_end.ensures.ending;
+  told = λ can. last_whole _ _ _ c.last_end.ensures.ending;
 }
