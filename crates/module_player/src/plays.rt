@@ -99,6 +99,7 @@ fn play_from<S: Sink>(
         (played_before taken done world.old.world)).last.trace) (S.taken out.new)) }
 {
     let mut count = done;
+    let mut text = Vec::new(alloc);
     for number in taken..stop {
         if number == entries {
             return Played {
@@ -107,7 +108,7 @@ fn play_from<S: Sink>(
                 instructions: count,
             };
         }
-        match turn(alloc, setting, world, limit, until, out) {
+        match turn(alloc, setting, world, limit, until, &mut text, out) {
             Next::Goes(n) => count += n,
             Next::Stops(n) => {
                 return Played {

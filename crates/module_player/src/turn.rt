@@ -1,5 +1,5 @@
 //! One turn of a play: the next entry, where one is due, and its lines.
-ghost use Rattle.std.specs.Prelude.{◌≡◌, ◌≤◌, ◌<◌, ◌+◌, ◌^◌, ◌⊎◌, ℕ, IsTrue, map};
+ghost use Rattle.std.specs.Prelude.{◌≡◌, ◌≤◌, ◌<◌, ◌+◌, ◌^◌, ◌⊎◌, ℕ, [], IsTrue, map};
 ghost use Rattle.delay_agenda.specs.declared.entry.Kind.TheVariants as kind;
 ghost use Rattle.nwq_outside.specs.Outside.{CountsDone, Takes as TakesPiece};
 ghost use Rattle.nwq_outside.specs.declared.answer.Done.TheVariants as done;
@@ -24,6 +24,7 @@ use ncs_machine::entries_keep_fits;
 use nwq_outside::{Done, Sink};
 use saved_state::Saved;
 use std::alloc::Global;
+use std::mem;
 use world_core::World;
 
 /// What comes of a turn.
@@ -40,9 +41,25 @@ pub enum Next {
     NoMemory,
 }
 
-/// Puts the lines that the world keeps in one piece, where there are any. It keeps none then.
+/// How many bytes of room at most are kept for the lines of the next entry.
+const KEPT_ROOM: usize = 65536;
+
+/// A new text begins, in the room of the last one unless that is much.
+fn begin_text(text: &mut Vec<u8>)
+    ensures empty { text.new.items ≡ [] }
+{
+    if text.capacity() <= KEPT_ROOM {
+        text.clear();
+    } else {
+        let alloc = *text.allocator();
+        drop(mem::replace(text, Vec::new(alloc)));
+    }
+}
+
+/// Puts the lines that the world keeps in one piece, where there are any. It keeps none then. What
+/// `text` holds is of no account, but its room is used.
 #[tactic(auto, using(crate::proofs::Turning::put_lemmas))]
-fn put_lines<S: Sink>(alloc: Global, world: &mut World<Saved>, out: &mut S) -> Done
+fn put_lines<S: Sink>(world: &mut World<Saved>, text: &mut Vec<u8>, out: &mut S) -> Done
     ensures drained { result ≡ done.Ok → world.new.world ≡ drained world.old.world }
     ensures taken { IsTrue S.tells → TakesPiece (trace_text world.old.world.trace) (S.taken
         out.old) (S.taken out.new) result }
@@ -51,8 +68,8 @@ fn put_lines<S: Sink>(alloc: Global, world: &mut World<Saved>, out: &mut S) -> D
     ensures cut { result ≡ done.NoMemory → (world.new.world ≡ world.old.world)
         ⊎ (world.new.world ≡ drained world.old.world) }
 {
-    let mut text = Vec::new(alloc);
-    match world.drain(&mut text) {
+    begin_text(text);
+    match world.drain(text) {
         Err(_) => Done::NoMemory,
         Ok(()) => {
             if text.is_empty() {
@@ -72,6 +89,7 @@ fn take<S: Sink>(
     world: &mut World<Saved>,
     entry: Entry<Saved>,
     limit: u64,
+    text: &mut Vec<u8>,
     out: &mut S,
 ) -> Next
     requires set { IsSet (scene setting.now.scripts.now setting.now.table.now (map (λ h. h.known)
@@ -104,7 +122,7 @@ fn take<S: Sink>(
 {
     match enter(alloc, setting, world, entry, limit) {
         Err(_) => Next::NoMemory,
-        Ok(entered) => match put_lines(alloc, world, out) {
+        Ok(entered) => match put_lines(world, text, out) {
             Done::Ok => {
                 if entered.stopped {
                     Next::Stops(entered.count)
@@ -126,6 +144,7 @@ pub(crate) fn turn<S: Sink>(
     world: &mut World<Saved>,
     limit: u64,
     until: u64,
+    text: &mut Vec<u8>,
     out: &mut S,
 ) -> Next
     requires set { IsSet (scene setting.now.scripts.now setting.now.table.now (map (λ h. h.known)
@@ -152,6 +171,6 @@ pub(crate) fn turn<S: Sink>(
     match world.begin(until) {
         Err(_) => Next::NoMemory,
         Ok(None) => Next::Rests,
-        Ok(Some(entry)) => take(alloc, setting, world, entry, limit, out),
+        Ok(Some(entry)) => take(alloc, setting, world, entry, limit, text, out),
     }
 }
