@@ -16,7 +16,8 @@ use Rattle.command_work.specs.declared.status.Status.TheVariants.{Limit}
 use Rattle.command_work.specs.Work.{Does, CutsShort, Finished}
 use Rattle.command_work.specs.Counts.{Counts, Tallies, TalliesEnd, Refusing}
 use Rattle.command_plays.specs.Plays.{ends_by}
-use Rattle.command_generate.specs.Generated.{counted, line_count, made_line, summary, tells}
+use Rattle.trace_lines.specs.Lines.{newlines}
+use Rattle.command_generate.specs.Generated.{counted, made_line, summary, tells}
 
 -- ---- the first line
 
@@ -26,16 +27,16 @@ three out a b c = append_assoc (out ++ a) b c ∙ append_assoc out a (b ++ c)
 regroup : (out a b c d e : List ℕ) → ((((out ++ a) ++ b) ++ c) ++ d) ++ e ≡ out ++ (a ++ (b ++ (c ++ (d ++ e))))
 regroup out a b c d e = three ((out ++ a) ++ b) c d e ∙ three out a b (c ++ (d ++ e))
 
-pub line_is : (creatures events k l m : ℕ) (trace out first second third fourth now : List ℕ) → k ≡ creatures → l ≡ events → m ≡ line_count trace
+pub line_is : (creatures events lines bytes k l m : ℕ) (out first second third fourth now : List ℕ) → k ≡ creatures → l ≡ events → m ≡ lines
     → first ≡ out ++ counted (codes "generated creatures ") k → second ≡ first ++ counted (codes " events ") l
-    → third ≡ second ++ counted (codes " lines ") m → fourth ≡ third ++ counted (codes " bytes ") (length trace) → now ≡ fourth ++ 10 ∷ []
-    → now ≡ out ++ made_line creatures events trace
+    → third ≡ second ++ counted (codes " lines ") m → fourth ≡ third ++ counted (codes " bytes ") bytes → now ≡ fourth ++ 10 ∷ []
+    → now ≡ out ++ made_line creatures events lines bytes
 unfolding made_line
-line_is creatures events k l m trace out first second third fourth now ks ls ms a b c d e =
+line_is creatures events lines bytes k l m out first second third fourth now ks ls ms a b c d e =
     let one = counted (codes "generated creatures ") creatures in
     let two = counted (codes " events ") events in
-    let third_one = counted (codes " lines ") (line_count trace) in
-    let four = counted (codes " bytes ") (length trace) in
+    let third_one = counted (codes " lines ") lines in
+    let four = counted (codes " bytes ") bytes in
     let firsts : first ≡ out ++ one = a ∙ ap (λ x. out ++ counted (codes "generated creatures ") x) ks in
     let seconds : second ≡ (out ++ one) ++ two = b ∙ (ap (λ x. first ++ counted (codes " events ") x) ls ∙ ap (λ x. x ++ two) firsts) in
     let thirds : third ≡ ((out ++ one) ++ two) ++ third_one = c ∙ (ap (λ x. second ++ counted (codes " lines ") x) ms ∙ ap (λ x. x ++ third_one) seconds) in
@@ -45,10 +46,13 @@ line_is creatures events k l m trace out first second third fourth now ks ls ms 
 
 module _ (n : ℕ) (p : Played Saved) (w : World Saved) (answer : Answer) (clock creatures rounds events : ℕ) (trace made : List ℕ) where
   made_is : creatures ≡ creatures_of n → rounds ≡ rounds_of n → events ≡ creatures * rounds → trace ≡ trace_text p.last.trace
-      → made_line creatures events trace ≡ made_line (creatures_of n) (creatures_of n * rounds_of n) (trace_text p.last.trace)
-  made_is c r e told =
-      ap (λ x. made_line creatures x trace) (e ∙ (ap (λ x. x * rounds) c ∙ ap (λ x. creatures_of n * x) r))
-      ∙ (ap (λ x. made_line x (creatures_of n * rounds_of n) trace) c ∙ ap (λ x. made_line (creatures_of n) (creatures_of n * rounds_of n) x) told)
+      → newlines (trace_text p.last.trace) ≡ length p.last.trace
+      → made_line creatures events (newlines trace) (length trace) ≡ made_line (creatures_of n) (creatures_of n * rounds_of n) (length p.last.trace) (length (trace_text p.last.trace))
+  made_is c r e told lines =
+      ap (λ x. made_line creatures x (newlines trace) (length trace)) (e ∙ (ap (λ x. x * rounds) c ∙ ap (λ x. creatures_of n * x) r))
+      ∙ (ap (λ x. made_line x (creatures_of n * rounds_of n) (newlines trace) (length trace)) c
+      ∙ (ap (λ x. made_line (creatures_of n) (creatures_of n * rounds_of n) (newlines x) (length x)) told
+      ∙ ap (λ x. made_line (creatures_of n) (creatures_of n * rounds_of n) x (length (trace_text p.last.trace))) lines))
 
   end_is : IsEnding answer p w → clock ≡ w.clock
       → end_line p.ending clock answer.entries answer.instructions ≡ end_line p.ending p.last.world.clock p.last.entries p.last.count
@@ -57,14 +61,14 @@ module _ (n : ℕ) (p : Played Saved) (w : World Saved) (answer : Answer) (clock
       ∙ (ap (λ x. end_line p.ending p.last.world.clock x answer.instructions) ends.entries
       ∙ ap (λ x. end_line p.ending p.last.world.clock p.last.entries x) ends.instructions)
 
-  pub summary_is : (start out : List ℕ) → IsEnding answer p w → trace ≡ trace_text p.last.trace → clock ≡ w.clock
-      → creatures ≡ creatures_of n → rounds ≡ rounds_of n → events ≡ creatures * rounds → start ≡ [] → made ≡ start ++ made_line creatures events trace
+  pub summary_is : (start out : List ℕ) → IsEnding answer p w → trace ≡ trace_text p.last.trace → newlines (trace_text p.last.trace) ≡ length p.last.trace → clock ≡ w.clock
+      → creatures ≡ creatures_of n → rounds ≡ rounds_of n → events ≡ creatures * rounds → start ≡ [] → made ≡ start ++ made_line creatures events (newlines trace) (length trace)
       → ((ending : PlayEnd) → EndsAs answer.how ending → out ≡ made ++ end_line ending clock answer.entries answer.instructions)
       → out ≡ summary n p
   unfolding summary
-  summary_is start out ends told at c r e none first last =
-      last p.ending ends.ending ∙ ap (λ m. m ++ end_line p.ending clock answer.entries answer.instructions) (first ∙ (ap (λ s. s ++ made_line creatures events trace) none ∙ made_is c r e told))
-      ∙ ap (λ x. made_line (creatures_of n) (creatures_of n * rounds_of n) (trace_text p.last.trace) ++ x) (end_is ends at)
+  summary_is start out ends told lines at c r e none first last =
+      last p.ending ends.ending ∙ ap (λ m. m ++ end_line p.ending clock answer.entries answer.instructions) (first ∙ (ap (λ s. s ++ made_line creatures events (newlines trace) (length trace)) none ∙ made_is c r e told lines))
+      ∙ ap (λ x. made_line (creatures_of n) (creatures_of n * rounds_of n) (length p.last.trace) (length (trace_text p.last.trace)) ++ x) (end_is ends at)
 
 -- the most events are 60,000
 pub events_fit : (creatures rounds : ℕ) → creatures ≤ 1000 → rounds ≤ 60 → creatures * rounds < 2 ^ 32

@@ -1,6 +1,6 @@
 -- The command `generate`: the play that is made from a number is compiled, checked and played, and
 -- a summary of it is put.
-use Rattle.std.specs.Prelude.{◌≡◌, ◌≤◌, ℕ, ◌*◌, ◌==◌, List, [], ◌∷◌, ◌++◌, length, count_by, codes, Result, Ok}
+use Rattle.std.specs.Prelude.{◌≡◌, ◌≤◌, ℕ, ◌*◌, List, [], ◌∷◌, ◌++◌, length, codes, Result, Ok}
 use Rattle.std.specs.FinMap as map
 use Rattle.std.specs.Fmt.{decimal}
 use Rattle.nwq_value.specs.HeaderTable.{header_table}
@@ -56,23 +56,19 @@ source_compiled source = Finds (λ (c : Contents) file. IsFileOf source file) Gi
 
 -- ---- the summary
 
--- a trace has a newline at the end of each line
-abbrev pub line_count : List ℕ → ℕ
-line_count trace = count_by (λ b. b == 10) trace
-
 -- a number behind its words
 abbrev pub counted : List ℕ → ℕ → List ℕ
 counted words n = words ++ decimal n
 
-unfoldable pub made_line : ℕ → ℕ → List ℕ → List ℕ
-made_line creatures events trace =
-    counted (codes "generated creatures ") creatures ++ (counted (codes " events ") events ++ (counted (codes " lines ") (line_count trace)
-    ++ (counted (codes " bytes ") (length trace) ++ 10 ∷ [])))
+-- how many creatures and events were made, and how many lines and bytes a trace has
+unfoldable pub made_line : ℕ → ℕ → ℕ → ℕ → List ℕ
+made_line creatures events lines bytes =
+    counted (codes "generated creatures ") creatures ++ (counted (codes " events ") events ++ (counted (codes " lines ") lines ++ (counted (codes " bytes ") bytes ++ 10 ∷ [])))
 
 -- how much was made and told, and the last line of the play's text
 unfoldable pub summary : ℕ → Played Saved → List ℕ
 summary n p =
-    made_line (creatures_of n) (creatures_of n * rounds_of n) (trace_text p.last.trace)
+    made_line (creatures_of n) (creatures_of n * rounds_of n) (length p.last.trace) (length (trace_text p.last.trace))
     ++ end_line p.ending p.last.world.clock p.last.entries p.last.count
 
 -- ---- the play

@@ -33,6 +33,7 @@ use plan_text::Plan;
 use play_generator::Made;
 use stack_check::Checked;
 use std::alloc::Global;
+use trace_lines::plays_tell_lines;
 
 /// Plays the plan of a number over an area, and tells the play.
 #[tactic(auto, using(crate::proofs::PlayLemmas::plays))]
@@ -46,6 +47,7 @@ fn play_over<S: Sink>(
     hooks: &Hooks,
     out: &mut S,
 ) -> Result<(), Status>
+    requires header { table.now ≡ header_table }
     requires number { number ≤ number_limit }
     requires few { length scripts.now < 2 ^ 32 }
     requires meets { AllMeet table.now (scripts_of scripts.now) (tables_of scripts.now) }
@@ -59,6 +61,7 @@ fn play_over<S: Sink>(
         (Counted counts (S.faults out.new)) }
     ensures only { IfErr result (Refusing Status.Limit) }
 {
+    plays_tell_lines();
     let mut trace = Kept::new(alloc);
     match play_lines(alloc, table, area, plan, scripts, hooks, &mut trace) {
         Err(status) => Err(status),

@@ -1,5 +1,5 @@
 //! The summary of a made play.
-ghost use Rattle.std.specs.Prelude.{◌≡◌, ◌≤◌, ◌*◌, ◌++◌, ℕ, IsTrue, IfOk, IfErr, OnOk};
+ghost use Rattle.std.specs.Prelude.{◌≡◌, ◌≤◌, ◌*◌, ◌++◌, ℕ, length, IsTrue, IfOk, IfErr, OnOk};
 ghost use Rattle.nwq_outside.specs.Outside.{Contents};
 ghost use Rattle.saved_state.specs.declared.saved.Saved.{Saved as SavedView};
 ghost use Rattle.world_rules.specs.Trace.{trace_text};
@@ -11,7 +11,8 @@ ghost use Rattle.nwq_outside.specs.declared.counts.FileCounts.{FileCounts};
 ghost use Rattle.command_work.specs.Work.{Does, CutsShort};
 ghost use Rattle.command_work.specs.Parts.{PutsWhole};
 ghost use Rattle.command_work.specs.Counts.{Counted, Tallies, Refusing};
-ghost use Rattle.command_generate.specs.Generated.{counted, line_count, made_line, summary, tells};
+ghost use Rattle.trace_lines.specs.Lines.{newlines, AreOneLines};
+ghost use Rattle.command_generate.specs.Generated.{counted, made_line, summary, tells};
 
 use command_plays::ending_of;
 use command_work::{Status, put};
@@ -20,6 +21,7 @@ use nwq_outside::Sink;
 use nwq_text::put_count;
 use nwq_value::NoMemory;
 use std::alloc::Global;
+use trace_lines::plays_tell_lines;
 
 /// How many creatures are made from a number.
 fn creatures_of(number: u32) -> u32
@@ -47,9 +49,9 @@ fn events_of(creatures: u32, rounds: u32) -> u32
     creatures * rounds
 }
 
-/// How many lines a trace has.
-fn lines_in(trace: &[u8]) -> u64
-    ensures count { result ≡ line_count trace.now }
+/// How many newlines a trace has: one for each line.
+fn newlines_in(trace: &[u8]) -> u64
+    ensures count { result ≡ newlines trace.now }
 {
     trace.iter().filter(|byte| **byte == b'\n').count() as u64
 }
@@ -66,11 +68,11 @@ fn put_counted(out: &mut Vec<u8>, words: &[u8], n: u64) -> Result<(), NoMemory>
 #[tactic(auto, unfolding(crate::specs::Generated::made_line))]
 fn put_made(out: &mut Vec<u8>, creatures: u32, events: u32, trace: &[u8]) -> Result<(), NoMemory>
     ensures line { OnOk result (out.new.items
-        ≡ out.old.items ++ made_line creatures events trace.now) }
+        ≡ out.old.items ++ made_line creatures events (newlines trace.now) (length trace.now)) }
 {
     put_counted(out, b"generated creatures ", u64::from(creatures))?;
     put_counted(out, b" events ", u64::from(events))?;
-    put_counted(out, b" lines ", lines_in(trace))?;
+    put_counted(out, b" lines ", newlines_in(trace))?;
     put_counted(out, b" bytes ", trace.len() as u64)?;
     out.push(b'\n')?;
     Ok(())
@@ -87,9 +89,10 @@ fn summary_of(
     requires number { number ≤ number_limit }
     requires told { HasText played.now.how }
     ensures text { IfOk result (λ text. (p : PlayedView SavedView) (w : WorldView SavedView)
-        → IsEnding played.now p w → trace.now ≡ trace_text p.last.trace → clock ≡ w.clock
-        → text.items ≡ summary number p) }
+        → IsEnding played.now p w → trace.now ≡ trace_text p.last.trace
+        → AreOneLines p.last.trace → clock ≡ w.clock → text.items ≡ summary number p) }
 {
+    plays_tell_lines();
     let mut out = Vec::new(alloc);
     let creatures = creatures_of(number);
     let events = events_of(creatures, rounds_of(number));
@@ -110,7 +113,8 @@ fn put_summary<S: Sink>(
     requires number { number ≤ number_limit }
     requires told { HasText played.now.how }
     ensures puts { IsTrue S.tells → (p : PlayedView SavedView) (w : WorldView SavedView) →
-        IsEnding played.now p w → trace.now ≡ trace_text p.last.trace → clock ≡ w.clock →
+        IsEnding played.now p w → trace.now ≡ trace_text p.last.trace →
+        AreOneLines p.last.trace → clock ≡ w.clock →
         PutsWhole (summary number p) (S.taken out.old) result (S.taken out.new) }
     ensures counts { (counts : FileCounts) → Tallies result (Counted counts (S.faults out.old))
         (Counted counts (S.faults out.new)) }
@@ -132,8 +136,9 @@ pub(crate) fn tell<S: Sink>(
     requires number { number ≤ number_limit }
     requires told { HasText played.now.how }
     ensures does { IsTrue S.tells → (p : PlayedView SavedView) (w : WorldView SavedView) →
-        IsEnding played.now p w → trace.now ≡ trace_text p.last.trace → clock ≡ w.clock →
-        (c : Contents) → Does (tells number p) c (S.taken out.old) result c (S.taken out.new) }
+        IsEnding played.now p w → trace.now ≡ trace_text p.last.trace →
+        AreOneLines p.last.trace → clock ≡ w.clock → (c : Contents) →
+        Does (tells number p) c (S.taken out.old) result c (S.taken out.new) }
     ensures counts { (counts : FileCounts) → Tallies result (Counted counts (S.faults out.old))
         (Counted counts (S.faults out.new)) }
     ensures only { IfErr result (Refusing Status.Limit) }

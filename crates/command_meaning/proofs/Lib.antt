@@ -7,4 +7,6 @@ mod Literals
 mod Gathered
 mod Compiling
 mod CodeEnds
+mod BareCalls
+mod BareScripts
 mod Once

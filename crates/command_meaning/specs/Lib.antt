@@ -4,4 +4,5 @@ pub mod Runs
 pub mod Scripts
 pub mod ListedPlays
 pub mod CodeEnds
+pub mod WithoutActions
 pub mod Once

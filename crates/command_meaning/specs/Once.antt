@@ -11,6 +11,7 @@ use Rattle.source_meaning.specs.Evaluation.{Deferred}
 use Rattle.source_meaning.specs.Plays.{runner}
 use Rattle.play_worlds.specs.Worlds.{text_name}
 use Rattle.command_meaning.specs.Runs.{setting_of, source_played, source_world}
+use Rattle.command_meaning.specs.WithoutActions.{UnitHasNoAction}
 
 -- the world in which the start of a script runs: nothing else waits, and nothing was told
 abbrev pub begun_world : World Deferred
@@ -24,11 +25,24 @@ evaluated cell header name u n = event_entry (runner (setting_of cell header nam
 abbrev pub played_once : List ℕ → Entered Deferred → Played Deferred
 played_once name e = after_entry e.stopped (further e (unplayed (source_world name))) (λ p. record { ending = Done; last = p })
 
--- Where the evaluation of a script's start leaves nothing on the agenda, the play of its source has
--- that one entry, and tells what it tells.
+-- The play has exactly one entry, and tells what that tells.
+pub record IsOneEntry (name : List ℕ) (e : Entered Deferred) (p : Played Deferred) : Type 0 where
+  pub is : p ≡ played_once name e
+  pub entries : p.last.entries ≡ 1
+  pub told : p.last.trace ≡ e.world.trace
+
+-- For a unit without action arguments the play of its source has exactly one entry, and tells what
+-- its one evaluation tells.
 abbrev pub PlaysOnce : CellLookup → EngineTable → List ℕ → TypedUnit → Type 0
-PlaysOnce cell header name u =
-    (n : ℕ) → (evaluated cell header name u n).world.agenda.entries ≡ [] → source_played cell header name u n ≡ played_once name (evaluated cell header name u n)
+PlaysOnce cell header name u = UnitHasNoAction u → (n : ℕ) → IsOneEntry name (evaluated cell header name u n) (source_played cell header name u n)
+
+-- So it is for any unit where the evaluation leaves nothing on the agenda.
+abbrev pub PlaysOnceWhereNothingWaits : CellLookup → EngineTable → List ℕ → TypedUnit → Type 0
+PlaysOnceWhereNothingWaits cell header name u =
+    (n : ℕ) → (evaluated cell header name u n).world.agenda.entries ≡ [] → IsOneEntry name (evaluated cell header name u n) (source_played cell header name u n)
 
 abbrev pub StartsPlayOnce : Type 0
 StartsPlayOnce = (cell : CellLookup) (header : EngineTable) (name : List ℕ) (u : TypedUnit) → PlaysOnce cell header name u
+
+abbrev pub StartsPlayOnceWhereNothingWaits : Type 0
+StartsPlayOnceWhereNothingWaits = (cell : CellLookup) (header : EngineTable) (name : List ℕ) (u : TypedUnit) → PlaysOnceWhereNothingWaits cell header name u

@@ -3,7 +3,7 @@ ghost use Rattle.command_meaning.specs.CodeEnds.{CheckedPlaysGoOn, CheckedPlaysH
 ghost use Rattle.command_meaning.specs.Files.{FilesAreNotRefused, FilesPlayTheirCode};
 ghost use Rattle.command_meaning.specs.ListedPlays.{ListedPlaysEnd, ListedPlaysStop};
 ghost use Rattle.command_meaning.specs.ListedPlays.{ListedTextsAgree};
-ghost use Rattle.command_meaning.specs.Once.{StartsPlayOnce};
+ghost use Rattle.command_meaning.specs.Once.{StartsPlayOnce, StartsPlayOnceWhereNothingWaits};
 ghost use Rattle.command_meaning.specs.Runs.{EndsAreAnswered, FewStepsEndAsMeant};
 ghost use Rattle.command_meaning.specs.Runs.{StoppedRunsBeginAsMeant, UnstoppedRunsEndAsMeant};
 ghost use Rattle.command_meaning.specs.Scripts.{ScriptsHaveUnits, ScriptsPlayUnits};
@@ -83,10 +83,11 @@ pub fn checked_plays_have_no_fault()
     tables_type_execute_script();
 }
 
-/// Where the evaluation of a script's start leaves nothing on the agenda, the play of its source is
-/// that one entry.
+/// For a unit without action arguments the play of its source is the one entry of its start. So it
+/// is for any unit where the evaluation of that start leaves nothing on the agenda.
 pub fn starts_play_once()
     ensures once { StartsPlayOnce }
+    ensures nothing_waits { StartsPlayOnceWhereNothingWaits }
 {}
 
 /// A command answers as its play ends, where it isn't cut.

@@ -5,8 +5,9 @@
 //! that these laws ask, and that its file loads and passes the checker; `specs/Files.antt` that the
 //! play of the file is the play of the unit's code; `specs/Runs.antt` that its text and its answer
 //! are what the source means, where no entry is stopped, and a beginning of it where one is;
-//! `specs/Once.antt` that a start which leaves nothing due is the only entry of its play;
-//! `specs/CodeEnds.antt` that no play of checked files comes to a stack fault; and
+//! `specs/Once.antt` that the start of a unit without action arguments is the only entry of its
+//! play, as is each start that leaves nothing due; `specs/WithoutActions.antt` which units these
+//! are; `specs/CodeEnds.antt` that no play of checked files comes to a stack fault; and
 //! `specs/Scripts.antt` that each script that is compiled has such a unit. The functions of this
 //! crate do nothing: each is a law, whose contract is proved of the definitions. The pages on it
 //! are docs/THEOREMS.md and docs/MEANING.md.

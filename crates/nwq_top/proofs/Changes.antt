@@ -16,6 +16,8 @@ use Rattle.plan_text.specs.declared.plan.Script.{Script as ScriptLine}
 use Rattle.machine_rules.specs.Machine.{Script}
 use Rattle.world_rules.specs.Pure.{CellLookup}
 use Rattle.world_rules.specs.Trace.{trace_text}
+use Rattle.table_2da.specs.declared.tables.Named.{Named}
+use Rattle.table_2da.specs.Look.{cell_of}
 use Rattle.module_player.specs.CodePlays.{code_end_text}
 use Rattle.play_worlds.specs.Worlds.{plan_world}
 use Rattle.command_plays.specs.Plays.{played, played_first}
@@ -56,11 +58,16 @@ use Rattle.command_save.specs.Inputs.{header_file, header_in, header_named, head
 use Rattle.command_save.specs.Saves.{saved_line, state_by, state_told, state_written, saves_at, saves_by, saves_plan, saves_area, saves_scripts, saves_under, saves}
 use Rattle.command_save.specs.Resumes as resuming
 use Rattle.command_save.specs.Resumes.{state_in, state_named, played_rest, resumes_from, resumes_state, resumes}
-use Rattle.command_words.specs.Words.{Run, Compile, Tree, Check, Disassemble, Assemble, Play, Generate, Save, Resume, NoForm}
+use Rattle.command_tables.specs.Lists as lists
+use Rattle.command_tables.specs.Lists.{names_by, names_in, names_listed}
+use Rattle.command_tables.specs.Tables as tables
+use Rattle.command_tables.specs.Tables.{table_file, with_table, one_more, all_behind, tables_listed, tables_given}
+use Rattle.command_words.specs.Words.{Form, Run, Compile, Tree, Check, Disassemble, Assemble, Play, Generate, Save, Resume, NoForm, list_of}
 use Rattle.nwq_top.specs.Accepting.{ReadsPlan}
 use Rattle.nwq_top.specs.Refusing.{RefusesPlan}
-use Rattle.nwq_top.specs.Changes.{IsListedFile, MayLeave}
-use Rattle.nwq_top.specs.Laws.{NamesChange}
+use Rattle.nwq_top.specs.Changes.{IsListedFile, MayLeave, MayChange}
+use Rattle.nwq_top.specs.Command.{MayWrite, work_with, whole_work}
+use Rattle.nwq_top.specs.Laws.{NamesChange, WholeNamesChange}
 use Rattle.nwq_top.proofs.PlansAndAreas.{plan_comes}
 use Rattle.nwq_top.proofs.Listing.{insert_keeps}
 
@@ -437,3 +444,61 @@ names_change cell (Generate number) r c c' t t' kept does = kept
 names_change cell (Save header area plan entries state list) r c c' t t' kept does = save_keeps state r cell header area plan entries c c' t t' does
 names_change cell (Resume state to list) r c c' t t' kept does = resume_keeps to r cell state c c' t t' does
 names_change cell NoForm r c c' t t' kept does = kept
+
+-- ---- the whole program, which reads tables first
+
+-- no name
+abbrev NoName : List ℕ → Type 0
+NoName name = ⊥
+
+-- what writes nothing leaves what there was
+still : {A : Type 0} (w : Work A) → Within NoName w → (r : Result A Status) (c c' : Contents) (t t' : List ℕ) → Does w c t r c' t' → c' ≡ c
+still (Gives a) inside r c c' t t' h = h.1.0
+still (Refused why) inside r c c' t t' h = h.1
+still (Ends status) inside r c c' t t' h = h.1.0
+still (Writes name bytes rest) inside r c c' t t' h = absurd inside.0
+still (Puts text rest) inside r c c' t t' (inl x) = x.1
+still (Puts text rest) inside r c c' t t' (inr x) = still rest inside r c c' (t ++ text) t' x
+still (Finds Q next) inside r c c' t t' (inl x) = x.1.0
+still (Finds Q next) inside r c c' t t' (inr x) = still (next x.found) (inside x.found) r c c' t t' x.goes
+
+names_within : (list : List ℕ) → Within NoName (names_listed list)
+unfolding names_listed names_in
+names_within list = within_then NoName (file_named list) (names_in list) (read_within NoName list) (λ bytes. by_fate)
+  where
+    by_fate : (fate : lists.ListFate) → Within NoName (names_by list fate)
+    by_fate (lists.Whole names) = tt
+    by_fate (lists.Faulty number) = tt
+
+one_within : (file : List ℕ) → Within NoName (tables.table_of file)
+unfolding tables.table_of tables.table_in
+one_within file = within_then NoName (file_named file) (tables.table_in file) (read_within NoName file) (λ bytes. by_fate)
+  where
+    by_fate : (fate : tables.TableFate) → Within NoName (tables.table_by file fate)
+    by_fate (tables.Whole table) = tt
+    by_fate (tables.Faulty line) = tt
+
+all_within : (names : List (List ℕ)) (before : List Named) → Within NoName (all_behind before names)
+unfolding all_behind one_more
+all_within [] before = tt
+all_within (name ∷ names) before =
+    within_then NoName (one_more before name) (λ more. all_behind more names)
+    (within_then NoName (tables.table_of (table_file name)) (λ table. Gives (with_table before name table)) (one_within (table_file name)) (λ table. tt))
+    (all_within names)
+
+given_within : (list : Option (List ℕ)) → Within NoName (tables_given list)
+unfolding tables_listed
+given_within None = tt
+given_within (Some list) = within_then NoName (names_listed list) (all_behind []) (names_within list) (λ names. all_within names [])
+
+module _ (form : Form) (r : Result Finished Status) (c c' : Contents) (t t' : List ℕ) (kept : KeepsBut (MayWrite form) c c') where
+  parts_change : Parts (tables_given (list_of form)) (work_with form) c t r c' t' → KeepsBut (MayChange form c r) c c'
+  parts_change (ends_first k) =
+      same_keeps (MayChange form c r) c c' (still (tables_given (list_of form)) (given_within (list_of form)) (Err k.status) c c' t t' k.does)
+  parts_change (goes_on k) =
+      let same = still (tables_given (list_of form)) (given_within (list_of form)) (Ok k.value) c k.between t k.taken k.first in
+      names_change (cell_of k.value) form r c c' k.taken t' kept (subst (λ x. Does (work_with form k.value) x k.taken r c' t') same k.second)
+
+pub whole_names_change : WholeNamesChange
+unfolding whole_work
+whole_names_change form r c c' t t' kept does = parts_change form r c c' t t' kept (parts (tables_given (list_of form)) (work_with form) c c' t t' r does)

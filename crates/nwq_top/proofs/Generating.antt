@@ -10,7 +10,6 @@ use Rattle.source_meaning.specs.Scripts.{Listed}
 use Rattle.source_laws.specs.Executing.{script_of}
 use Rattle.typing_laws.specs.FaultLaws.{LeastIsTheKept}
 use Rattle.engine_table.specs.KeptTables.{BuiltInIsTable}
-use Rattle.play_generator.specs.Made.{play_of}
 use Rattle.command_work.specs.declared.status.Status.{Status}
 use Rattle.command_work.specs.declared.status.Status.TheVariants.{Memory}
 use Rattle.command_work.specs.Work.{then, IsCut, Does, Finished}

@@ -1,9 +1,10 @@
 -- What is told of the play that is made from a number.
-use Rattle.std.proofs.Common.{◌≡◌, inl, inr, ℕ, ◌*◌, List, ◌++◌, Result, sym, ap, ◌∙◌}
+use Rattle.std.proofs.Common.{◌≡◌, inl, inr, ℕ, ◌*◌, List, ◌++◌, length, Result, sym, ap, ◌∙◌}
 use Rattle.nwq_outside.specs.Outside.{Contents}
 use Rattle.typing_rules.specs.Typed.{TypedUnit}
 use Rattle.saved_state.specs.declared.saved.Saved.{Saved}
 use Rattle.world_rules.specs.Pure.{CellLookup}
+use Rattle.world_rules.specs.declared.data.Line.{Line}
 use Rattle.world_rules.specs.Trace.{trace_text}
 use Rattle.world_rules.specs.Plays.{Played}
 use Rattle.world_rules.specs.EndText.{end_line}
@@ -43,8 +44,8 @@ pub same_summary : (s : Setting) (n : ℕ) (code : Played Saved) (source : Playe
 unfolding summary
 same_summary s n code source alike =
     let clock : code.last.world.clock ≡ source.last.world.clock = ap (λ u. u.clock) (sym alike.world.left) ∙ ap (λ u. u.clock) alike.world.right in
-    let made = made_line (creatures_of n) (creatures_of n * rounds_of n) in
-    ap (λ x. made (trace_text x) ++ end_line code.ending code.last.world.clock code.last.entries code.last.count) alike.trace
-    ∙ ap (λ x. made (trace_text source.last.trace) ++ end_line x code.last.world.clock code.last.entries code.last.count) alike.ending
-    ∙ ap (λ x. made (trace_text source.last.trace) ++ end_line source.ending x code.last.entries code.last.count) clock
-    ∙ ap (λ x. made (trace_text source.last.trace) ++ end_line source.ending source.last.world.clock x code.last.count) alike.entries
+    let made : List Line → List ℕ = λ x. made_line (creatures_of n) (creatures_of n * rounds_of n) (length x) (length (trace_text x)) in
+    ap (λ x. made x ++ end_line code.ending code.last.world.clock code.last.entries code.last.count) alike.trace
+    ∙ ap (λ x. made source.last.trace ++ end_line x code.last.world.clock code.last.entries code.last.count) alike.ending
+    ∙ ap (λ x. made source.last.trace ++ end_line source.ending x code.last.entries code.last.count) clock
+    ∙ ap (λ x. made source.last.trace ++ end_line source.ending source.last.world.clock x code.last.count) alike.entries

@@ -1,7 +1,7 @@
 -- What the files of a play come to, which are read in order: its plan, its header, the scripts that
 -- the plan lists, and its area. A play needs the table of its header, and its area; one that is
 -- saved needs the bytes of their files too.
-use Rattle.std.proofs.Common.{◌≡◌, ℕ, List, [], ◌++◌, Result, Ok, Err, sym, subst, ap}
+use Rattle.std.proofs.Common.{ℕ, List, [], ◌++◌, Result, Ok, Err, sym, subst, ap}
 use Rattle.nwq_value.specs.Engine.{EngineTable}
 use Rattle.nwq_outside.specs.Outside.{Contents, AreBytes}
 use Rattle.plan_text.specs.declared.plan.Plan.{Plan}

@@ -13,7 +13,7 @@ use Rattle.module_player.specs.CodePlays.{played_before}
 use Rattle.command_work.specs.declared.flaw.AreaFlaw.TheVariants as flaw
 use Rattle.command_work.specs.declared.status.Status.{Status}
 use Rattle.command_work.specs.Refusal.{Refusal, BadArea, line_of, status_of}
-use Rattle.command_work.specs.Work.{IsCut, Does, Finished, file_named, then}
+use Rattle.command_work.specs.Work.{IsCut, Does, Finished, file_named}
 use Rattle.command_work.specs.Parts.{then_ok, then_err}
 use Rattle.command_work.specs.Reading.{IsRead, IsUnread}
 use Rattle.command_work.specs.Sequences.{then_known}

@@ -25,7 +25,7 @@ use Rattle.command_plays.specs.Laws.{SurePlays}
 use Rattle.command_meaning.specs.Units.{code_of, UnitsPass}
 use Rattle.command_meaning.specs.Files.{PlaysFile}
 use Rattle.command_meaning.specs.CodeEnds.{CheckedPlaysHaveNoFault}
-use Rattle.command_meaning.specs.Once.{StartsPlayOnce}
+use Rattle.command_meaning.specs.Once.{StartsPlayOnce, StartsPlayOnceWhereNothingWaits}
 use Rattle.area_rules.specs.Area.{empty_area}
 use Rattle.play_meaning.specs.Together as together
 use Rattle.play_worlds.specs.Worlds.{start_of}
@@ -110,7 +110,7 @@ module _ (pass : UnitsPass) (units : ScriptsHaveUnits) (least : LeastIsTheKept) 
   -- ---- run
 
   module _ (plays : SurePlays) (few : FewStepsEndAsMeant) (unstopped : UnstoppedRunsEndAsMeant) (stopped : StoppedRunsBeginAsMeant) (once : StartsPlayOnce)
-      (no_fault : CheckedPlaysHaveNoFault) where
+      (nothing_waits : StartsPlayOnceWhereNothingWaits) (no_fault : CheckedPlaysHaveNoFault) where
     pub runs_mean : RunsMean
     runs_mean cell header script c t r c' t' held whole does =
         let each : (table : EngineTable) (bytes : List ℕ) → IsSure (plays_file cell table script (code_name script) bytes) = λ table. plays cell table script (code_name script) in
@@ -132,6 +132,7 @@ module _ (pass : UnitsPass) (units : ScriptsHaveUnits) (least : LeastIsTheKept) 
                 unstopped = unstopped cell table script unit c t r c' t' file whole;
                 stopped = stopped cell table script unit c t r c' t' file whole;
                 once = once cell table script unit;
+                nothing_waits = nothing_waits cell table script unit;
                 no_fault = no_fault cell table (listed script (code_of unit)) default_instruction_limit (together.whole default_entry_limit default_until) empty_area [] (start_of script ∷ []) 2
                     kept (h.compiles.passes.stacked, tt);
               };

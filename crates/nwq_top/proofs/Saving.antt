@@ -22,10 +22,9 @@ use Rattle.source_laws.specs.Executing.{script_of}
 use Rattle.source_laws.specs.StayAlike.{EntriesKeepAlike}
 use Rattle.typing_laws.specs.FaultLaws.{LeastIsTheKept}
 use Rattle.engine_table.specs.KeptTables.{HeadersHaveTables, BuiltInIsTable}
-use Rattle.command_work.specs.declared.flaw.AreaFlaw.TheVariants as flaw
 use Rattle.command_work.specs.declared.status.Status.{Status}
 use Rattle.command_work.specs.Refusal.{Refusal}
-use Rattle.command_work.specs.Work.{Work, Puts, IsCut, Does, Finished, puts, writes}
+use Rattle.command_work.specs.Work.{Work, IsCut, Does, Finished, puts, writes}
 use Rattle.command_work.specs.Comes.{refusal_not_cut}
 use Rattle.play_inputs.specs.Laws.{SurePlans}
 use Rattle.play_inputs.specs.ListingLaws.{SureListed}
@@ -39,12 +38,12 @@ use Rattle.command_meaning.specs.ListedPlays.{AreUnitsOf, ListedPlaysEnd, Listed
 use Rattle.command_save.specs.declared.inputs.HeaderFile.{HeaderFile}
 use Rattle.command_save.specs.declared.inputs.AreaFile.{AreaFile}
 use Rattle.command_save.specs.Inputs.{header_of, area_named}
-use Rattle.command_save.specs.Saves.{IsStateAt, saved_line, state_by, state_told, state_written, saves_at, saves_by, saves_played, saves_plan, saves_area, saves_scripts, saves_under, saves}
+use Rattle.command_save.specs.Saves.{saved_line, state_by, state_told, state_written, saves_at, saves_by, saves_plan, saves_area, saves_scripts, saves_under, saves}
 use Rattle.command_save.specs.Laws.{SureHeaderFiles, SureAreaFiles, SureSaves, FrontsGoOn}
 use Rattle.nwq_top.specs.SourcePlans.{listing_of, source_plan_world}
 use Rattle.nwq_top.specs.Plays.{RefusesPlay}
 use Rattle.nwq_top.specs.Refusing.{IsRefused}
-use Rattle.nwq_top.specs.Saves.{HasHeaderFile, HasAreaFile, AcceptsSave, AcceptsSourcesToSave, SaveComes, refused, accepted, first_entries, source_first, FirstAsMeant, IsSaved, MeansSave}
+use Rattle.nwq_top.specs.Saves.{HasHeaderFile, HasAreaFile, AcceptsSave, AcceptsSourcesToSave, SaveComes, refused, accepted, first_entries, source_first, FirstAsMeant, IsSaved}
 use Rattle.nwq_top.specs.WordLaws.{SavesMean}
 use Rattle.nwq_top.proofs.Headers.{header_file_does, header_file_refuses, header_file_comes, header_of_file, file_of_header, is_table}
 use Rattle.nwq_top.proofs.PlansAndAreas.{area_file_does, area_file_refuses, area_file_comes}

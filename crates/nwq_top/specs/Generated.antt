@@ -1,5 +1,5 @@
 -- What the words `generate N` mean.
-use Rattle.std.specs.Prelude.{◌≡◌, ◌≢◌, ◌≤◌, ℕ, ◌*◌, List, [], ◌∷◌, ◌++◌, map, codes, Result, Err}
+use Rattle.std.specs.Prelude.{◌≡◌, ◌≢◌, ◌≤◌, ℕ, ◌*◌, List, [], ◌∷◌, ◌++◌, length, map, codes, Result, Err}
 use Rattle.nwq_value.specs.HeaderTable.{header_table}
 use Rattle.nwq_outside.specs.Outside.{Contents}
 use Rattle.typing_rules.specs.Typed.{TypedUnit}
@@ -49,7 +49,7 @@ code_made cell n unit = code_plan_played cell header_table (made_area n) (plan_o
 -- the summary of a play of source for which so many instructions were made
 abbrev pub source_summary : ℕ → ℕ → Played Deferred → List ℕ
 source_summary n count p =
-    made_line (creatures_of n) (creatures_of n * rounds_of n) (trace_text p.last.trace) ++ end_line p.ending p.last.world.clock p.last.entries count
+    made_line (creatures_of n) (creatures_of n * rounds_of n) (length p.last.trace) (length (trace_text p.last.trace)) ++ end_line p.ending p.last.world.clock p.last.entries count
 
 -- ---- what is told of it
 

@@ -45,3 +45,8 @@ WholeCutsLeaveFronts = (form : Form) (r : Result Finished Status) (c c' : Conten
 abbrev pub NamesChange : Type 0
 NamesChange = (cell : CellLookup) (form : Form) (r : Result Finished Status) (c c' : Contents) (t t' : List ℕ)
     → KeepsBut (MayWrite form) c c' → Does (work_of cell form) c t r c' t' → KeepsBut (MayChange form c r) c c'
+
+-- So does the whole program.
+abbrev pub WholeNamesChange : Type 0
+WholeNamesChange = (form : Form) (r : Result Finished Status) (c c' : Contents) (t t' : List ℕ)
+    → KeepsBut (MayWrite form) c c' → Does (whole_work form) c t r c' t' → KeepsBut (MayChange form c r) c c'

@@ -16,3 +16,5 @@ pub mod Changes
 pub mod Laws
 pub mod GivenTables
 pub mod Meaning
+pub mod Answers
+pub mod Budgets

@@ -15,7 +15,7 @@ use Rattle.play_worlds.specs.Worlds.{first_world}
 use Rattle.command_plays.specs.Plays.{host_of}
 use Rattle.command_plays.specs.Scripts.{listed}
 use Rattle.command_meaning.specs.CodeEnds.{EndsWithoutFault}
-use Rattle.command_meaning.specs.Once.{PlaysOnce}
+use Rattle.command_meaning.specs.Once.{PlaysOnce, PlaysOnceWhereNothingWaits}
 use Rattle.command_meaning.specs.Units.{code_of}
 use Rattle.command_meaning.specs.Runs.{setting_of, source_played, code_played, sure_steps, TellsMeaning, TellsBeginning}
 use Rattle.nwq_top.specs.Accepting.{HasHeader, Compiles, with_file}
@@ -55,8 +55,11 @@ pub record MeansScript (cell : CellLookup) (table : EngineTable) (name : List �
   pub stopped : (code_played cell table name unit).ending ≡ StoppedInside → TellsBeginning cell table name unit c t r c' t'
   -- where the play of the source is done in 8,192 steps for an entry, so is this one
   pub complete : (source_played cell table name unit sure_steps).ending ≡ Done → r ≡ Ok tt
-  -- where the evaluation of its start leaves nothing due, the play of the source is that one entry
+  -- for a unit without action arguments the play of the source has exactly one entry, and tells
+  -- what its one evaluation tells
   pub once : PlaysOnce cell table name unit
+  -- so it is for any unit where that evaluation leaves nothing due
+  pub nothing_waits : PlaysOnceWhereNothingWaits cell table name unit
   -- the play of the file comes to no stack fault
   pub no_fault : EndsWithoutFault (host_of cell table (listed name (code_of unit))) default_instruction_limit default_entry_limit default_until (first_world name)
 

@@ -1,7 +1,9 @@
 //! Laws about the work of commands, as the contract of a function that does nothing.
 
+ghost use Rattle.nwq_top.specs.Answers.{EachHasOutcome, EachWholeHasOutcome, PlainHaveOutcomes};
 ghost use Rattle.nwq_top.specs.Laws.{OneOutcome, Prefixes, OneWhole, WholePrefixes};
 ghost use Rattle.nwq_top.specs.Laws.{CutsLeaveFronts, NamesChange, WholeCutsLeaveFronts};
+ghost use Rattle.nwq_top.specs.Laws.{WholeNamesChange};
 ghost use Rattle.nwq_top.specs.Meaning.{WorkMeans, WholeMeans};
 
 use crate::word_laws::{
@@ -10,10 +12,18 @@ use crate::word_laws::{
 use command_compile::laws::one_script;
 use command_files::laws::{one_check, one_file};
 use command_generate::laws::one_generated;
+use command_meaning::{scripts_play_units, units_pass};
 use command_play::laws::one_game;
 use command_run::laws::one_run;
 use command_save::laws::one_save;
 use command_tables::laws::one_set_of_tables;
+use engine_table::headers_have_tables;
+use engine_table::laws::one_header;
+use generator_laws::sources_compile;
+use ncs_code::{place_laws, size_laws};
+use nss_lexer::laws::some_split;
+use nss_parser::laws::tree_or_place;
+use typing_rules::laws::verdicts_are_right;
 
 /// A command that isn't cut has one outcome, and one that is cut has put a prefix of what it puts
 /// whole, and left the files as after a front of what it writes then. So is the whole program,
@@ -36,11 +46,33 @@ pub fn one_outcome()
     one_set_of_tables();
 }
 
+/// Each input has an answer: whatever the words are, those of `save` aside, whatever bytes the
+/// files hold, and whatever was taken, the work has an outcome that isn't cut. So has the whole
+/// program. Of words for which nothing is read but headers, sources and trees it is there; of all
+/// others it is refuted that there is none, which is the same by excluded middle.
+pub fn each_has_outcome()
+    ensures each { EachHasOutcome }
+    ensures whole { EachWholeHasOutcome }
+    ensures plain { PlainHaveOutcomes }
+{
+    one_header();
+    headers_have_tables();
+    some_split();
+    tree_or_place();
+    verdicts_are_right();
+    scripts_play_units();
+    units_pass();
+    sources_compile();
+    size_laws();
+    place_laws();
+}
+
 /// Which names a command changes: of those that it may write, `play` and `save` change the files of
 /// the sources that the plan lists, and these and `resume` their last file only where the play is
-/// done, or saved, or the call is cut.
+/// done, or saved, or the call is cut. So it is of the whole program.
 pub fn names_change()
     ensures change { NamesChange }
+    ensures whole { WholeNamesChange }
 {}
 
 /// Whatever does the work of words does what they mean: it refuses what is to be refused; writes

@@ -2,6 +2,7 @@
 
 ghost use Rattle.nwq_top.specs.WordLaws.{CompilesMean, GeneratesMean, OneFaultRefuses};
 ghost use Rattle.nwq_top.specs.WordLaws.{PlaysMean, ResumesMean, RunsMean, SavesMean};
+ghost use Rattle.nwq_top.specs.Budgets.{ScriptsHaveFewStructs};
 ghost use Rattle.nwq_top.specs.ListedUnits.{PlansListUnits};
 ghost use Rattle.nwq_top.specs.SourcePlans.{FewStepsPlayAsMeant, StoppedPlansBeginAsMeant};
 ghost use Rattle.nwq_top.specs.SourcePlans.{UnstoppedPlansPlayAsMeant};
@@ -150,3 +151,9 @@ pub fn one_refusal_of_types()
     one_source();
     one_least_fault();
 }
+
+/// A script has a struct for each eight of its tokens at most, so never as many as the walk that
+/// types it can number.
+pub fn scripts_have_few_structs()
+    ensures few { ScriptsHaveFewStructs }
+{}

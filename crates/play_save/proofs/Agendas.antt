@@ -13,7 +13,7 @@ use Rattle.state_format.specs.declared.parts.Entry.{Entry as Part}
 use Rattle.play_save.specs.World.{entry_of, kind_of}
 use Rattle.play_save.specs.Rules.{AreWaiting}
 use Rattle.play_save.specs.Breaking.{IsWaiting, IsBeforeFirst, HasNumbers, AddsNumber, has_number, is_numbered}
-use Rattle.play_save.proofs.Lists.{map_more, all_at, drop_at}
+use Rattle.play_save.proofs.Lists.{map_more, all_at, all_drop, drop_at}
 
 -- ---- an entry put behind all others
 

@@ -68,6 +68,11 @@ drop_more (y ∷ ys) (suc i) x h e = drop_more ys i x (omega arith) e
 pub drop_at : {A : Type 0} (xs : List A) (i : ℕ) (x : A) → i < length xs → x ≡ get_or xs i x → drop i xs ≡ x ∷ drop (i + 1) xs
 drop_at xs i x h e = drop_more xs i x h e ∙ ap (λ (k : ℕ). x ∷ drop k xs) (sym (add-one i))
 
+pub all_drop : {A : Type 0} (P : A → Type 0) (xs : List A) (i : ℕ) → AllByRecursion P xs → AllByRecursion P (drop i xs)
+all_drop P xs zero all = all
+all_drop P [] (suc i) all = all
+all_drop P (y ∷ ys) (suc i) all = all_drop P ys i all.1
+
 all_taken : {A : Type 0} (P : A → Type 0) (xs : List A) (i : ℕ) (x : A) → AllByRecursion P (take i xs) → P x → i < length xs → x ≡ get_or xs i x
     → AllByRecursion P (take (suc i) xs)
 all_taken P [] i x all is h e = absurd (omega arith)

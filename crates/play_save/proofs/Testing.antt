@@ -1,5 +1,5 @@
 -- Which rule is the first that is broken.
-use Rattle.std.proofs.Common.{◌≡◌, ◌<◌, ℕ, List, [], ◌∷◌, length, get_or, refl, sym, ap, ◌∙◌, subst, inl, inr, arith}
+use Rattle.std.proofs.Common.{◌≡◌, ◌<◌, ℕ, zero, suc, List, [], ◌∷◌, length, get_or, refl, sym, ap, ◌∙◌, subst, inl, inr, arith}
 use Rattle.std.specs.List.{AllByRecursion}
 use Rattle.nwq_value.specs.Engine.{EngineTable}
 use Rattle.area_rules.specs.Area.{PlainArea, area_of}
@@ -9,7 +9,7 @@ use Rattle.state_format.specs.declared.parts.Script.{Script}
 use Rattle.state_format.specs.declared.parts.Parts.{Parts}
 use Rattle.play_save.specs.declared.fault.StateFault.{StateFault}
 use Rattle.play_save.specs.declared.fault.StateFault.TheVariants as fault
-use Rattle.play_save.specs.Rules.{IsUnfit, IsAccepted, IsHeaderOf, IsSound, HasHeader, HasScripts, HasArea, KeepsLimits, HasAgenda, HasStates, HasTurns}
+use Rattle.play_save.specs.Rules.{Rule, KeepsAll, IsFirstBroken, IsUnfit, IsAccepted, IsHeaderOf, IsSound, HasHeader, HasScripts, HasArea, KeepsLimits, HasAgenda, HasStates, HasTurns}
 use Rattle.play_save.specs.Breaking.{Breaks, BreaksFirst, BreaksLast, AreScriptsOf, IsReadFrom, IsPreparedFor}
 use Rattle.engine_table.specs.Headers.{OneHeader}
 use Rattle.play_save.proofs.CapturedLemmas.{one_table}
@@ -19,6 +19,12 @@ pub breaks_at : (n : ℕ) (s : Parts) (e : StateFault) (Kept : Type 0) → Break
 breaks_at n s (fault.Place at) Kept b f = b
 breaks_at n s (fault.Unfit m) Kept b f = subst (λ k. IsUnfit k s) (sym b.0) (f b.1)
 breaks_at n s fault.NoMemory Kept b f = tt
+
+pub keeps_first : (rules : List Rule) (n : ℕ) (s : Parts) → KeepsAll rules s → IsFirstBroken n rules s → ⊥
+keeps_first [] n s kept broken = broken
+keeps_first (rule ∷ rest) zero s kept broken = broken
+keeps_first (rule ∷ rest) (suc zero) s kept broken = broken kept.0
+keeps_first (rule ∷ rest) (suc (suc n)) s kept broken = keeps_first rest (suc n) s kept.1 broken.1
 
 -- ---- what is prepared keeps the first three rules
 

@@ -3,8 +3,8 @@ use Rattle.command_generate.proofs.SummaryLemmas.{told_cut, limit_counts}
 use Rattle.command_generate.proofs.summary.tell.Goals as goal
 
 pub returns-in-Err-clause-does : goal.returns-in-Err-clause-does
-returns-in-Err-clause-does g c = λ tells p w ends told at d.
-    told_cut c.args.number p d (g.S.Sink.taken c.args.out.now) (g.S.Sink.taken c.put_summary.new.out) c.in-Err.cut (c.in-Err.ensures.puts tells p w ends told at)
+returns-in-Err-clause-does g c = λ tells p w ends told lines at d.
+    told_cut c.args.number p d (g.S.Sink.taken c.args.out.now) (g.S.Sink.taken c.put_summary.new.out) c.in-Err.cut (c.in-Err.ensures.puts tells p w ends told lines at)
 
 pub returns-in-Ok-clause-counts : goal.returns-in-Ok-clause-counts
 returns-in-Ok-clause-counts g c = λ counts.

@@ -1,0 +1,224 @@
+-- Plans, areas, listed scripts and plays: it can't be that they come to no end.
+use Rattle.std.proofs.Common.{◌≡◌, ℕ, nat_lt, min, ◌-◌, ◌^◌, Bool, true, false, cond, List, [], ◌∷◌, ◌++◌, length, Option, Some, Result, Ok, Err, refl, sym, subst, ◌∙◌}
+use Rattle.std.proofs.lemmas.Option.{same_Some}
+use Rattle.std.proofs.lemmas.Cmp.{nat_list_cmp_total}
+use Rattle.std.specs.Cmp.Lexicographic.{slice_cmp}
+use Rattle.std.specs.Ordering.{nat_cmp, is_eq}
+use Rattle.std.specs.FinMap as map
+use Rattle.nwq_value.specs.Limits.{file_limit}
+use Rattle.nwq_value.specs.Engine.{EngineTable, IsTable}
+use Rattle.nwq_outside.specs.Outside.{Contents, AreBytes}
+use Rattle.gff_tree.specs.Whole.{PlainGff}
+use Rattle.gff_write.specs.declared.fault.WriteFault.TheVariants as write_fault
+use Rattle.gff_write.specs.File.{written, outcome_of}
+use Rattle.area_rules.specs.Broken.{Place, broken_places}
+use Rattle.area_rules.specs.Area.{PlainArea}
+use Rattle.typing_rules.specs.Typed.{TypedUnit}
+use Rattle.emission_rules.specs.Units.{unit_file}
+use Rattle.ncs_code.specs.Laws.{SizeLaws, PlaceLaws}
+use Rattle.plan_text.specs.declared.plan.Plan.{Plan}
+use Rattle.plan_text.specs.declared.plan.Script.{Script as ScriptLine}
+use Rattle.plan_text.specs.Plans.{Draft, Gives, plan_of}
+use Rattle.machine_rules.specs.Machine.{Script}
+use Rattle.saved_state.specs.declared.saved.Saved.{Saved}
+use Rattle.world_rules.specs.Pure.{CellLookup}
+use Rattle.world_rules.specs.Plays.{PlayEnd, Played}
+use Rattle.world_rules.specs.Plays as plays
+use Rattle.nss_lexer.specs.Splitting.{SomeSplit}
+use Rattle.nss_parser.specs.Sentence.{TreeOrPlace}
+use Rattle.engine_table.specs.Headers.{OneHeader}
+use Rattle.engine_table.specs.KeptTables.{HeadersHaveTables, BuiltInIsTable}
+use Rattle.typing_rules.specs.Laws.{VerdictsAreRight, NoneKeptIsTyped}
+use Rattle.command_work.specs.Work as work
+use Rattle.command_work.specs.Work.{Work, file_named, then, Finished, puts, writes}
+use Rattle.command_work.specs.Reading.{IsRead}
+use Rattle.command_sources.specs.Headers.{table_of}
+use Rattle.command_files.specs.Checks.{checked_named, loaded_in}
+use Rattle.command_files.specs.Trees.{tree_named}
+use Rattle.command_compile.specs.Files.{code_name, compiled_named}
+use Rattle.play_inputs.specs.Plans as plans
+use Rattle.play_inputs.specs.Plans.{plan_by, plan_in, plan_named}
+use Rattle.play_inputs.specs.Areas as areas
+use Rattle.play_inputs.specs.Areas.{AreaFate, IsAreaFate, area_by, area_in, area_named}
+use Rattle.play_inputs.specs.Finals.{final_by, final_written}
+use Rattle.play_inputs.specs.Listings.{writes_loaded, source_named, code_by, playable, script_in, lists_on, scripts_listed}
+use Rattle.command_play.specs.Games as games
+use Rattle.command_play.specs.Games.{tells, plays_plan, plays_area, plays_scripts, plays_under}
+use Rattle.command_save.specs.Resumes.{StateFate, IsStateFate, Whole, Stops, Unfit, whole, state_by, state_in, state_named, resumes_from, resumes_state, resumes}
+use Rattle.play_save.specs.Rules.{IsAccepted}
+use Rattle.command_meaning.specs.Units.{code_of, Passes, UnitsPass}
+use Rattle.command_meaning.specs.Scripts.{HoldBytes, ScriptsHaveUnits}
+use Rattle.nwq_top.specs.Accepting.{HasHeader, with_file}
+use Rattle.nwq_top.proofs.Headers.{is_table}
+use Rattle.nwq_top.proofs.Sources.{IsMade}
+use Rattle.nwq_top.proofs.Listing.{still_bytes}
+use Rattle.nwq_top.proofs.Running.{source_bytes}
+use Rattle.nwq_top.proofs.Undeniable.{Undeniable, surely, with_it}
+use Rattle.nwq_top.proofs.Going.{Goes, Anything, Still, goes_weaker, goes_next, goes_both, file_goes}
+use Rattle.nwq_top.proofs.PlanFates.{plan_comes}
+use Rattle.nwq_top.proofs.StateFates.{state_comes, goes_from}
+use Rattle.nwq_top.proofs.GoesSources.{table_goes, compiled_goes, loaded_goes, made_passes}
+use Rattle.nwq_top.proofs.GoesFiles.{IsSomeFile, is_code, AreFiles, files_of_bytes, tree_goes, binary_goes}
+
+-- ---- a plan
+
+plan_fated : (bytes : List ℕ) → (end : Result Draft ℕ) × Gives bytes end → (fate : plans.PlanFate) × plans.IsPlanFate bytes fate
+plan_fated bytes (Ok d, gives) = (plans.Whole (plan_of d), plans.whole (plan_of d) (d, gives, refl))
+plan_fated bytes (Err line, gives) = (plans.Faulty line, plans.faulty line gives)
+
+pub plan_goes : (name : List ℕ) (c : Contents) → Undeniable (Goes (plan_named name) c (λ plan d. d ≡ c))
+unfolding plan_named plan_in
+plan_goes name c =
+    goes_both (file_named name) (plan_in name) c (Still c (IsRead c name)) (λ plan d. d ≡ c) (surely (file_goes name c))
+    (λ bytes d is. with_it (plan_comes bytes) (λ k. let f = plan_fated bytes k in (f.0, f.1, by_fate f.0 d is.0)))
+  where
+    by_fate : (fate : plans.PlanFate) (d : Contents) → d ≡ c → Goes (plan_by name fate) d (λ plan e. e ≡ c)
+    by_fate (plans.Whole plan) d same = same
+    by_fate (plans.Faulty line) d same = tt
+
+-- ---- an area
+
+pub area_in_goes : (name : List ℕ) (tree : PlainGff) (d : Contents) → Goes (area_in name tree) d Anything
+unfolding area_in
+area_in_goes name tree d = by_places (broken_places tree.top) refl
+  where
+    by_places : (places : List Place) → broken_places tree.top ≡ places → (fate : AreaFate) × IsAreaFate tree.top fate × Goes (area_by name tree fate) d Anything
+    by_places [] e = (areas.Whole, areas.whole e, tt)
+    by_places (place ∷ others) e = (areas.Broken place, areas.broken place others e, tt)
+
+pub area_goes : (name : List ℕ) (c : Contents) → Goes (area_named name) c Anything
+unfolding area_named
+area_goes name c = goes_next (tree_named name) (area_in name) c (λ tree d. d ≡ c) Anything (tree_goes name c) (λ tree d is. area_in_goes name tree d)
+
+-- ---- what is told and written last
+
+final_goes : (name : List ℕ) (tree : PlainGff) (c : Contents) → Goes (final_written name tree) c Anything
+unfolding final_written outcome_of writes
+final_goes name tree c = by_size (nat_lt file_limit (length (written tree)))
+  where
+    by_size : (b : Bool) → Goes (final_by name (cond b (Err (write_fault.Large (min (length (written tree)) (2 ^ 64 - 1)))) (Ok (written tree)))) c Anything
+    by_size true = tt
+    by_size false = tt
+
+ends_go : (e : PlayEnd) (to : List ℕ) (area : PlainArea) (text : List ℕ) (c : Contents) → Goes (games.ends_by e to area text) c Anything
+unfolding puts
+ends_go plays.Done to area text c = goes_next (final_written to _) (λ done. puts text) c Anything Anything (final_goes to _ c) (λ done d is. tt)
+ends_go plays.OutOfEntries to area text c = λ x. x
+ends_go plays.StoppedInside to area text c = λ x. x
+ends_go plays.Paused to area text c = tt
+
+pub tells_goes : (to : List ℕ) (scripts : List Script) (p : Played Saved) (c : Contents) → Goes (tells to scripts p) c Anything
+tells_goes to scripts p c = ends_go p.ending to p.last.world.area _ c
+
+-- ---- listed scripts
+
+-- the files hold source texts that are bytes, and files of bytes or of code
+pub record AreFine (c : Contents) : Type 0 where
+  pub sources : HoldBytes c
+  pub files : AreFiles c
+
+pub fine_bytes : (c : Contents) → AreBytes c → AreFine c
+fine_bytes c held = record { sources = source_bytes c held; files = files_of_bytes c held }
+
+one_file : (b : Bool) (file bytes : List ℕ) (other : Option (List ℕ)) → IsSomeFile file → (other ≡ Some bytes → IsSomeFile bytes) → cond b (Some file) other ≡ Some bytes → IsSomeFile bytes
+one_file true file bytes other h k is = subst IsSomeFile (same_Some file bytes is) h
+one_file false file bytes other h k is = k is
+
+files_more : (c : Contents) (name file : List ℕ) → IsSomeFile file → AreFiles c → AreFiles (map.insert c name file)
+files_more c name file h held other bytes is =
+    one_file (is_eq (slice_cmp nat_cmp other name)) file bytes (map.get c other) h (held other bytes) (sym (map.get-insert nat_list_cmp_total c name file other) ∙ is)
+
+fine_more : (c : Contents) (script : List ℕ) (unit : TypedUnit) (table : EngineTable) → Passes table unit → AreFine c → AreFine (with_file c script unit)
+fine_more c script unit table pass fine = record {
+  sources = still_bytes c script unit fine.sources;
+  files = files_more c (code_name script) (unit_file unit) (is_code (code_of unit) pass.loads refl) fine.files;
+}
+
+-- what is listed leaves fine files
+abbrev Fine : {A : Type 0} → A → Contents → Type 0
+Fine a d = AreFine d
+
+module _ (header : OneHeader) (some : SomeSplit) (trees : TreeOrPlace) (right : VerdictsAreRight) (settled : NoneKeptIsTyped) (pass : UnitsPass) (have : ScriptsHaveUnits)
+    (reads : HeadersHaveTables) (own : BuiltInIsTable) (sizes : SizeLaws) (places : PlaceLaws) where
+  module _ (table : EngineTable) (kept : IsTable table) where
+    loads_go : (name bytes : List ℕ) (c d : Contents) → AreFine c → Still c (IsMade table c name) bytes d → Goes (writes_loaded table (code_name name) bytes) d Fine
+    unfolding writes_loaded writes
+    loads_go name bytes c d fine (same, made) =
+        let passes = made_passes header some trees right settled pass have reads own table c name bytes kept fine.sources made in
+        subst (λ x. Goes (loaded_in table (code_name name) bytes) (map.insert x (code_name name) bytes) Fine) (sym same)
+        (subst (λ b. Goes (loaded_in table (code_name name) b) (map.insert c (code_name name) b) Fine) (sym made.is)
+        (goes_weaker (loaded_in table (code_name name) (unit_file made.unit)) (with_file c name made.unit) (Still (with_file c name made.unit) (λ ops. ops ≡ code_of made.unit)) Fine
+        (loaded_goes table (code_name name) made.unit (with_file c name made.unit) passes)
+        (λ ops e k. subst AreFine (sym k.0) (fine_more c name made.unit table passes fine))))
+
+    source_goes : (name : List ℕ) (c : Contents) → AreFine c → Goes (source_named table name) c Fine
+    unfolding source_named
+    source_goes name c fine =
+        goes_next (compiled_named table name) (writes_loaded table (code_name name)) c (Still c (IsMade table c name)) Fine
+        (compiled_goes right settled table some trees name c) (λ bytes d is. loads_go name bytes c d fine is)
+
+    code_goes : (b : Bool) (name : List ℕ) (c : Contents) → AreFine c → Undeniable (Goes (code_by b table name) c Fine)
+    code_goes true name c fine =
+        with_it (binary_goes sizes places table (code_name name) c fine.files)
+        (λ g. goes_weaker (checked_named table (code_name name)) c (λ ops d. d ≡ c) Fine g (λ ops d same. subst AreFine (sym same) fine))
+    code_goes false name c fine = surely (source_goes name c fine)
+
+    script_goes : (line : ScriptLine) (c : Contents) → AreFine c → Undeniable (Goes (script_in table line) c Fine)
+    unfolding script_in
+    script_goes line c fine =
+        goes_both (code_by line.binary table line.name) (λ ops. work.Gives (playable line ops)) c Fine Fine (code_goes line.binary line.name c fine) (λ ops d is. surely is)
+
+    lists_go : (lines : List ScriptLine) (before : List Script) (c : Contents) → AreFine c → Undeniable (Goes (lists_on table before lines) c Fine)
+    unfolding lists_on
+    lists_go [] before c fine = surely fine
+    lists_go (line ∷ lines) before c fine =
+        goes_both (script_in table line) (λ script. lists_on table (before ++ script ∷ []) lines) c Fine Fine (script_goes line c fine)
+        (λ script d is. lists_go lines (before ++ script ∷ []) d is)
+
+    pub listed_goes : (lines : List ScriptLine) (c : Contents) → AreFine c → Undeniable (Goes (scripts_listed table lines) c Fine)
+    unfolding scripts_listed
+    listed_goes lines c fine = lists_go lines [] c fine
+
+  -- ---- the plays
+
+  module _ (cell : CellLookup) (word area to : List ℕ) (c : Contents) (held : AreBytes c) where
+    area_plays : (table : EngineTable) (plan : Plan) (scripts : List Script) (d : Contents) → Goes (plays_area cell table area plan to scripts) d Anything
+    unfolding plays_area plays_plan
+    area_plays table plan scripts d =
+        goes_next (area_named area) (λ a. plays_plan cell table a plan scripts to) d Anything Anything (area_goes area d) (λ a e is. tells_goes to scripts _ e)
+
+    scripts_play : (plan : Plan) (table : EngineTable) (d : Contents) → Still c (HasHeader c word) table d → Undeniable (Goes (plays_scripts cell area plan to table) d Anything)
+    unfolding plays_scripts
+    scripts_play plan table d (same, has) =
+        goes_both (scripts_listed table plan.scripts) (plays_area cell table area plan to) d Fine Anything
+        (listed_goes table (is_table reads own c word table held has) plan.scripts d (subst AreFine (sym same) (fine_bytes c held)))
+        (λ scripts e is. surely (area_plays table plan scripts e))
+
+    header_plays : (plan : Plan) (d : Contents) → d ≡ c → Undeniable (Goes (plays_under cell word area to plan) d Anything)
+    unfolding plays_under
+    header_plays plan d same =
+        subst (λ x. Undeniable (Goes (plays_under cell word area to plan) x Anything)) (sym same)
+        (goes_both (table_of word) (plays_scripts cell area plan to) c (Still c (HasHeader c word)) Anything (surely (table_goes header word c)) (scripts_play plan))
+
+    pub play_goes : (plan : List ℕ) → Undeniable (Goes (games.plays cell word area plan to) c Anything)
+    unfolding games.plays
+    play_goes plan = goes_both (plan_named plan) (plays_under cell word area to) c (λ p d. d ≡ c) Anything (plan_goes plan c) header_plays
+
+-- ---- a play that goes on
+
+state_goes : (name : List ℕ) (c : Contents) → Undeniable (Goes (state_named name) c (λ s d. IsAccepted s))
+unfolding state_named state_in
+state_goes name c =
+    goes_both (file_named name) (state_in name) c (Still c (IsRead c name)) (λ s d. IsAccepted s) (surely (file_goes name c))
+    (λ bytes d is. with_it (state_comes bytes) (λ f. (f.0, f.1, by_fate bytes f.0 f.1 d)))
+  where
+    by_fate : (bytes : List ℕ) (fate : StateFate) → IsStateFate bytes fate → (d : Contents) → Goes (state_by name fate) d (λ s e. IsAccepted s)
+    by_fate bytes (Whole s) (whole _ of keeps) d = keeps
+    by_fate bytes (Stops place) h d = tt
+    by_fate bytes (Unfit rule) h d = tt
+
+pub resume_goes : (cell : CellLookup) (name to : List ℕ) (c : Contents) → Undeniable (Goes (resumes cell name to) c Anything)
+unfolding resumes resumes_state resumes_from
+resume_goes cell name to c =
+    goes_both (state_named name) (resumes_state cell to) c (λ s d. IsAccepted s) Anything (state_goes name c)
+    (λ s d keeps. let g = goes_from s keeps in surely (g.0, g.1, tells_goes to g.0.scripts _ d))

@@ -1,0 +1,6 @@
+mod Texts
+mod Names
+mod Headers
+mod Calls
+mod Runs
+mod Plays
