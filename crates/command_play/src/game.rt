@@ -2,11 +2,10 @@
 ghost use Rattle.std.specs.Prelude.{◌<◌, ◌^◌, length, map, IsTrue, IfErr};
 ghost use Rattle.plan_text.specs.Plans.{IsPlan};
 ghost use Rattle.stack_rules.specs.Laws.{AllMeet};
-ghost use Rattle.world_core.specs.Calls.{AreServing};
+ghost use Rattle.world_core.specs.Calls.{AreServing, cells_of};
 ghost use Rattle.ncs_machine.specs.Host.{scripts_of, tables_of};
 ghost use Rattle.command_work.specs.Counts.{KeepsBut};
 ghost use Rattle.command_work.specs.Calls.{DoesOn, TalliesOn, IsName};
-ghost use Rattle.command_plays.specs.Plays.{cells_in};
 ghost use Rattle.command_play.specs.Games.{plays_area, plays_scripts, plays_under, plays};
 ghost use Rattle.command_play.specs.Tellings.{IsGameFile, StopsGame};
 
@@ -39,8 +38,8 @@ fn play_area<F: Files, S: Sink>(
     requires hooks { AreServing (map (λ h. h.known) hooks.now.all.items) }
     requires plan { IsPlan plan.now }
     ensures does { IsTrue F.tells → IsTrue S.tells → DoesOn F.contents S.taken (plays_area
-        (cells_in hooks.now) table.now area.now plan.now to.now (scripts_of scripts.now))
-        files.old out.old result files.new out.new }
+        (cells_of (map (λ h. h.known) hooks.now.all.items)) table.now area.now plan.now to.now
+        (scripts_of scripts.now)) files.old out.old result files.new out.new }
     ensures counts { TalliesOn F.counts S.faults result files.old out.old files.new out.new }
     ensures names { KeepsBut (IsName to.now) (F.contents files.old) (F.contents files.new) }
     ensures only { IfErr result StopsGame }
@@ -65,8 +64,8 @@ fn play_scripts<F: Files, S: Sink>(
 ) -> Result<(), Status>
     requires hooks { AreServing (map (λ h. h.known) hooks.now.all.items) }
     requires plan { IsPlan plan.now }
-    ensures does { IsTrue F.tells → IsTrue S.tells → DoesOn F.contents S.taken
-        (plays_scripts (cells_in hooks.now) area.now plan.now to.now table.now)
+    ensures does { IsTrue F.tells → IsTrue S.tells → DoesOn F.contents S.taken (plays_scripts
+        (cells_of (map (λ h. h.known) hooks.now.all.items)) area.now plan.now to.now table.now)
         files.old out.old result files.new out.new }
     ensures counts { TalliesOn F.counts S.faults result files.old out.old files.new out.new }
     ensures names { KeepsBut (IsGameFile to.now) (F.contents files.old) (F.contents files.new) }
@@ -92,8 +91,8 @@ fn play_under<F: Files, S: Sink>(
 ) -> Result<(), Status>
     requires hooks { AreServing (map (λ h. h.known) hooks.now.all.items) }
     requires plan { IsPlan plan.now }
-    ensures does { IsTrue F.tells → IsTrue S.tells → DoesOn F.contents S.taken
-        (plays_under (cells_in hooks.now) header.now area.now to.now plan.now)
+    ensures does { IsTrue F.tells → IsTrue S.tells → DoesOn F.contents S.taken (plays_under
+        (cells_of (map (λ h. h.known) hooks.now.all.items)) header.now area.now to.now plan.now)
         files.old out.old result files.new out.new }
     ensures counts { TalliesOn F.counts S.faults result files.old out.old files.new out.new }
     ensures names { KeepsBut (IsGameFile to.now) (F.contents files.old) (F.contents files.new) }
@@ -119,8 +118,8 @@ pub fn play_files<F: Files, S: Sink>(
     out: &mut S,
 ) -> Result<(), Status>
     requires hooks { AreServing (map (λ h. h.known) hooks.now.all.items) }
-    ensures does { IsTrue F.tells → IsTrue S.tells → DoesOn F.contents S.taken
-        (plays (cells_in hooks.now) header.now area.now plan.now to.now)
+    ensures does { IsTrue F.tells → IsTrue S.tells → DoesOn F.contents S.taken (plays
+        (cells_of (map (λ h. h.known) hooks.now.all.items)) header.now area.now plan.now to.now)
         files.old out.old result files.new out.new }
     ensures counts { TalliesOn F.counts S.faults result files.old out.old files.new out.new }
     // The files of bytecode of scripts, and the file of the area that is left, alone are written.

@@ -1,14 +1,12 @@
 -- Plays as commands make them: the play of a plan's lines, and how a command ends by the end of its
 -- play.
-use Rattle.std.specs.Prelude.{ℕ, List, map, min}
+use Rattle.std.specs.Prelude.{ℕ, List, min}
 use Rattle.nwq_value.specs.Engine.{EngineTable}
-use Rattle.hook_table.specs.declared.hooks.Hooks.{Hooks}
 use Rattle.plan_text.specs.declared.plan.Plan.{Plan}
 use Rattle.plan_text.specs.Plans.{Limits, limits_of}
 use Rattle.saved_state.specs.declared.saved.Saved.{Saved}
 use Rattle.world_rules.specs.Pure.{CellLookup}
 use Rattle.world_rules.specs.World.{World}
-use Rattle.world_core.specs.Calls.{cells_of}
 use Rattle.machine_rules.specs.Machine.{Script, Host}
 use Rattle.world_rules.specs.Plays as plays
 use Rattle.world_rules.specs.Plays.{PlayEnd, Played}
@@ -18,10 +16,6 @@ use Rattle.ncs_machine.specs.declared.scripts.Loaded.{Loaded}
 use Rattle.module_player.specs.CodePlays.{code_play, code_play_on}
 use Rattle.command_work.specs.declared.status.Status.TheVariants.{Limit}
 use Rattle.command_work.specs.Work.{Work, Gives, Ends, Finished}
-
--- what the hooks of a program look up
-abbrev pub cells_in : Hooks → CellLookup
-cells_in hooks = cells_of (map (λ h. h.known) hooks.all.items)
 
 -- what listed scripts run in: the engine under a header, whose cells are looked up so
 abbrev pub host_of : CellLookup → EngineTable → List Script → Host (World Saved)

@@ -9,6 +9,7 @@ use Rattle.command_work.specs.Counts.{Counted, Tallies}
 use Rattle.saved_state.specs.declared.saved.Saved.{Saved}
 use Rattle.world_rules.specs.World.{World}
 use Rattle.world_rules.specs.Plays as plays
+use Rattle.world_rules.specs.Trace.{trace_text}
 use Rattle.module_player.specs.Answers.{EndsAs, WherePlayed, TakesTrace, CountsPlay}
 use Rattle.module_player.specs.EndTexts.{IsEnding}
 use Rattle.module_player.specs.declared.played.Played.{Played}
@@ -28,6 +29,10 @@ cut_of NoMemory = Some status.Memory
 abbrev pub TakesText : {A : Type 0} → List ℕ → List ℕ → Result A Status → List ℕ → Type 0
 TakesText text t (Ok a) t' = t' ≡ t ++ text
 TakesText text t (Err cut) t' = CutsShort cut × TookPrefix text t t'
+
+-- so of the lines of a play
+abbrev pub TakesLines : {S A : Type 0} → (S → List ℕ) → plays.Played Saved → S → Result A Status → S → Type 0
+TakesLines taken p out r out' = TakesText (trace_text p.last.trace) (taken out) r (taken out')
 
 -- ---- what is told of a play that was told whole, or cut short
 

@@ -4,15 +4,14 @@ ghost use Rattle.std.specs.Prelude.{IsTrue, IfOk, IfErr, OnOk};
 ghost use Rattle.nwq_value.specs.Limits.{entry_limit, instruction_limit, time_limit};
 ghost use Rattle.plan_text.specs.Plans.{IsPlan};
 ghost use Rattle.stack_rules.specs.Laws.{AllMeet};
-ghost use Rattle.world_rules.specs.Trace.{trace_text};
-ghost use Rattle.world_core.specs.Calls.{AreServing};
+ghost use Rattle.world_core.specs.Calls.{AreServing, cells_of};
 ghost use Rattle.ncs_machine.specs.Host.{scripts_of, tables_of};
 ghost use Rattle.module_player.specs.EndTexts.{IsEnding};
 ghost use Rattle.command_work.specs.Work.{CutsShort};
 ghost use Rattle.command_work.specs.Calls.{TalliesPuts};
 ghost use Rattle.play_worlds.specs.Worlds.{plan_world};
-ghost use Rattle.command_plays.specs.Plays.{FitListed, played_first, played_on, cells_in};
-ghost use Rattle.command_plays.specs.Tellings.{cut_of, TakesText};
+ghost use Rattle.command_plays.specs.Plays.{FitListed, played_first, played_on};
+ghost use Rattle.command_plays.specs.Tellings.{cut_of, TakesLines};
 
 use crate::telling::told_uncut;
 use area_tree::Area;
@@ -55,12 +54,12 @@ fn play_some<S: Sink>(
     requires within { taken ≤ limits.1 }
     requires done { done < 2 ^ 61 }
     ensures told { IfOk result (λ answer. cut_of answer.how ≡ None) }
-    ensures ending { IfOk result (λ answer. IsEnding answer (played_on (cells_in hooks.now)
-        table.now limits (scripts_of scripts.now) stop taken done world.old.world)
-        world.new.world) }
-    ensures trace { IsTrue S.tells → TakesText (trace_text (played_on (cells_in hooks.now) table.now
-        limits (scripts_of scripts.now) stop taken done world.old.world).last.trace)
-        (S.taken out.old) result (S.taken out.new) }
+    ensures ending { IfOk result (λ answer. IsEnding answer (played_on
+        (cells_of (map (λ h. h.known) hooks.now.all.items)) table.now limits
+        (scripts_of scripts.now) stop taken done world.old.world) world.new.world) }
+    ensures trace { IsTrue S.tells → TakesLines S.taken (played_on
+        (cells_of (map (λ h. h.known) hooks.now.all.items)) table.now limits
+        (scripts_of scripts.now) stop taken done world.old.world) out.old result out.new }
     ensures counts { TalliesPuts S.faults result out.old out.new }
     ensures fit { OnOk result (FitListed scripts.now world.new.world) }
     ensures posted { OnOk result
@@ -101,12 +100,13 @@ pub fn play_part<S: Sink>(
     requires within { taken ≤ limits.1 }
     requires done { done < 2 ^ 61 }
     ensures told { IfOk result (λ answer. cut_of answer.1.how ≡ None) }
-    ensures ending { IfOk result (λ answer. IsEnding answer.1 (played_on (cells_in hooks.now)
-        table.now limits (scripts_of scripts.now) stop taken done world.world) answer.0.world) }
+    ensures ending { IfOk result (λ answer. IsEnding answer.1 (played_on
+        (cells_of (map (λ h. h.known) hooks.now.all.items)) table.now limits
+        (scripts_of scripts.now) stop taken done world.world) answer.0.world) }
     // The sink took this part's lines, or a prefix of them where it was cut short.
-    ensures trace { IsTrue S.tells → TakesText (trace_text (played_on (cells_in hooks.now) table.now
-        limits (scripts_of scripts.now) stop taken done world.world).last.trace) (S.taken out.old)
-        result (S.taken out.new) }
+    ensures trace { IsTrue S.tells → TakesLines S.taken (played_on
+        (cells_of (map (λ h. h.known) hooks.now.all.items)) table.now limits
+        (scripts_of scripts.now) stop taken done world.world) out.old result out.new }
     ensures counts { TalliesPuts S.faults result out.old out.new }
     // What the world keeps, so that it can be saved: how much at most was posted, and executed.
     ensures fit { IfOk result (λ answer. FitListed scripts.now answer.0.world) }
@@ -146,13 +146,13 @@ pub fn play_first<S: Sink>(
     requires plan { IsPlan plan.now }
     requires some { 1 ≤ entries }
     ensures told { IfOk result (λ answer. cut_of answer.1.how ≡ None) }
-    ensures ending { IfOk result (λ answer. IsEnding answer.1 (played_first (cells_in hooks.now)
-        table.now plan.now (scripts_of scripts.now) entries (plan_world area plan.now))
-        answer.0.world) }
+    ensures ending { IfOk result (λ answer. IsEnding answer.1 (played_first
+        (cells_of (map (λ h. h.known) hooks.now.all.items)) table.now plan.now
+        (scripts_of scripts.now) entries (plan_world area plan.now)) answer.0.world) }
     // The sink took this part's lines, or a prefix of them where it was cut short.
-    ensures trace { IsTrue S.tells → TakesText (trace_text (played_first (cells_in hooks.now)
-        table.now plan.now (scripts_of scripts.now) entries (plan_world area plan.now)).last.trace)
-        (S.taken out.old) result (S.taken out.new) }
+    ensures trace { IsTrue S.tells → TakesLines S.taken (played_first
+        (cells_of (map (λ h. h.known) hooks.now.all.items)) table.now plan.now
+        (scripts_of scripts.now) entries (plan_world area plan.now)) out.old result out.new }
     ensures counts { TalliesPuts S.faults result out.old out.new }
     // What the world keeps, so that it can be saved.
     ensures fit { IfOk result (λ answer. FitListed scripts.now answer.0.world) }

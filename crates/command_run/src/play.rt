@@ -5,14 +5,13 @@ ghost use Rattle.ncs_code.specs.Plain.{PlainOp};
 ghost use Rattle.stack_rules.specs.Rules.{MeetsRules};
 ghost use Rattle.stack_rules.specs.Laws.{AllMeet};
 ghost use Rattle.stack_check.specs.Checked.{kept_table};
-ghost use Rattle.world_core.specs.Calls.{AreServing};
+ghost use Rattle.world_core.specs.Calls.{AreServing, cells_of};
 ghost use Rattle.ncs_machine.specs.Host.{scripts_of, tables_of};
 ghost use Rattle.ncs_machine.specs.Stored.{StatesFit};
 ghost use Rattle.command_work.specs.Counts.{Refusing};
 ghost use Rattle.command_work.specs.Calls.{TalliesPuts, DoesPuts};
 ghost use Rattle.command_files.specs.Checks.{IsStackedFile};
 ghost use Rattle.command_plays.specs.Scripts.{listed, played, tells, plays_code, plays_file};
-ghost use Rattle.command_plays.specs.Plays.{cells_in};
 ghost use Rattle.command_run.specs.Tellings.{StopsPlay};
 
 use crate::telling::tell_end;
@@ -55,9 +54,9 @@ fn play_world<S: Sink>(
     requires fit { StatesFit (scripts_of scripts.now) (tables_of scripts.now) world.world }
     requires quiet { world.world.trace ≡ [] }
     requires next { world.world.agenda.next < 2 ^ 61 }
-    ensures does { IsTrue S.tells → DoesPuts S.taken (tells (scripts_of scripts.now)
-        (played (cells_in hooks.now) table.now (scripts_of scripts.now) world.world))
-        out.old result out.new }
+    ensures does { IsTrue S.tells → DoesPuts S.taken (tells (scripts_of scripts.now) (played
+        (cells_of (map (λ h. h.known) hooks.now.all.items)) table.now (scripts_of scripts.now)
+        world.world)) out.old result out.new }
     ensures counts { TalliesPuts S.faults result out.old out.new }
     ensures only { IfErr result (Refusing Status.Limit) }
 {
@@ -96,7 +95,8 @@ fn play_listed<S: Sink>(
     requires meets { AllMeet table.now (scripts_of scripts.now) (tables_of scripts.now) }
     requires hooks { AreServing (map (λ h. h.known) hooks.now.all.items) }
     ensures does { IsTrue S.tells → (ops : List PlainOp) → scripts_of scripts.now ≡ listed name.now
-        ops → DoesPuts S.taken (plays_code (cells_in hooks.now) table.now name.now ops)
+        ops → DoesPuts S.taken
+        (plays_code (cells_of (map (λ h. h.known) hooks.now.all.items)) table.now name.now ops)
         out.old result out.new }
     ensures counts { TalliesPuts S.faults result out.old out.new }
     ensures only { IfErr result (Refusing Status.Limit) }
@@ -119,8 +119,9 @@ fn play_code<S: Sink>(
 ) -> Result<(), Status>
     requires meets { MeetsRules table.now code.code (kept_table code) }
     requires hooks { AreServing (map (λ h. h.known) hooks.now.all.items) }
-    ensures does { IsTrue S.tells → DoesPuts S.taken
-        (plays_code (cells_in hooks.now) table.now name.now code.code) out.old result out.new }
+    ensures does { IsTrue S.tells → DoesPuts S.taken (plays_code
+        (cells_of (map (λ h. h.known) hooks.now.all.items)) table.now name.now code.code)
+        out.old result out.new }
     ensures counts { TalliesPuts S.faults result out.old out.new }
     ensures only { IfErr result (Refusing Status.Limit) }
 {
@@ -143,8 +144,8 @@ pub fn play_file<S: Sink>(
 ) -> Result<(), Status>
     requires small { length bytes.items ≤ file_limit }
     requires hooks { AreServing (map (λ h. h.known) hooks.now.all.items) }
-    ensures does { IsTrue S.tells → DoesPuts S.taken
-        (plays_file (cells_in hooks.now) table.now name.now file.now bytes.items)
+    ensures does { IsTrue S.tells → DoesPuts S.taken (plays_file
+        (cells_of (map (λ h. h.known) hooks.now.all.items)) table.now name.now file.now bytes.items)
         out.old result out.new }
     ensures counts { TalliesPuts S.faults result out.old out.new }
     ensures only { IfErr result StopsPlay }

@@ -1,12 +1,11 @@
 ghost use Rattle.std.specs.Prelude.{◌≡◌, ◌≤◌, ℕ, length, map, IsTrue, IfErr};
 ghost use Rattle.nwq_value.specs.Limits.{file_limit};
-ghost use Rattle.world_core.specs.Calls.{AreServing};
+ghost use Rattle.world_core.specs.Calls.{AreServing, cells_of};
 ghost use Rattle.command_work.specs.Counts.{Refusing};
 ghost use Rattle.command_work.specs.Calls.{DoesOn, TalliesOn, TalliesPuts, DoesPuts};
 ghost use Rattle.command_files.specs.Checks.{IsStackedFile};
 ghost use Rattle.command_compile.specs.Files.{code_name};
 ghost use Rattle.command_plays.specs.Scripts.{plays_file};
-ghost use Rattle.command_plays.specs.Plays.{cells_in};
 ghost use Rattle.command_run.specs.Runs.{runs_under, runs, StopsRun};
 
 use crate::play::play_file;
@@ -31,9 +30,9 @@ fn play_compiled<S: Sink>(
     requires small { length bytes ≤ file_limit }
     requires stacked { IsStackedFile table.now bytes }
     requires hooks { AreServing (map (λ h. h.known) hooks.now.all.items) }
-    ensures does { IsTrue S.tells → DoesPuts S.taken
-        (plays_file (cells_in hooks.now) table.now script.now (code_name script.now) bytes)
-        out.old result out.new }
+    ensures does { IsTrue S.tells → DoesPuts S.taken (plays_file
+        (cells_of (map (λ h. h.known) hooks.now.all.items)) table.now script.now
+        (code_name script.now) bytes) out.old result out.new }
     ensures counts { TalliesPuts S.faults result out.old out.new }
     ensures only { IfErr result (Refusing Status.Limit) }
 {
@@ -63,7 +62,7 @@ fn run_under<F: Files, S: Sink>(
 ) -> Result<(), Status>
     requires hooks { AreServing (map (λ h. h.known) hooks.now.all.items) }
     ensures does { IsTrue F.tells → IsTrue S.tells → DoesOn F.contents S.taken
-        (runs_under (cells_in hooks.now) script.now table.now)
+        (runs_under (cells_of (map (λ h. h.known) hooks.now.all.items)) script.now table.now)
         files.old out.old result files.new out.new }
     ensures counts { TalliesOn F.counts S.faults result files.old out.old files.new out.new }
     ensures same { F.contents files.new ≡ F.contents files.old }
@@ -87,7 +86,7 @@ pub fn run<F: Files, S: Sink>(
 ) -> Result<(), Status>
     requires hooks { AreServing (map (λ h. h.known) hooks.now.all.items) }
     ensures does { IsTrue F.tells → IsTrue S.tells → DoesOn F.contents S.taken
-        (runs (cells_in hooks.now) header.now script.now)
+        (runs (cells_of (map (λ h. h.known) hooks.now.all.items)) header.now script.now)
         files.old out.old result files.new out.new }
     ensures counts { TalliesOn F.counts S.faults result files.old out.old files.new out.new }
     ensures same { F.contents files.new ≡ F.contents files.old }

@@ -1,13 +1,12 @@
 //! The command that resumes: a state is read, and its play goes on.
 ghost use Rattle.std.specs.Prelude.{◌≡◌, ◌≤◌, ℕ, length, map, IsTrue, IfErr};
 ghost use Rattle.nwq_value.specs.Limits.{file_limit};
-ghost use Rattle.world_core.specs.Calls.{AreServing};
+ghost use Rattle.world_core.specs.Calls.{AreServing, cells_of};
 ghost use Rattle.ncs_machine.specs.Host.{scripts_of};
 ghost use Rattle.command_work.specs.Counts.{KeepsBut, Refusing, StopsArea};
 ghost use Rattle.command_work.specs.Calls.{DoesOn, TalliesOn, TalliesPuts, IsName, DoesPuts};
 ghost use Rattle.command_play.specs.Games.{tells};
 ghost use Rattle.command_play.specs.Tellings.{StopsEnd};
-ghost use Rattle.command_plays.specs.Plays.{cells_in};
 ghost use Rattle.command_save.specs.Resumes.{resumes, resumes_state, state_in, state_named};
 ghost use Rattle.command_save.specs.Tellings.{MayGoOn, StopsResume, rest_of};
 
@@ -79,8 +78,9 @@ fn play_rest<F: Files, S: Sink>(
 ) -> Result<(), Status>
     requires hooks { AreServing (map (λ h. h.known) hooks.now.all.items) }
     requires opened { MayGoOn opened }
-    ensures does { IsTrue F.tells → IsTrue S.tells → DoesOn F.contents S.taken
-        (tells to.now (scripts_of opened.scripts) (rest_of (cells_in hooks.now) opened))
+    ensures does { IsTrue F.tells → IsTrue S.tells → DoesOn F.contents S.taken (tells to.now
+        (scripts_of opened.scripts)
+        (rest_of (cells_of (map (λ h. h.known) hooks.now.all.items)) opened))
         files.old out.old result files.new out.new }
     ensures counts { TalliesOn F.counts S.faults result files.old out.old files.new out.new }
     ensures names { KeepsBut (IsName to.now) (F.contents files.old) (F.contents files.new) }
@@ -124,7 +124,7 @@ fn resume_state<F: Files, S: Sink>(
 ) -> Result<(), Status>
     requires hooks { AreServing (map (λ h. h.known) hooks.now.all.items) }
     ensures does { IsTrue F.tells → IsTrue S.tells → DoesOn F.contents S.taken
-        (resumes_state (cells_in hooks.now) to.now state)
+        (resumes_state (cells_of (map (λ h. h.known) hooks.now.all.items)) to.now state)
         files.old out.old result files.new out.new }
     ensures counts { TalliesOn F.counts S.faults result files.old out.old files.new out.new }
     ensures names { KeepsBut (IsName to.now) (F.contents files.old) (F.contents files.new) }
@@ -150,7 +150,8 @@ pub fn resume_play<F: Files, S: Sink>(
 ) -> Result<(), Status>
     requires hooks { AreServing (map (λ h. h.known) hooks.now.all.items) }
     ensures does { IsTrue F.tells → IsTrue S.tells → DoesOn F.contents S.taken
-        (resumes (cells_in hooks.now) state.now to.now) files.old out.old result files.new out.new }
+        (resumes (cells_of (map (λ h. h.known) hooks.now.all.items)) state.now to.now)
+        files.old out.old result files.new out.new }
     ensures counts { TalliesOn F.counts S.faults result files.old out.old files.new out.new }
     // The file of the area that is left alone is written.
     ensures names { KeepsBut (IsName to.now) (F.contents files.old) (F.contents files.new) }

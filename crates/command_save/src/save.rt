@@ -3,14 +3,13 @@
 ghost use Rattle.std.specs.Prelude.{◌<◌, ◌≤◌, ◌^◌, length, map, IsTrue, IfErr};
 ghost use Rattle.plan_text.specs.Plans.{IsPlan};
 ghost use Rattle.stack_rules.specs.Laws.{AllMeet};
-ghost use Rattle.world_core.specs.Calls.{AreServing};
+ghost use Rattle.world_core.specs.Calls.{AreServing, cells_of};
 ghost use Rattle.ncs_machine.specs.Host.{scripts_of, tables_of};
 ghost use Rattle.play_save.specs.Rules.{IsAreaOf, IsHeaderOf};
 ghost use Rattle.play_save.specs.States.{MayList};
 ghost use Rattle.command_work.specs.Counts.{KeepsBut};
 ghost use Rattle.command_work.specs.Calls.{DoesOn, TalliesOn, IsName};
 ghost use Rattle.command_play.specs.Tellings.{IsGameFile, StopsGame};
-ghost use Rattle.command_plays.specs.Plays.{cells_in};
 ghost use Rattle.command_save.specs.Saves.{saves, saves_area, saves_plan, saves_scripts};
 ghost use Rattle.command_save.specs.Saves.{saves_under};
 
@@ -49,8 +48,8 @@ fn save_plan<F: Files, S: Sink>(
     requires some { 1 ≤ entries }
     requires area { IsAreaOf area.area.tree area.bytes }
     ensures does { IsTrue F.tells → IsTrue S.tells → DoesOn F.contents S.taken (saves_plan
-        (cells_in hooks.now) header plan.now (scripts_of scripts.now) entries name.now area)
-        files.old out.old result files.new out.new }
+        (cells_of (map (λ h. h.known) hooks.now.all.items)) header plan.now (scripts_of scripts.now)
+        entries name.now area) files.old out.old result files.new out.new }
     ensures counts { TalliesOn F.counts S.faults result files.old out.old files.new out.new }
     ensures names { KeepsBut (IsName name.now) (F.contents files.old) (F.contents files.new) }
     ensures only { IfErr result StopsGame }
@@ -100,8 +99,8 @@ fn save_area<F: Files, S: Sink>(
     requires plan { IsPlan plan.now }
     requires some { 1 ≤ entries }
     ensures does { IsTrue F.tells → IsTrue S.tells → DoesOn F.contents S.taken (saves_area
-        (cells_in hooks.now) header area.now plan.now entries name.now (scripts_of scripts.now))
-        files.old out.old result files.new out.new }
+        (cells_of (map (λ h. h.known) hooks.now.all.items)) header area.now plan.now entries
+        name.now (scripts_of scripts.now)) files.old out.old result files.new out.new }
     ensures counts { TalliesOn F.counts S.faults result files.old out.old files.new out.new }
     ensures names { KeepsBut (IsName name.now) (F.contents files.old) (F.contents files.new) }
     ensures only { IfErr result StopsGame }
@@ -135,9 +134,9 @@ fn save_scripts<F: Files, S: Sink>(
     requires hooks { AreServing (map (λ h. h.known) hooks.now.all.items) }
     requires plan { IsPlan plan.now }
     requires some { 1 ≤ entries }
-    ensures does { IsTrue F.tells → IsTrue S.tells → DoesOn F.contents S.taken
-        (saves_scripts (cells_in hooks.now) area.now plan.now entries name.now header)
-        files.old out.old result files.new out.new }
+    ensures does { IsTrue F.tells → IsTrue S.tells → DoesOn F.contents S.taken (saves_scripts
+        (cells_of (map (λ h. h.known) hooks.now.all.items)) area.now plan.now entries name.now
+        header) files.old out.old result files.new out.new }
     ensures counts { TalliesOn F.counts S.faults result files.old out.old files.new out.new }
     ensures names { KeepsBut (IsGameFile name.now) (F.contents files.old) (F.contents files.new) }
     ensures only { IfErr result StopsGame }
@@ -170,9 +169,9 @@ fn save_under<F: Files, S: Sink>(
     requires hooks { AreServing (map (λ h. h.known) hooks.now.all.items) }
     requires plan { IsPlan plan.now }
     requires some { 1 ≤ entries }
-    ensures does { IsTrue F.tells → IsTrue S.tells → DoesOn F.contents S.taken
-        (saves_under (cells_in hooks.now) header.now area.now entries name.now plan.now)
-        files.old out.old result files.new out.new }
+    ensures does { IsTrue F.tells → IsTrue S.tells → DoesOn F.contents S.taken (saves_under
+        (cells_of (map (λ h. h.known) hooks.now.all.items)) header.now area.now entries name.now
+        plan.now) files.old out.old result files.new out.new }
     ensures counts { TalliesOn F.counts S.faults result files.old out.old files.new out.new }
     ensures names { KeepsBut (IsGameFile name.now) (F.contents files.old) (F.contents files.new) }
     ensures only { IfErr result StopsGame }
@@ -199,9 +198,9 @@ pub fn save_play<F: Files, S: Sink>(
 ) -> Result<(), Status>
     requires hooks { AreServing (map (λ h. h.known) hooks.now.all.items) }
     requires some { 1 ≤ entries }
-    ensures does { IsTrue F.tells → IsTrue S.tells → DoesOn F.contents S.taken
-        (saves (cells_in hooks.now) header.now area.now plan.now entries state.now)
-        files.old out.old result files.new out.new }
+    ensures does { IsTrue F.tells → IsTrue S.tells → DoesOn F.contents S.taken (saves
+        (cells_of (map (λ h. h.known) hooks.now.all.items)) header.now area.now plan.now entries
+        state.now) files.old out.old result files.new out.new }
     ensures counts { TalliesOn F.counts S.faults result files.old out.old files.new out.new }
     // The files of bytecode of scripts, and the file of the state, alone are written.
     ensures names { KeepsBut (IsGameFile state.now)
