@@ -1,14 +1,13 @@
 ghost use Rattle.std.specs.Prelude.{◌≡◌, ◌<◌, ◌≤◌, ◌^◌, ℕ, length, string_bytes};
 ghost use Rattle.std.specs.Prelude.{IsTrue, IfErr, IfOk};
 ghost use Rattle.nwq_value.specs.Limits.{file_limit};
-ghost use Rattle.nwq_outside.specs.Outside.{Contents};
 ghost use Rattle.nss_tree.specs.Reading.{plain_tree};
 ghost use Rattle.typing_rules.specs.UnitReading.{typed_unit};
 ghost use Rattle.emission_rules.specs.Units.{unit_file};
 ghost use Rattle.typing_laws.specs.Laws.{HasCode};
-ghost use Rattle.nwq_outside.specs.declared.counts.FileCounts.{FileCounts};
-ghost use Rattle.command_work.specs.Work.{Does, CutsShort};
-ghost use Rattle.command_work.specs.Counts.{Counted, Tallies, Refusing, StopsSource, KeepsBut};
+ghost use Rattle.command_work.specs.Work.{CutsShort};
+ghost use Rattle.command_work.specs.Counts.{Refusing, StopsSource, KeepsBut};
+ghost use Rattle.command_work.specs.Calls.{DoesOn, TalliesOn, TalliesPuts, IsName, DoesPuts};
 ghost use Rattle.command_sources.specs.Scripts.{plain_script};
 ghost use Rattle.command_compile.specs.Files.{IsTooLarge, file_in, compiled_in, compiled_named};
 ghost use Rattle.command_compile.specs.Files.{code_name, writes_code, compiles_under, compiles};
@@ -44,12 +43,10 @@ fn code_of(alloc: Global, unit: &Typed) -> Result<Vec<u8>, GenFault>
 #[tactic(auto, using(crate::proofs::FileLemmas::files))]
 fn file_of<S: Sink>(alloc: Global, script: &TypedScript, out: &mut S) -> Result<Items<u8>, Status>
     requires { HasCode (typed_unit script.now.typed) }
-    ensures does { IsTrue S.tells → (c : Contents) →
-        Does (file_in script.now.unit.files (typed_unit script.now.typed)) c
-        (S.taken out.old) result c (S.taken out.new) }
+    ensures does { IsTrue S.tells → DoesPuts S.taken
+        (file_in script.now.unit.files (typed_unit script.now.typed)) out.old result out.new }
     ensures file { IfOk result (λ bytes. bytes ≡ unit_file (typed_unit script.now.typed)) }
-    ensures counts { (counts : FileCounts) → Tallies result (Counted counts (S.faults out.old))
-        (Counted counts (S.faults out.new)) }
+    ensures counts { TalliesPuts S.faults result out.old out.new }
     ensures small { IfOk result (λ bytes. length bytes ≤ file_limit) }
     ensures only { IfErr result (Refusing Status.Script) }
 {
@@ -68,12 +65,10 @@ pub fn compile_script<S: Sink>(
     script: Script,
     out: &mut S,
 ) -> Result<Items<u8>, Status>
-    ensures does { IsTrue S.tells → (c : Contents) →
-        Does (compiled_in table.now (plain_script script)) c
-        (S.taken out.old) result c (S.taken out.new) }
+    ensures does { IsTrue S.tells → DoesPuts S.taken (compiled_in table.now (plain_script script))
+        out.old result out.new }
     ensures made { IfOk result (IsTreeFile table.now (plain_tree script.tree)) }
-    ensures counts { (counts : FileCounts) → Tallies result (Counted counts (S.faults out.old))
-        (Counted counts (S.faults out.new)) }
+    ensures counts { TalliesPuts S.faults result out.old out.new }
     ensures small { IfOk result (λ bytes. length bytes ≤ file_limit) }
     ensures only { IfErr result (Refusing Status.Script) }
 {
@@ -92,13 +87,11 @@ pub fn read_compiled<F: Files, S: Sink>(
     files: &mut F,
     out: &mut S,
 ) -> Result<Items<u8>, Status>
-    ensures does { IsTrue F.tells → IsTrue S.tells →
-        Does (compiled_named table.now script.now) (F.contents files.old) (S.taken out.old)
-        result (F.contents files.new) (S.taken out.new) }
+    ensures does { IsTrue F.tells → IsTrue S.tells → DoesOn F.contents S.taken
+        (compiled_named table.now script.now) files.old out.old result files.new out.new }
     // Also where files don't tell what they hold, its instructions are well stacked.
     ensures stacked { IfOk result (IsStackedFile table.now) }
-    ensures counts { Tallies result (Counted (F.counts files.old) (S.faults out.old))
-        (Counted (F.counts files.new) (S.faults out.new)) }
+    ensures counts { TalliesOn F.counts S.faults result files.old out.old files.new out.new }
     ensures same { F.contents files.new ≡ F.contents files.old }
     ensures small { IfOk result (λ bytes. length bytes ≤ file_limit) }
     ensures only { IfErr result StopsSource }
@@ -130,13 +123,11 @@ fn write_code<F: Files, S: Sink>(
     files: &mut F,
     out: &mut S,
 ) -> Result<(), Status>
-    ensures does { IsTrue F.tells → IsTrue S.tells →
-        Does (writes_code script.now bytes.now) (F.contents files.old) (S.taken out.old)
-        result (F.contents files.new) (S.taken out.new) }
-    ensures counts { Tallies result (Counted (F.counts files.old) (S.faults out.old))
-        (Counted (F.counts files.new) (S.faults out.new)) }
-    ensures names { KeepsBut (λ other. other ≡ code_name script.now)
-        (F.contents files.old) (F.contents files.new) }
+    ensures does { IsTrue F.tells → IsTrue S.tells → DoesOn F.contents S.taken
+        (writes_code script.now bytes.now) files.old out.old result files.new out.new }
+    ensures counts { TalliesOn F.counts S.faults result files.old out.old files.new out.new }
+    ensures names { KeepsBut (IsName (code_name script.now)) (F.contents files.old) (F.contents
+        files.new) }
     ensures only { IfErr result CutsShort }
 {
     match code_name(alloc, script) {
@@ -157,13 +148,11 @@ fn compile_under<F: Files, S: Sink>(
     files: &mut F,
     out: &mut S,
 ) -> Result<(), Status>
-    ensures does { IsTrue F.tells → IsTrue S.tells →
-        Does (compiles_under script.now table.now) (F.contents files.old) (S.taken out.old)
-        result (F.contents files.new) (S.taken out.new) }
-    ensures counts { Tallies result (Counted (F.counts files.old) (S.faults out.old))
-        (Counted (F.counts files.new) (S.faults out.new)) }
-    ensures names { KeepsBut (λ other. other ≡ code_name script.now)
-        (F.contents files.old) (F.contents files.new) }
+    ensures does { IsTrue F.tells → IsTrue S.tells → DoesOn F.contents S.taken
+        (compiles_under script.now table.now) files.old out.old result files.new out.new }
+    ensures counts { TalliesOn F.counts S.faults result files.old out.old files.new out.new }
+    ensures names { KeepsBut (IsName (code_name script.now)) (F.contents files.old) (F.contents
+        files.new) }
     ensures only { IfErr result StopsSource }
 {
     match read_compiled(alloc, table, script, files, out) {
@@ -181,13 +170,11 @@ pub fn compile_file<F: Files, S: Sink>(
     files: &mut F,
     out: &mut S,
 ) -> Result<(), Status>
-    ensures does { IsTrue F.tells → IsTrue S.tells →
-        Does (compiles header.now script.now) (F.contents files.old) (S.taken out.old)
-        result (F.contents files.new) (S.taken out.new) }
-    ensures counts { Tallies result (Counted (F.counts files.old) (S.faults out.old))
-        (Counted (F.counts files.new) (S.faults out.new)) }
-    ensures names { KeepsBut (λ other. other ≡ code_name script.now)
-        (F.contents files.old) (F.contents files.new) }
+    ensures does { IsTrue F.tells → IsTrue S.tells → DoesOn F.contents S.taken
+        (compiles header.now script.now) files.old out.old result files.new out.new }
+    ensures counts { TalliesOn F.counts S.faults result files.old out.old files.new out.new }
+    ensures names { KeepsBut (IsName (code_name script.now)) (F.contents files.old) (F.contents
+        files.new) }
     ensures only { IfErr result StopsSource }
 {
     match read_table(alloc, header, files, out) {

@@ -6,10 +6,8 @@ ghost use Rattle.typing_rules.specs.Meaning.{TypesUnit};
 ghost use Rattle.typing_rules.specs.UnitReading.{typed_unit};
 ghost use Rattle.nss_types.specs.Answers.{IsFaultOf};
 ghost use Rattle.typing_laws.specs.Laws.{HasCode};
-ghost use Rattle.nwq_outside.specs.Outside.{Contents};
-ghost use Rattle.nwq_outside.specs.declared.counts.FileCounts.{FileCounts};
-ghost use Rattle.command_work.specs.Work.{Does};
-ghost use Rattle.command_work.specs.Counts.{Counted, Tallies, Refusing};
+ghost use Rattle.command_work.specs.Counts.{Refusing};
+ghost use Rattle.command_work.specs.Calls.{TalliesPuts, DoesPuts};
 ghost use Rattle.command_sources.specs.Scripts.{plain_script};
 ghost use Rattle.command_compile.specs.Typings.{cause_of, plain_answer, typed_in};
 
@@ -63,15 +61,13 @@ pub fn type_script<S: Sink>(
     script: Script,
     out: &mut S,
 ) -> Result<TypedScript, Status>
-    ensures does { IsTrue S.tells → (c : Contents) →
-        Does (typed_in table.now (plain_script script)) c
-        (S.taken out.old) (plain_answer result) c (S.taken out.new) }
+    ensures does { IsTrue S.tells → DoesPuts S.taken (typed_in table.now (plain_script script))
+        out.old (plain_answer result) out.new }
     ensures same { IfOk result (λ typed. typed.unit ≡ script.unit) }
     ensures code { IfOk result (λ typed. HasCode (typed_unit typed.typed)) }
     ensures types { IfOk result
         (λ typed. TypesUnit table.now (plain_tree script.tree) (typed_unit typed.typed)) }
-    ensures counts { (counts : FileCounts) → Tallies result (Counted counts (S.faults out.old))
-        (Counted counts (S.faults out.new)) }
+    ensures counts { TalliesPuts S.faults result out.old out.new }
     ensures only { IfErr result (Refusing Status.Script) }
 {
     let Script { unit, tree } = script;

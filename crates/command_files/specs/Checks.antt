@@ -5,7 +5,7 @@ use Rattle.nwq_outside.specs.Outside.{Contents}
 use Rattle.ncs_code.specs.Plain.{PlainOp}
 use Rattle.ncs_code.specs.File.{IsCode, file_bytes}
 use Rattle.stack_rules.specs.Rules.{WellStacked}
-use Rattle.stack_check.specs.Checked.{CheckedCode}
+use Rattle.stack_check.specs.Checked.{CheckedCode, IsKeptTable, kept_table}
 use Rattle.command_work.specs.declared.flaw.CodeFlaw.TheVariants as flaw
 use Rattle.command_work.specs.declared.status.Status.{Status}
 use Rattle.command_work.specs.declared.status.Status.TheVariants.{Code}
@@ -39,6 +39,10 @@ checked_named header name = then (code_named name) (checked_in header name)
 -- the bytes of the file of this name are its instructions, which are checked under a header
 unfoldable pub loaded_in : EngineTable → List ℕ → List ℕ → Work (List PlainOp)
 loaded_in header name bytes = then (code_in name bytes) (checked_in header name)
+
+-- the table that checked code keeps meets the rules, and stands in every table that does
+abbrev pub KeepsTable : EngineTable → CheckedCode → Type 0
+KeepsTable header c = IsKeptTable header c.code (kept_table c)
 
 -- these are the bytes of a file whose instructions are well stacked under a header
 pub record IsStackedFile (header : EngineTable) (bytes : List ℕ) : Type 0 where

@@ -1,9 +1,7 @@
 ghost use Rattle.std.specs.Prelude.{◌≡◌, ◌≤◌, ℕ, length, IsTrue, IfErr};
 ghost use Rattle.nwq_value.specs.Limits.{file_limit};
-ghost use Rattle.nwq_outside.specs.Outside.{Contents};
-ghost use Rattle.nwq_outside.specs.declared.counts.FileCounts.{FileCounts};
-ghost use Rattle.command_work.specs.Work.{Does};
-ghost use Rattle.command_work.specs.Counts.{Counted, Tallies, Refusing, StopsCode};
+ghost use Rattle.command_work.specs.Counts.{Refusing, StopsCode};
+ghost use Rattle.command_work.specs.Calls.{DoesOn, TalliesOn, TalliesPuts, DoesPuts};
 ghost use Rattle.command_files.specs.Assemblies.{asm_flaw, assembly_in, assembly_named};
 
 use command_work::{CodeFlaw, Status, read_file, refuse_code};
@@ -33,10 +31,9 @@ fn assembly_of_text<S: Sink>(
     out: &mut S,
 ) -> Result<Items<u8>, Status>
     requires { length text.now ≤ file_limit }
-    ensures does { IsTrue S.tells → (c : Contents) →
-        Does (assembly_in name.now text.now) c (S.taken out.old) result c (S.taken out.new) }
-    ensures counts { (counts : FileCounts) → Tallies result (Counted counts (S.faults out.old))
-        (Counted counts (S.faults out.new)) }
+    ensures does { IsTrue S.tells → DoesPuts S.taken (assembly_in name.now text.now)
+        out.old result out.new }
+    ensures counts { TalliesPuts S.faults result out.old out.new }
     ensures only { IfErr result (Refusing Status.Code) }
 {
     match assemble(alloc, text) {
@@ -56,11 +53,9 @@ pub fn read_assembly<F: Files, S: Sink>(
     files: &mut F,
     out: &mut S,
 ) -> Result<Items<u8>, Status>
-    ensures does { IsTrue F.tells → IsTrue S.tells →
-        Does (assembly_named name.now) (F.contents files.old) (S.taken out.old)
-        result (F.contents files.new) (S.taken out.new) }
-    ensures counts { Tallies result (Counted (F.counts files.old) (S.faults out.old))
-        (Counted (F.counts files.new) (S.faults out.new)) }
+    ensures does { IsTrue F.tells → IsTrue S.tells → DoesOn F.contents S.taken
+        (assembly_named name.now) files.old out.old result files.new out.new }
+    ensures counts { TalliesOn F.counts S.faults result files.old out.old files.new out.new }
     ensures same { F.contents files.new ≡ F.contents files.old }
     ensures only { IfErr result StopsCode }
 {

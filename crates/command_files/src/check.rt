@@ -1,14 +1,11 @@
 ghost use Rattle.std.specs.Prelude.{◌≡◌, ◌++◌, ℕ, length, codes, decimal, IsTrue, IfOk, IfErr};
-ghost use Rattle.nwq_outside.specs.Outside.{Contents};
-ghost use Rattle.stack_rules.specs.Tables.{ShapeTable};
-ghost use Rattle.stack_rules.specs.Rules.{MeetsRules, WellStacked};
-ghost use Rattle.stack_check.specs.Checked.{StoredStand, kept_table};
-ghost use Rattle.nwq_outside.specs.declared.counts.FileCounts.{FileCounts};
-ghost use Rattle.command_work.specs.Work.{Does, CutsShort};
-ghost use Rattle.command_work.specs.Counts.{Counted, Tallies, Refusing, StopsCode};
+ghost use Rattle.stack_rules.specs.Rules.{WellStacked};
+ghost use Rattle.command_work.specs.Work.{CutsShort};
+ghost use Rattle.command_work.specs.Counts.{Refusing, StopsCode};
+ghost use Rattle.command_work.specs.Calls.{DoesOn, TalliesOn, TalliesPuts, DoesPuts};
 ghost use Rattle.command_files.specs.Checks.{checked_in, checked_named, plain_answer};
 ghost use Rattle.command_files.specs.Checks.{passed_line, puts_passed, checks_under, checks};
-ghost use Rattle.command_files.specs.Checks.{StopsCheck};
+ghost use Rattle.command_files.specs.Checks.{KeepsTable, StopsCheck};
 
 use crate::read_code;
 use command_sources::read_table;
@@ -29,16 +26,10 @@ pub fn check_code<S: Sink>(
     code: Code,
     out: &mut S,
 ) -> Result<Checked, Status>
-    ensures does { IsTrue S.tells → (c : Contents) →
-        Does (checked_in table.now name.now code) c
-        (S.taken out.old) (plain_answer result) c (S.taken out.new) }
-    ensures counts { (counts : FileCounts) → Tallies result (Counted counts (S.faults out.old))
-        (Counted counts (S.faults out.new)) }
-    ensures meets { IfOk result (λ checked.
-        MeetsRules table.now checked.code (kept_table checked)) }
-    // What it says of stored states stands in every table that meets the rules.
-    ensures stored { IfOk result (λ checked. (other : ShapeTable) →
-        MeetsRules table.now checked.code other → StoredStand (kept_table checked) other) }
+    ensures does { IsTrue S.tells → DoesPuts S.taken (checked_in table.now name.now code)
+        out.old (plain_answer result) out.new }
+    ensures counts { TalliesPuts S.faults result out.old out.new }
+    ensures kept { IfOk result (KeepsTable table.now) }
     ensures only { IfErr result (Refusing Status.Code) }
     // Code that is well stacked is never refused.
     ensures passes { WellStacked table.now code → IfErr result CutsShort }
@@ -59,18 +50,13 @@ pub fn read_checked<F: Files, S: Sink>(
     files: &mut F,
     out: &mut S,
 ) -> Result<Checked, Status>
-    ensures does { IsTrue F.tells → IsTrue S.tells →
-        Does (checked_named table.now name.now) (F.contents files.old) (S.taken out.old)
-        (plain_answer result) (F.contents files.new) (S.taken out.new) }
-    ensures counts { Tallies result (Counted (F.counts files.old) (S.faults out.old))
-        (Counted (F.counts files.new) (S.faults out.new)) }
+    ensures does { IsTrue F.tells → IsTrue S.tells → DoesOn F.contents S.taken
+        (checked_named table.now name.now)
+        files.old out.old (plain_answer result) files.new out.new }
+    ensures counts { TalliesOn F.counts S.faults result files.old out.old files.new out.new }
     ensures same { F.contents files.new ≡ F.contents files.old }
     // The code is well stacked by the table that is kept.
-    ensures meets { IfOk result (λ checked.
-        MeetsRules table.now checked.code (kept_table checked)) }
-    // What it says of stored states stands in every table that meets the rules.
-    ensures stored { IfOk result (λ checked. (other : ShapeTable) →
-        MeetsRules table.now checked.code other → StoredStand (kept_table checked) other) }
+    ensures kept { IfOk result (KeepsTable table.now) }
     ensures only { IfErr result StopsCode }
 {
     match read_code(alloc, name, files, out) {
@@ -92,10 +78,9 @@ fn passed_line(alloc: Global, count: u32) -> Result<Vec<u8>, NoMemory>
 /// Puts the line for a file that passed.
 #[tactic(auto, using(command_work::specs::Parts::puts_does))]
 fn put_passed<S: Sink>(alloc: Global, checked: &Checked, out: &mut S) -> Result<(), Status>
-    ensures does { IsTrue S.tells → (c : Contents) →
-        Does (puts_passed checked.now.code) c (S.taken out.old) result c (S.taken out.new) }
-    ensures counts { (counts : FileCounts) → Tallies result (Counted counts (S.faults out.old))
-        (Counted counts (S.faults out.new)) }
+    ensures does { IsTrue S.tells → DoesPuts S.taken (puts_passed checked.now.code)
+        out.old result out.new }
+    ensures counts { TalliesPuts S.faults result out.old out.new }
     ensures only { IfErr result CutsShort }
 {
     put(passed_line(alloc, checked.code().count()), out)
@@ -110,11 +95,9 @@ fn check_under<F: Files, S: Sink>(
     files: &mut F,
     out: &mut S,
 ) -> Result<(), Status>
-    ensures does { IsTrue F.tells → IsTrue S.tells →
-        Does (checks_under name.now table.now) (F.contents files.old) (S.taken out.old)
-        result (F.contents files.new) (S.taken out.new) }
-    ensures counts { Tallies result (Counted (F.counts files.old) (S.faults out.old))
-        (Counted (F.counts files.new) (S.faults out.new)) }
+    ensures does { IsTrue F.tells → IsTrue S.tells → DoesOn F.contents S.taken
+        (checks_under name.now table.now) files.old out.old result files.new out.new }
+    ensures counts { TalliesOn F.counts S.faults result files.old out.old files.new out.new }
     ensures same { F.contents files.new ≡ F.contents files.old }
     ensures only { IfErr result StopsCode }
 {
@@ -133,11 +116,9 @@ pub fn check_file<F: Files, S: Sink>(
     files: &mut F,
     out: &mut S,
 ) -> Result<(), Status>
-    ensures does { IsTrue F.tells → IsTrue S.tells →
-        Does (checks header.now name.now) (F.contents files.old) (S.taken out.old)
-        result (F.contents files.new) (S.taken out.new) }
-    ensures counts { Tallies result (Counted (F.counts files.old) (S.faults out.old))
-        (Counted (F.counts files.new) (S.faults out.new)) }
+    ensures does { IsTrue F.tells → IsTrue S.tells → DoesOn F.contents S.taken
+        (checks header.now name.now) files.old out.old result files.new out.new }
+    ensures counts { TalliesOn F.counts S.faults result files.old out.old files.new out.new }
     ensures same { F.contents files.new ≡ F.contents files.old }
     ensures only { IfErr result StopsCheck }
 {

@@ -1,11 +1,10 @@
 ghost use Rattle.std.specs.Prelude.{◌≡◌, ◌≤◌, ℕ, List, length, IsTrue, IfOk, IfErr};
 ghost use Rattle.nwq_value.specs.Limits.{file_limit};
-ghost use Rattle.nwq_outside.specs.Outside.{Contents};
 ghost use Rattle.ncs_code.specs.Plain.{PlainOp};
 ghost use Rattle.ncs_code.specs.File.{IsCode, file_bytes};
-ghost use Rattle.nwq_outside.specs.declared.counts.FileCounts.{FileCounts};
-ghost use Rattle.command_work.specs.Work.{Does, CutsShort};
-ghost use Rattle.command_work.specs.Counts.{Counted, Tallies, Refusing, StopsCode};
+ghost use Rattle.command_work.specs.Work.{CutsShort};
+ghost use Rattle.command_work.specs.Counts.{Refusing, StopsCode};
+ghost use Rattle.command_work.specs.Calls.{DoesOn, TalliesOn, TalliesPuts, DoesPuts};
 ghost use Rattle.command_files.specs.Codes.{load_flaw, code_in, code_named};
 
 use command_work::{CodeFlaw, Status, read_file, refuse_code};
@@ -38,10 +37,9 @@ pub fn code_of_bytes<S: Sink>(
     out: &mut S,
 ) -> Result<Code, Status>
     requires size { length bytes.items ≤ file_limit }
-    ensures does { IsTrue S.tells → (c : Contents) →
-        Does (code_in name.now bytes.items) c (S.taken out.old) result c (S.taken out.new) }
-    ensures counts { (counts : FileCounts) → Tallies result (Counted counts (S.faults out.old))
-        (Counted counts (S.faults out.new)) }
+    ensures does { IsTrue S.tells → DoesPuts S.taken (code_in name.now bytes.items)
+        out.old result out.new }
+    ensures counts { TalliesPuts S.faults result out.old out.new }
     ensures only { IfErr result (Refusing Status.Code) }
     // The bytes of a file are refused never, and its instructions are loaded.
     ensures one { (ops : List PlainOp) → IsCode ops → bytes.items ≡ file_bytes ops →
@@ -66,11 +64,9 @@ pub fn read_code<F: Files, S: Sink>(
     files: &mut F,
     out: &mut S,
 ) -> Result<Code, Status>
-    ensures does { IsTrue F.tells → IsTrue S.tells →
-        Does (code_named name.now) (F.contents files.old) (S.taken out.old)
-        result (F.contents files.new) (S.taken out.new) }
-    ensures counts { Tallies result (Counted (F.counts files.old) (S.faults out.old))
-        (Counted (F.counts files.new) (S.faults out.new)) }
+    ensures does { IsTrue F.tells → IsTrue S.tells → DoesOn F.contents S.taken (code_named name.now)
+        files.old out.old result files.new out.new }
+    ensures counts { TalliesOn F.counts S.faults result files.old out.old files.new out.new }
     ensures same { F.contents files.new ≡ F.contents files.old }
     ensures only { IfErr result StopsCode }
 {

@@ -1,11 +1,10 @@
 //! The commands that turn a file into a text, or a text into a file.
 
 ghost use Rattle.std.specs.Prelude.{◌≡◌, ℕ, length, codes, IsTrue, IfErr};
-ghost use Rattle.nwq_outside.specs.Outside.{Contents};
 ghost use Rattle.gff_tree.specs.Whole.{plain_gff};
-ghost use Rattle.nwq_outside.specs.declared.counts.FileCounts.{FileCounts};
-ghost use Rattle.command_work.specs.Work.{Does, CutsShort};
-ghost use Rattle.command_work.specs.Counts.{Counted, Tallies, KeepsBut, StopsArea, StopsCode};
+ghost use Rattle.command_work.specs.Work.{CutsShort};
+ghost use Rattle.command_work.specs.Counts.{KeepsBut, StopsArea, StopsCode};
+ghost use Rattle.command_work.specs.Calls.{DoesOn, TalliesOn, TalliesPuts, IsName, DoesPuts};
 ghost use Rattle.command_files.specs.Texts.{done_line};
 ghost use Rattle.command_files.specs.Commands.{puts_tree, shows_tree, writes_and_puts};
 ghost use Rattle.command_files.specs.Commands.{writes_listing, disassembles, writes_assembly};
@@ -27,10 +26,9 @@ use std::alloc::Global;
 /// Puts the text of a tree.
 #[tactic(auto, using(command_work::specs::Parts::puts_does))]
 fn put_tree<S: Sink>(alloc: Global, tree: &Gff, out: &mut S) -> Result<(), Status>
-    ensures does { IsTrue S.tells → (c : Contents) →
-        Does (puts_tree (plain_gff tree.now)) c (S.taken out.old) result c (S.taken out.new) }
-    ensures counts { (counts : FileCounts) → Tallies result (Counted counts (S.faults out.old))
-        (Counted counts (S.faults out.new)) }
+    ensures does { IsTrue S.tells → DoesPuts S.taken (puts_tree (plain_gff tree.now))
+        out.old result out.new }
+    ensures counts { TalliesPuts S.faults result out.old out.new }
     ensures only { IfErr result CutsShort }
 {
     put(tree_text(alloc, tree), out)
@@ -44,11 +42,9 @@ pub fn show_tree<F: Files, S: Sink>(
     files: &mut F,
     out: &mut S,
 ) -> Result<(), Status>
-    ensures does { IsTrue F.tells → IsTrue S.tells →
-        Does (shows_tree file.now) (F.contents files.old) (S.taken out.old)
-        result (F.contents files.new) (S.taken out.new) }
-    ensures counts { Tallies result (Counted (F.counts files.old) (S.faults out.old))
-        (Counted (F.counts files.new) (S.faults out.new)) }
+    ensures does { IsTrue F.tells → IsTrue S.tells → DoesOn F.contents S.taken (shows_tree file.now)
+        files.old out.old result files.new out.new }
+    ensures counts { TalliesOn F.counts S.faults result files.old out.old files.new out.new }
     ensures same { F.contents files.new ≡ F.contents files.old }
     ensures only { IfErr result StopsArea }
 {
@@ -69,14 +65,11 @@ pub fn write_and_put<F: Files, S: Sink>(
     files: &mut F,
     out: &mut S,
 ) -> Result<(), Status>
-    ensures does { IsTrue F.tells → IsTrue S.tells →
-        Does (writes_and_puts to.now bytes.now (done_line done.now to.now count))
-        (F.contents files.old) (S.taken out.old)
-        result (F.contents files.new) (S.taken out.new) }
-    ensures counts { Tallies result (Counted (F.counts files.old) (S.faults out.old))
-        (Counted (F.counts files.new) (S.faults out.new)) }
-    ensures names { KeepsBut (λ other. other ≡ to.now)
-        (F.contents files.old) (F.contents files.new) }
+    ensures does { IsTrue F.tells → IsTrue S.tells → DoesOn F.contents S.taken
+        (writes_and_puts to.now bytes.now (done_line done.now to.now count))
+        files.old out.old result files.new out.new }
+    ensures counts { TalliesOn F.counts S.faults result files.old out.old files.new out.new }
+    ensures names { KeepsBut (IsName to.now) (F.contents files.old) (F.contents files.new) }
     ensures only { IfErr result CutsShort }
 {
     match write_file(to, bytes, files) {
@@ -94,13 +87,10 @@ fn write_listing<F: Files, S: Sink>(
     files: &mut F,
     out: &mut S,
 ) -> Result<(), Status>
-    ensures does { IsTrue F.tells → IsTrue S.tells →
-        Does (writes_listing to.now code.now) (F.contents files.old) (S.taken out.old)
-        result (F.contents files.new) (S.taken out.new) }
-    ensures counts { Tallies result (Counted (F.counts files.old) (S.faults out.old))
-        (Counted (F.counts files.new) (S.faults out.new)) }
-    ensures names { KeepsBut (λ other. other ≡ to.now)
-        (F.contents files.old) (F.contents files.new) }
+    ensures does { IsTrue F.tells → IsTrue S.tells → DoesOn F.contents S.taken
+        (writes_listing to.now code.now) files.old out.old result files.new out.new }
+    ensures counts { TalliesOn F.counts S.faults result files.old out.old files.new out.new }
+    ensures names { KeepsBut (IsName to.now) (F.contents files.old) (F.contents files.new) }
     ensures only { IfErr result CutsShort }
 {
     match disassemble(alloc, code) {
@@ -129,13 +119,10 @@ pub fn disassemble_file<F: Files, S: Sink>(
     files: &mut F,
     out: &mut S,
 ) -> Result<(), Status>
-    ensures does { IsTrue F.tells → IsTrue S.tells →
-        Does (disassembles file.now to.now) (F.contents files.old) (S.taken out.old)
-        result (F.contents files.new) (S.taken out.new) }
-    ensures counts { Tallies result (Counted (F.counts files.old) (S.faults out.old))
-        (Counted (F.counts files.new) (S.faults out.new)) }
-    ensures names { KeepsBut (λ other. other ≡ to.now)
-        (F.contents files.old) (F.contents files.new) }
+    ensures does { IsTrue F.tells → IsTrue S.tells → DoesOn F.contents S.taken
+        (disassembles file.now to.now) files.old out.old result files.new out.new }
+    ensures counts { TalliesOn F.counts S.faults result files.old out.old files.new out.new }
+    ensures names { KeepsBut (IsName to.now) (F.contents files.old) (F.contents files.new) }
     ensures only { IfErr result StopsCode }
 {
     match read_code(alloc, file, files, out) {
@@ -153,13 +140,10 @@ pub fn assemble_file<F: Files, S: Sink>(
     files: &mut F,
     out: &mut S,
 ) -> Result<(), Status>
-    ensures does { IsTrue F.tells → IsTrue S.tells →
-        Does (assembles file.now to.now) (F.contents files.old) (S.taken out.old)
-        result (F.contents files.new) (S.taken out.new) }
-    ensures counts { Tallies result (Counted (F.counts files.old) (S.faults out.old))
-        (Counted (F.counts files.new) (S.faults out.new)) }
-    ensures names { KeepsBut (λ other. other ≡ to.now)
-        (F.contents files.old) (F.contents files.new) }
+    ensures does { IsTrue F.tells → IsTrue S.tells → DoesOn F.contents S.taken
+        (assembles file.now to.now) files.old out.old result files.new out.new }
+    ensures counts { TalliesOn F.counts S.faults result files.old out.old files.new out.new }
+    ensures names { KeepsBut (IsName to.now) (F.contents files.old) (F.contents files.new) }
     ensures only { IfErr result StopsCode }
 {
     match read_assembly(alloc, file, files, out) {

@@ -1,13 +1,11 @@
 ghost use Rattle.std.specs.Prelude.{◌≡◌, ◌≤◌, ◌<◌, ℕ, length, IsTrue, IfOk, IfErr, None};
 ghost use Rattle.nwq_value.specs.Limits.{file_limit};
-ghost use Rattle.nwq_outside.specs.Outside.{Contents};
 ghost use Rattle.gff_bytes.specs.File.{open_fault};
 ghost use Rattle.gff_tree.specs.Whole.{plain_gff};
 ghost use Rattle.gff_tree.specs.Count.{node_count};
 ghost use Rattle.gff_read.specs.Stands.{Stands};
-ghost use Rattle.nwq_outside.specs.declared.counts.FileCounts.{FileCounts};
-ghost use Rattle.command_work.specs.Work.{Does};
-ghost use Rattle.command_work.specs.Counts.{Counted, Tallies, Refusing, StopsArea};
+ghost use Rattle.command_work.specs.Counts.{Refusing, StopsArea};
+ghost use Rattle.command_work.specs.Calls.{DoesOn, TalliesOn, TalliesPuts, DoesPuts};
 ghost use Rattle.command_files.specs.Trees.{open_flaw, tree_flaw, tree_in, tree_named};
 ghost use Rattle.command_files.specs.Trees.{plain_answer};
 
@@ -52,11 +50,9 @@ fn tree_of_view<S: Sink>(
     out: &mut S,
 ) -> Result<Gff, Status>
     requires opens { open_fault view.now ≡ None }
-    ensures does { IsTrue S.tells → (c : Contents) →
-        Does (tree_in name.now view.now) c
-        (S.taken out.old) (plain_answer result) c (S.taken out.new) }
-    ensures counts { (counts : FileCounts) → Tallies result (Counted counts (S.faults out.old))
-        (Counted counts (S.faults out.new)) }
+    ensures does { IsTrue S.tells → DoesPuts S.taken (tree_in name.now view.now)
+        out.old (plain_answer result) out.new }
+    ensures counts { TalliesPuts S.faults result out.old out.new }
     ensures stands { IfOk result (λ tree. Stands view.now (plain_gff tree)) }
     // The structs of a tree can be numbered by 32 bits.
     ensures few { IfOk result (λ tree. node_count (plain_gff tree).top < 4294967296) }
@@ -80,11 +76,9 @@ pub fn tree_of_bytes<S: Sink>(
     out: &mut S,
 ) -> Result<Gff, Status>
     requires { length bytes.now ≤ file_limit }
-    ensures does { IsTrue S.tells → (c : Contents) →
-        Does (tree_in name.now bytes.now) c
-        (S.taken out.old) (plain_answer result) c (S.taken out.new) }
-    ensures counts { (counts : FileCounts) → Tallies result (Counted counts (S.faults out.old))
-        (Counted counts (S.faults out.new)) }
+    ensures does { IsTrue S.tells → DoesPuts S.taken (tree_in name.now bytes.now)
+        out.old (plain_answer result) out.new }
+    ensures counts { TalliesPuts S.faults result out.old out.new }
     // What is read is what the bytes stand for.
     ensures stands { IfOk result (λ tree. Stands bytes.now (plain_gff tree)) }
     // The structs of a tree can be numbered by 32 bits.
@@ -105,11 +99,9 @@ pub fn read_tree<F: Files, S: Sink>(
     files: &mut F,
     out: &mut S,
 ) -> Result<Gff, Status>
-    ensures does { IsTrue F.tells → IsTrue S.tells →
-        Does (tree_named name.now) (F.contents files.old) (S.taken out.old)
-        (plain_answer result) (F.contents files.new) (S.taken out.new) }
-    ensures counts { Tallies result (Counted (F.counts files.old) (S.faults out.old))
-        (Counted (F.counts files.new) (S.faults out.new)) }
+    ensures does { IsTrue F.tells → IsTrue S.tells → DoesOn F.contents S.taken (tree_named name.now)
+        files.old out.old (plain_answer result) files.new out.new }
+    ensures counts { TalliesOn F.counts S.faults result files.old out.old files.new out.new }
     ensures same { F.contents files.new ≡ F.contents files.old }
     // The structs of the tree can be numbered by 32 bits.
     ensures few { IfOk result (λ tree. node_count (plain_gff tree).top < 4294967296) }

@@ -1,11 +1,11 @@
 //! The command: what a play needs is read, in order, and the plan is played.
-ghost use Rattle.std.specs.Prelude.{◌≡◌, ◌<◌, ◌^◌, length, map, IsTrue, IfErr};
+ghost use Rattle.std.specs.Prelude.{◌<◌, ◌^◌, length, map, IsTrue, IfErr};
 ghost use Rattle.plan_text.specs.Plans.{IsPlan};
 ghost use Rattle.stack_rules.specs.Laws.{AllMeet};
 ghost use Rattle.world_core.specs.Calls.{AreServing, cells_of};
 ghost use Rattle.ncs_machine.specs.Host.{scripts_of, tables_of};
-ghost use Rattle.command_work.specs.Work.{Does};
-ghost use Rattle.command_work.specs.Counts.{Counted, Tallies, KeepsBut};
+ghost use Rattle.command_work.specs.Counts.{KeepsBut};
+ghost use Rattle.command_work.specs.Calls.{DoesOn, TalliesOn, IsName};
 ghost use Rattle.command_play.specs.Games.{plays_area, plays_scripts, plays_under, plays};
 ghost use Rattle.command_play.specs.Tellings.{IsGameFile, StopsGame};
 
@@ -37,14 +37,11 @@ fn play_area<F: Files, S: Sink>(
     requires meets { AllMeet table.now (scripts_of scripts.now) (tables_of scripts.now) }
     requires hooks { AreServing (map (λ h. h.known) hooks.now.all.items) }
     requires plan { IsPlan plan.now }
-    ensures does { IsTrue F.tells → IsTrue S.tells →
-        Does (plays_area (cells_of (map (λ h. h.known) hooks.now.all.items)) table.now area.now
-        plan.now to.now (scripts_of scripts.now)) (F.contents files.old) (S.taken out.old)
-        result (F.contents files.new) (S.taken out.new) }
-    ensures counts { Tallies result (Counted (F.counts files.old) (S.faults out.old))
-        (Counted (F.counts files.new) (S.faults out.new)) }
-    ensures names { KeepsBut (λ other. other ≡ to.now)
-        (F.contents files.old) (F.contents files.new) }
+    ensures does { IsTrue F.tells → IsTrue S.tells → DoesOn F.contents S.taken (plays_area
+        (cells_of (map (λ h. h.known) hooks.now.all.items)) table.now area.now plan.now to.now
+        (scripts_of scripts.now)) files.old out.old result files.new out.new }
+    ensures counts { TalliesOn F.counts S.faults result files.old out.old files.new out.new }
+    ensures names { KeepsBut (IsName to.now) (F.contents files.old) (F.contents files.new) }
     ensures only { IfErr result StopsGame }
 {
     match read_area(alloc, area, files, out) {
@@ -67,12 +64,10 @@ fn play_scripts<F: Files, S: Sink>(
 ) -> Result<(), Status>
     requires hooks { AreServing (map (λ h. h.known) hooks.now.all.items) }
     requires plan { IsPlan plan.now }
-    ensures does { IsTrue F.tells → IsTrue S.tells →
-        Does (plays_scripts (cells_of (map (λ h. h.known) hooks.now.all.items)) area.now plan.now
-        to.now table.now) (F.contents files.old) (S.taken out.old)
-        result (F.contents files.new) (S.taken out.new) }
-    ensures counts { Tallies result (Counted (F.counts files.old) (S.faults out.old))
-        (Counted (F.counts files.new) (S.faults out.new)) }
+    ensures does { IsTrue F.tells → IsTrue S.tells → DoesOn F.contents S.taken (plays_scripts
+        (cells_of (map (λ h. h.known) hooks.now.all.items)) area.now plan.now to.now table.now)
+        files.old out.old result files.new out.new }
+    ensures counts { TalliesOn F.counts S.faults result files.old out.old files.new out.new }
     ensures names { KeepsBut (IsGameFile to.now) (F.contents files.old) (F.contents files.new) }
     ensures only { IfErr result StopsGame }
 {
@@ -96,12 +91,10 @@ fn play_under<F: Files, S: Sink>(
 ) -> Result<(), Status>
     requires hooks { AreServing (map (λ h. h.known) hooks.now.all.items) }
     requires plan { IsPlan plan.now }
-    ensures does { IsTrue F.tells → IsTrue S.tells →
-        Does (plays_under (cells_of (map (λ h. h.known) hooks.now.all.items)) header.now area.now
-        to.now plan.now) (F.contents files.old) (S.taken out.old)
-        result (F.contents files.new) (S.taken out.new) }
-    ensures counts { Tallies result (Counted (F.counts files.old) (S.faults out.old))
-        (Counted (F.counts files.new) (S.faults out.new)) }
+    ensures does { IsTrue F.tells → IsTrue S.tells → DoesOn F.contents S.taken (plays_under
+        (cells_of (map (λ h. h.known) hooks.now.all.items)) header.now area.now to.now plan.now)
+        files.old out.old result files.new out.new }
+    ensures counts { TalliesOn F.counts S.faults result files.old out.old files.new out.new }
     ensures names { KeepsBut (IsGameFile to.now) (F.contents files.old) (F.contents files.new) }
     ensures only { IfErr result StopsGame }
 {
@@ -125,12 +118,10 @@ pub fn play_files<F: Files, S: Sink>(
     out: &mut S,
 ) -> Result<(), Status>
     requires hooks { AreServing (map (λ h. h.known) hooks.now.all.items) }
-    ensures does { IsTrue F.tells → IsTrue S.tells →
-        Does (plays (cells_of (map (λ h. h.known) hooks.now.all.items)) header.now area.now
-        plan.now to.now) (F.contents files.old) (S.taken out.old)
-        result (F.contents files.new) (S.taken out.new) }
-    ensures counts { Tallies result (Counted (F.counts files.old) (S.faults out.old))
-        (Counted (F.counts files.new) (S.faults out.new)) }
+    ensures does { IsTrue F.tells → IsTrue S.tells → DoesOn F.contents S.taken (plays
+        (cells_of (map (λ h. h.known) hooks.now.all.items)) header.now area.now plan.now to.now)
+        files.old out.old result files.new out.new }
+    ensures counts { TalliesOn F.counts S.faults result files.old out.old files.new out.new }
     // The files of bytecode of scripts, and the file of the area that is left, alone are written.
     ensures names { KeepsBut (IsGameFile to.now) (F.contents files.old) (F.contents files.new) }
     ensures only { IfErr result StopsGame }

@@ -1,11 +1,11 @@
 //! The play of a plan, and what it leaves.
-ghost use Rattle.std.specs.Prelude.{◌≡◌, ◌<◌, ◌^◌, length, map, IsTrue, IfErr};
+ghost use Rattle.std.specs.Prelude.{◌<◌, ◌^◌, length, map, IsTrue, IfErr};
 ghost use Rattle.plan_text.specs.Plans.{IsPlan};
 ghost use Rattle.stack_rules.specs.Laws.{AllMeet};
 ghost use Rattle.world_core.specs.Calls.{AreServing, cells_of};
 ghost use Rattle.ncs_machine.specs.Host.{scripts_of, tables_of};
-ghost use Rattle.command_work.specs.Work.{Does};
-ghost use Rattle.command_work.specs.Counts.{Counted, Tallies, KeepsBut};
+ghost use Rattle.command_work.specs.Counts.{KeepsBut};
+ghost use Rattle.command_work.specs.Calls.{DoesOn, TalliesOn, IsName};
 ghost use Rattle.command_play.specs.Games.{plays_plan};
 ghost use Rattle.command_play.specs.Tellings.{StopsGame};
 
@@ -37,14 +37,11 @@ pub(crate) fn play_plan<F: Files, S: Sink>(
     requires meets { AllMeet table.now (scripts_of scripts.now) (tables_of scripts.now) }
     requires hooks { AreServing (map (λ h. h.known) hooks.now.all.items) }
     requires plan { IsPlan plan.now }
-    ensures does { IsTrue F.tells → IsTrue S.tells →
-        Does (plays_plan (cells_of (map (λ h. h.known) hooks.now.all.items)) table.now area
-        plan.now (scripts_of scripts.now) to.now) (F.contents files.old) (S.taken out.old)
-        result (F.contents files.new) (S.taken out.new) }
-    ensures counts { Tallies result (Counted (F.counts files.old) (S.faults out.old))
-        (Counted (F.counts files.new) (S.faults out.new)) }
-    ensures names { KeepsBut (λ other. other ≡ to.now)
-        (F.contents files.old) (F.contents files.new) }
+    ensures does { IsTrue F.tells → IsTrue S.tells → DoesOn F.contents S.taken (plays_plan
+        (cells_of (map (λ h. h.known) hooks.now.all.items)) table.now area plan.now
+        (scripts_of scripts.now) to.now) files.old out.old result files.new out.new }
+    ensures counts { TalliesOn F.counts S.faults result files.old out.old files.new out.new }
+    ensures names { KeepsBut (IsName to.now) (F.contents files.old) (F.contents files.new) }
     ensures only { IfErr result StopsGame }
 {
     match play_lines(alloc, table, area, plan, scripts, hooks, out) {

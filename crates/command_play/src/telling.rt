@@ -1,15 +1,14 @@
 //! What a play leaves: its area in a file, and the text of its end.
-ghost use Rattle.std.specs.Prelude.{◌≡◌, ℕ, List, IsTrue, IfErr};
-ghost use Rattle.nwq_outside.specs.Outside.{Contents};
+ghost use Rattle.std.specs.Prelude.{ℕ, List, IsTrue, IfErr};
 ghost use Rattle.area_back.specs.Back.{tree_back};
 ghost use Rattle.saved_state.specs.declared.saved.Saved.{Saved as SavedView};
 ghost use Rattle.world_rules.specs.Plays.{PlayEnd, Played as PlayedView};
 ghost use Rattle.ncs_machine.specs.Host.{scripts_of};
 ghost use Rattle.module_player.specs.Answers.{EndsAs};
 ghost use Rattle.module_player.specs.EndTexts.{HasText, IsEnding};
-ghost use Rattle.nwq_outside.specs.declared.counts.FileCounts.{FileCounts};
 ghost use Rattle.command_work.specs.Work.{Does, Puts, Ends, then, puts};
-ghost use Rattle.command_work.specs.Counts.{Counted, Tallies, Refusing, KeepsBut};
+ghost use Rattle.command_work.specs.Counts.{Refusing, KeepsBut};
+ghost use Rattle.command_work.specs.Calls.{DoesOn, TalliesOn, TalliesPuts, IsName, DoesPuts};
 ghost use Rattle.play_inputs.specs.Finals.{final_written};
 ghost use Rattle.command_play.specs.Games.{ends_by, tells_end};
 ghost use Rattle.command_play.specs.Tellings.{StopsEnd};
@@ -28,10 +27,9 @@ use world_core::World;
 /// Puts the text at the end of a play that a limit ended.
 #[tactic(auto, using(crate::proofs::TellLemmas::limits))]
 pub fn tell_limit<S: Sink>(text: Vec<u8>, out: &mut S) -> Result<(), Status>
-    ensures does { IsTrue S.tells → (c : Contents) →
-        Does (Puts text.items (Ends Status.Limit)) c (S.taken out.old) result c (S.taken out.new) }
-    ensures counts { (counts : FileCounts) → Tallies result (Counted counts (S.faults out.old))
-        (Counted counts (S.faults out.new)) }
+    ensures does { IsTrue S.tells → DoesPuts S.taken (Puts text.items (Ends Status.Limit))
+        out.old result out.new }
+    ensures counts { TalliesPuts S.faults result out.old out.new }
     ensures only { IfErr result (Refusing Status.Limit) }
 {
     match put(Ok(text), out) {
@@ -50,14 +48,11 @@ fn leave_area<F: Files, S: Sink>(
     files: &mut F,
     out: &mut S,
 ) -> Result<(), Status>
-    ensures does { IsTrue F.tells → IsTrue S.tells →
-        Does (then (final_written to.now (tree_back area)) (λ done. puts text.items))
-        (F.contents files.old) (S.taken out.old)
-        result (F.contents files.new) (S.taken out.new) }
-    ensures counts { Tallies result (Counted (F.counts files.old) (S.faults out.old))
-        (Counted (F.counts files.new) (S.faults out.new)) }
-    ensures names { KeepsBut (λ other. other ≡ to.now)
-        (F.contents files.old) (F.contents files.new) }
+    ensures does { IsTrue F.tells → IsTrue S.tells → DoesOn F.contents S.taken
+        (then (final_written to.now (tree_back area)) (λ done. puts text.items))
+        files.old out.old result files.new out.new }
+    ensures counts { TalliesOn F.counts S.faults result files.old out.old files.new out.new }
+    ensures names { KeepsBut (IsName to.now) (F.contents files.old) (F.contents files.new) }
     ensures only { IfErr result (Refusing Status.Area) }
 {
     match write_area(alloc, to, area, files, out) {
@@ -84,10 +79,8 @@ fn end_by<F: Files, S: Sink>(
     ensures does { IsTrue F.tells → IsTrue S.tells → (ending : PlayEnd) → EndsAs how ending →
         Does (ends_by ending to.now area text.items) (F.contents files.old) (S.taken out.old)
         result (F.contents files.new) (S.taken out.new) }
-    ensures counts { Tallies result (Counted (F.counts files.old) (S.faults out.old))
-        (Counted (F.counts files.new) (S.faults out.new)) }
-    ensures names { KeepsBut (λ other. other ≡ to.now)
-        (F.contents files.old) (F.contents files.new) }
+    ensures counts { TalliesOn F.counts S.faults result files.old out.old files.new out.new }
+    ensures names { KeepsBut (IsName to.now) (F.contents files.old) (F.contents files.new) }
     ensures only { IfErr result StopsEnd }
 {
     match how {
@@ -123,10 +116,8 @@ pub fn tell_end<F: Files, S: Sink>(
         Does (tells_end to.now (scripts_of scripts.now) p)
         (F.contents files.old) (S.taken out.old)
         result (F.contents files.new) (S.taken out.new) }
-    ensures counts { Tallies result (Counted (F.counts files.old) (S.faults out.old))
-        (Counted (F.counts files.new) (S.faults out.new)) }
-    ensures names { KeepsBut (λ other. other ≡ to.now)
-        (F.contents files.old) (F.contents files.new) }
+    ensures counts { TalliesOn F.counts S.faults result files.old out.old files.new out.new }
+    ensures names { KeepsBut (IsName to.now) (F.contents files.old) (F.contents files.new) }
     ensures only { IfErr result StopsEnd }
 {
     match end_text(alloc, world, scripts, played) {

@@ -2,17 +2,14 @@
 ghost use Rattle.std.specs.Prelude.{◌≡◌, ◌<◌, ◌^◌, ℕ, List, [], length, map, IsTrue, IfOk, IfErr};
 ghost use Rattle.plan_text.specs.Plans.{IsPlan};
 ghost use Rattle.stack_rules.specs.Laws.{AllMeet};
-ghost use Rattle.world_rules.specs.Trace.{trace_text};
 ghost use Rattle.world_core.specs.Calls.{AreServing, cells_of};
 ghost use Rattle.ncs_machine.specs.Host.{scripts_of, tables_of};
-ghost use Rattle.ncs_machine.specs.Stored.{StatesFit};
 ghost use Rattle.module_player.specs.EndTexts.{HasText, IsEnding};
-ghost use Rattle.nwq_outside.specs.declared.counts.FileCounts.{FileCounts};
 ghost use Rattle.command_work.specs.Work.{CutsShort};
-ghost use Rattle.command_work.specs.Counts.{Counted, Tallies};
+ghost use Rattle.command_work.specs.Calls.{TalliesPuts};
 ghost use Rattle.play_worlds.specs.Worlds.{plan_world};
-ghost use Rattle.command_plays.specs.Plays.{played};
-ghost use Rattle.command_plays.specs.Tellings.{TakesText};
+ghost use Rattle.command_plays.specs.Plays.{FitListed, played};
+ghost use Rattle.command_plays.specs.Tellings.{TakesLines};
 
 use crate::telling::told_whole;
 use area_tree::Area;
@@ -43,19 +40,17 @@ fn play_out<S: Sink>(
     requires meets { AllMeet table.now (scripts_of scripts.now) (tables_of scripts.now) }
     requires hooks { AreServing (map (λ h. h.known) hooks.now.all.items) }
     requires plan { IsPlan plan.now }
-    requires fit { StatesFit (scripts_of scripts.now) (tables_of scripts.now) world.old.world }
+    requires fit { FitListed scripts.now world.old.world }
     requires quiet { world.old.world.trace ≡ [] }
     requires next { world.old.world.agenda.next < 2 ^ 61 }
     ensures told { IfOk result (λ answer. HasText answer.how) }
-    ensures ending { IfOk result (λ answer. IsEnding answer
-        (played (cells_of (map (λ h. h.known) hooks.now.all.items)) table.now plan.now
+    ensures ending { IfOk result (λ answer. IsEnding answer (played
+        (cells_of (map (λ h. h.known) hooks.now.all.items)) table.now plan.now
         (scripts_of scripts.now) world.old.world) world.new.world) }
-    ensures trace { IsTrue S.tells → TakesText (trace_text
-        (played (cells_of (map (λ h. h.known) hooks.now.all.items)) table.now plan.now
-        (scripts_of scripts.now) world.old.world).last.trace)
-        (S.taken out.old) result (S.taken out.new) }
-    ensures counts { (counts : FileCounts) → Tallies result (Counted counts (S.faults out.old))
-        (Counted counts (S.faults out.new)) }
+    ensures trace { IsTrue S.tells → TakesLines S.taken (played
+        (cells_of (map (λ h. h.known) hooks.now.all.items)) table.now plan.now
+        (scripts_of scripts.now) world.old.world) out.old result out.new }
+    ensures counts { TalliesPuts S.faults result out.old out.new }
     ensures only { IfErr result CutsShort }
 {
     let played = play(
@@ -86,19 +81,17 @@ fn play_world<S: Sink>(
     requires meets { AllMeet table.now (scripts_of scripts.now) (tables_of scripts.now) }
     requires hooks { AreServing (map (λ h. h.known) hooks.now.all.items) }
     requires plan { IsPlan plan.now }
-    requires fit { StatesFit (scripts_of scripts.now) (tables_of scripts.now) world.world }
+    requires fit { FitListed scripts.now world.world }
     requires quiet { world.world.trace ≡ [] }
     requires next { world.world.agenda.next < 2 ^ 61 }
     ensures told { IfOk result (λ answer. HasText answer.1.how) }
-    ensures ending { IfOk result (λ answer. IsEnding answer.1
-        (played (cells_of (map (λ h. h.known) hooks.now.all.items)) table.now plan.now
+    ensures ending { IfOk result (λ answer. IsEnding answer.1 (played
+        (cells_of (map (λ h. h.known) hooks.now.all.items)) table.now plan.now
         (scripts_of scripts.now) world.world) answer.0.world) }
-    ensures trace { IsTrue S.tells → TakesText (trace_text
-        (played (cells_of (map (λ h. h.known) hooks.now.all.items)) table.now plan.now
-        (scripts_of scripts.now) world.world).last.trace)
-        (S.taken out.old) result (S.taken out.new) }
-    ensures counts { (counts : FileCounts) → Tallies result (Counted counts (S.faults out.old))
-        (Counted counts (S.faults out.new)) }
+    ensures trace { IsTrue S.tells → TakesLines S.taken (played
+        (cells_of (map (λ h. h.known) hooks.now.all.items)) table.now plan.now
+        (scripts_of scripts.now) world.world) out.old result out.new }
+    ensures counts { TalliesPuts S.faults result out.old out.new }
     ensures only { IfErr result CutsShort }
 {
     let mut world = world;
@@ -128,16 +121,14 @@ pub fn play_lines<S: Sink>(
     requires hooks { AreServing (map (λ h. h.known) hooks.now.all.items) }
     requires plan { IsPlan plan.now }
     ensures told { IfOk result (λ answer. HasText answer.1.how) }
-    ensures ending { IfOk result (λ answer. IsEnding answer.1
-        (played (cells_of (map (λ h. h.known) hooks.now.all.items)) table.now plan.now
+    ensures ending { IfOk result (λ answer. IsEnding answer.1 (played
+        (cells_of (map (λ h. h.known) hooks.now.all.items)) table.now plan.now
         (scripts_of scripts.now) (plan_world area plan.now)) answer.0.world) }
     // The sink took the play's lines, or a prefix of them where the play was cut short.
-    ensures trace { IsTrue S.tells → TakesText (trace_text
-        (played (cells_of (map (λ h. h.known) hooks.now.all.items)) table.now plan.now
-        (scripts_of scripts.now) (plan_world area plan.now)).last.trace)
-        (S.taken out.old) result (S.taken out.new) }
-    ensures counts { (counts : FileCounts) → Tallies result (Counted counts (S.faults out.old))
-        (Counted counts (S.faults out.new)) }
+    ensures trace { IsTrue S.tells → TakesLines S.taken (played
+        (cells_of (map (λ h. h.known) hooks.now.all.items)) table.now plan.now
+        (scripts_of scripts.now) (plan_world area plan.now)) out.old result out.new }
+    ensures counts { TalliesPuts S.faults result out.old out.new }
     ensures only { IfErr result CutsShort }
 {
     match world_of(alloc, area, plan) {

@@ -4,17 +4,14 @@ ghost use Rattle.std.specs.Prelude.{IsTrue, IfOk, IfErr, OnOk};
 ghost use Rattle.nwq_value.specs.Limits.{entry_limit, instruction_limit, time_limit};
 ghost use Rattle.plan_text.specs.Plans.{IsPlan};
 ghost use Rattle.stack_rules.specs.Laws.{AllMeet};
-ghost use Rattle.world_rules.specs.Trace.{trace_text};
 ghost use Rattle.world_core.specs.Calls.{AreServing, cells_of};
 ghost use Rattle.ncs_machine.specs.Host.{scripts_of, tables_of};
-ghost use Rattle.ncs_machine.specs.Stored.{StatesFit};
 ghost use Rattle.module_player.specs.EndTexts.{IsEnding};
-ghost use Rattle.nwq_outside.specs.declared.counts.FileCounts.{FileCounts};
 ghost use Rattle.command_work.specs.Work.{CutsShort};
-ghost use Rattle.command_work.specs.Counts.{Counted, Tallies};
+ghost use Rattle.command_work.specs.Calls.{TalliesPuts};
 ghost use Rattle.play_worlds.specs.Worlds.{plan_world};
-ghost use Rattle.command_plays.specs.Plays.{played_first, played_on};
-ghost use Rattle.command_plays.specs.Tellings.{cut_of, TakesText};
+ghost use Rattle.command_plays.specs.Plays.{FitListed, played_first, played_on};
+ghost use Rattle.command_plays.specs.Tellings.{cut_of, TakesLines};
 
 use crate::telling::told_uncut;
 use area_tree::Area;
@@ -47,7 +44,7 @@ fn play_some<S: Sink>(
     requires few { length scripts.now < 2 ^ 32 }
     requires meets { AllMeet table.now (scripts_of scripts.now) (tables_of scripts.now) }
     requires hooks { AreServing (map (λ h. h.known) hooks.now.all.items) }
-    requires fit { StatesFit (scripts_of scripts.now) (tables_of scripts.now) world.old.world }
+    requires fit { FitListed scripts.now world.old.world }
     requires quiet { world.old.world.trace ≡ [] }
     requires next { world.old.world.agenda.next < 2 ^ 61 }
     requires limit { limits.0 ≤ instruction_limit }
@@ -57,17 +54,14 @@ fn play_some<S: Sink>(
     requires within { taken ≤ limits.1 }
     requires done { done < 2 ^ 61 }
     ensures told { IfOk result (λ answer. cut_of answer.how ≡ None) }
-    ensures ending { IfOk result (λ answer. IsEnding answer
-        (played_on (cells_of (map (λ h. h.known) hooks.now.all.items)) table.now limits
+    ensures ending { IfOk result (λ answer. IsEnding answer (played_on
+        (cells_of (map (λ h. h.known) hooks.now.all.items)) table.now limits
         (scripts_of scripts.now) stop taken done world.old.world) world.new.world) }
-    ensures trace { IsTrue S.tells → TakesText (trace_text
-        (played_on (cells_of (map (λ h. h.known) hooks.now.all.items)) table.now limits
-        (scripts_of scripts.now) stop taken done world.old.world).last.trace)
-        (S.taken out.old) result (S.taken out.new) }
-    ensures counts { (counts : FileCounts) → Tallies result (Counted counts (S.faults out.old))
-        (Counted counts (S.faults out.new)) }
-    ensures fit { OnOk result (StatesFit (scripts_of scripts.now) (tables_of scripts.now)
-        world.new.world) }
+    ensures trace { IsTrue S.tells → TakesLines S.taken (played_on
+        (cells_of (map (λ h. h.known) hooks.now.all.items)) table.now limits
+        (scripts_of scripts.now) stop taken done world.old.world) out.old result out.new }
+    ensures counts { TalliesPuts S.faults result out.old out.new }
+    ensures fit { OnOk result (FitListed scripts.now world.new.world) }
     ensures posted { OnOk result
         (world.new.world.agenda.next ≤ world.old.world.agenda.next + 2 ^ 45) }
     ensures executed { IfOk result (λ answer. answer.instructions ≤ done + 2 ^ 45) }
@@ -96,7 +90,7 @@ pub fn play_part<S: Sink>(
     requires few { length scripts.now < 2 ^ 32 }
     requires meets { AllMeet table.now (scripts_of scripts.now) (tables_of scripts.now) }
     requires hooks { AreServing (map (λ h. h.known) hooks.now.all.items) }
-    requires fit { StatesFit (scripts_of scripts.now) (tables_of scripts.now) world.world }
+    requires fit { FitListed scripts.now world.world }
     requires quiet { world.world.trace ≡ [] }
     requires next { world.world.agenda.next < 2 ^ 61 }
     requires limit { limits.0 ≤ instruction_limit }
@@ -106,19 +100,16 @@ pub fn play_part<S: Sink>(
     requires within { taken ≤ limits.1 }
     requires done { done < 2 ^ 61 }
     ensures told { IfOk result (λ answer. cut_of answer.1.how ≡ None) }
-    ensures ending { IfOk result (λ answer. IsEnding answer.1
-        (played_on (cells_of (map (λ h. h.known) hooks.now.all.items)) table.now limits
+    ensures ending { IfOk result (λ answer. IsEnding answer.1 (played_on
+        (cells_of (map (λ h. h.known) hooks.now.all.items)) table.now limits
         (scripts_of scripts.now) stop taken done world.world) answer.0.world) }
     // The sink took this part's lines, or a prefix of them where it was cut short.
-    ensures trace { IsTrue S.tells → TakesText (trace_text
-        (played_on (cells_of (map (λ h. h.known) hooks.now.all.items)) table.now limits
-        (scripts_of scripts.now) stop taken done world.world).last.trace)
-        (S.taken out.old) result (S.taken out.new) }
-    ensures counts { (counts : FileCounts) → Tallies result (Counted counts (S.faults out.old))
-        (Counted counts (S.faults out.new)) }
+    ensures trace { IsTrue S.tells → TakesLines S.taken (played_on
+        (cells_of (map (λ h. h.known) hooks.now.all.items)) table.now limits
+        (scripts_of scripts.now) stop taken done world.world) out.old result out.new }
+    ensures counts { TalliesPuts S.faults result out.old out.new }
     // What the world keeps, so that it can be saved: how much at most was posted, and executed.
-    ensures fit { IfOk result (λ answer.
-        StatesFit (scripts_of scripts.now) (tables_of scripts.now) answer.0.world) }
+    ensures fit { IfOk result (λ answer. FitListed scripts.now answer.0.world) }
     ensures posted { IfOk result (λ answer.
         answer.0.world.agenda.next ≤ world.world.agenda.next + 2 ^ 45) }
     ensures executed { IfOk result (λ answer. answer.1.instructions ≤ done + 2 ^ 45) }
@@ -155,19 +146,16 @@ pub fn play_first<S: Sink>(
     requires plan { IsPlan plan.now }
     requires some { 1 ≤ entries }
     ensures told { IfOk result (λ answer. cut_of answer.1.how ≡ None) }
-    ensures ending { IfOk result (λ answer. IsEnding answer.1
-        (played_first (cells_of (map (λ h. h.known) hooks.now.all.items)) table.now plan.now
+    ensures ending { IfOk result (λ answer. IsEnding answer.1 (played_first
+        (cells_of (map (λ h. h.known) hooks.now.all.items)) table.now plan.now
         (scripts_of scripts.now) entries (plan_world area plan.now)) answer.0.world) }
     // The sink took this part's lines, or a prefix of them where it was cut short.
-    ensures trace { IsTrue S.tells → TakesText (trace_text
-        (played_first (cells_of (map (λ h. h.known) hooks.now.all.items)) table.now plan.now
-        (scripts_of scripts.now) entries (plan_world area plan.now)).last.trace)
-        (S.taken out.old) result (S.taken out.new) }
-    ensures counts { (counts : FileCounts) → Tallies result (Counted counts (S.faults out.old))
-        (Counted counts (S.faults out.new)) }
+    ensures trace { IsTrue S.tells → TakesLines S.taken (played_first
+        (cells_of (map (λ h. h.known) hooks.now.all.items)) table.now plan.now
+        (scripts_of scripts.now) entries (plan_world area plan.now)) out.old result out.new }
+    ensures counts { TalliesPuts S.faults result out.old out.new }
     // What the world keeps, so that it can be saved.
-    ensures fit { IfOk result (λ answer.
-        StatesFit (scripts_of scripts.now) (tables_of scripts.now) answer.0.world) }
+    ensures fit { IfOk result (λ answer. FitListed scripts.now answer.0.world) }
     ensures next { IfOk result (λ answer. answer.0.world.agenda.next < 2 ^ 61) }
     ensures executed { IfOk result (λ answer. answer.1.instructions < 2 ^ 61) }
     ensures only { IfErr result CutsShort }

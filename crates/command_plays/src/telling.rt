@@ -1,17 +1,13 @@
 //! What comes of a play's answer: the status by which a command ends.
 ghost use Rattle.std.specs.Prelude.{◌≡◌, ◌≢◌, ℕ, List, None, IfOk, IfErr};
-ghost use Rattle.nwq_outside.specs.declared.counts.FileCounts.{FileCounts};
 ghost use Rattle.nwq_outside.specs.Outside.{Contents};
-ghost use Rattle.saved_state.specs.declared.saved.Saved.{Saved as SavedView};
-ghost use Rattle.world_rules.specs.World.{World as WorldView};
-ghost use Rattle.world_rules.specs.Plays.{PlayEnd, Played as PlayedView};
-ghost use Rattle.module_player.specs.Answers.{EndsAs, WherePlayed, TakesTrace, CountsPlay};
-ghost use Rattle.module_player.specs.EndTexts.{HasText, IsEnding};
+ghost use Rattle.world_rules.specs.Plays.{PlayEnd};
+ghost use Rattle.module_player.specs.Answers.{EndsAs};
+ghost use Rattle.module_player.specs.EndTexts.{HasText};
 ghost use Rattle.module_player.specs.declared.played.How.TheVariants as variant;
 ghost use Rattle.command_work.specs.Work.{Does, CutsShort};
-ghost use Rattle.command_work.specs.Counts.{Counted, Tallies};
 ghost use Rattle.command_plays.specs.Plays.{ends_by};
-ghost use Rattle.command_plays.specs.Tellings.{cut_of, TakesText};
+ghost use Rattle.command_plays.specs.Tellings.{cut_of, TellsCounts, TellsEnding, TellsTrace};
 
 use command_work::Status;
 use module_player::{How, Played};
@@ -34,11 +30,8 @@ fn cut_of(how: How) -> Option<Status>
 pub(crate) fn told_uncut(played: Played) -> Result<Played, Status>
     ensures told { IfOk result (λ answer. cut_of answer.how ≡ None) }
     ensures same { IfOk result (λ answer. answer ≡ played) }
-    ensures trace { (text before after : List ℕ) → TakesTrace played.how text before after →
-        TakesText text before result after }
-    ensures counts { (before now : ℕ) → (counts : FileCounts) →
-        CountsPlay played.how before now →
-        Tallies result (Counted counts before) (Counted counts now) }
+    ensures trace { TellsTrace played.how result }
+    ensures counts { TellsCounts played.how result }
     ensures only { IfErr result CutsShort }
 {
     match cut_of(played.how) {
@@ -52,17 +45,9 @@ pub fn told_whole(played: Played) -> Result<Played, Status>
     requires whole { played.how ≢ variant.Pause }
     ensures told { IfOk result (λ answer. HasText answer.how) }
     // What the answer tells where the play wasn't cut short holds of a whole one.
-    ensures ending { (p : PlayedView SavedView) → (w : WorldView SavedView) →
-        EndsAs played.how p.ending →
-        WherePlayed played.how (played.entries ≡ p.last.entries) →
-        WherePlayed played.how (played.instructions ≡ p.last.count) →
-        WherePlayed played.how (w ≡ p.last.world) →
-        IfOk result (λ answer. IsEnding answer p w) }
-    ensures trace { (text before after : List ℕ) → TakesTrace played.how text before after →
-        TakesText text before result after }
-    ensures counts { (before now : ℕ) → (counts : FileCounts) →
-        CountsPlay played.how before now →
-        Tallies result (Counted counts before) (Counted counts now) }
+    ensures ending { TellsEnding played result }
+    ensures trace { TellsTrace played.how result }
+    ensures counts { TellsCounts played.how result }
     ensures only { IfErr result CutsShort }
 {
     match cut_of(played.how) {

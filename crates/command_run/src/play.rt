@@ -1,7 +1,6 @@
 //! The play of a compiled file.
 ghost use Rattle.std.specs.Prelude.{◌≡◌, ◌≤◌, ◌<◌, ◌^◌, ℕ, List, [], length, map, IsTrue, IfErr};
 ghost use Rattle.nwq_value.specs.Limits.{file_limit};
-ghost use Rattle.nwq_outside.specs.Outside.{Contents};
 ghost use Rattle.ncs_code.specs.Plain.{PlainOp};
 ghost use Rattle.stack_rules.specs.Rules.{MeetsRules};
 ghost use Rattle.stack_rules.specs.Laws.{AllMeet};
@@ -9,9 +8,8 @@ ghost use Rattle.stack_check.specs.Checked.{kept_table};
 ghost use Rattle.world_core.specs.Calls.{AreServing, cells_of};
 ghost use Rattle.ncs_machine.specs.Host.{scripts_of, tables_of};
 ghost use Rattle.ncs_machine.specs.Stored.{StatesFit};
-ghost use Rattle.nwq_outside.specs.declared.counts.FileCounts.{FileCounts};
-ghost use Rattle.command_work.specs.Work.{Does};
-ghost use Rattle.command_work.specs.Counts.{Counted, Tallies, Refusing};
+ghost use Rattle.command_work.specs.Counts.{Refusing};
+ghost use Rattle.command_work.specs.Calls.{TalliesPuts, DoesPuts};
 ghost use Rattle.command_files.specs.Checks.{IsStackedFile};
 ghost use Rattle.command_plays.specs.Scripts.{listed, played, tells, plays_code, plays_file};
 ghost use Rattle.command_run.specs.Tellings.{StopsPlay};
@@ -56,11 +54,10 @@ fn play_world<S: Sink>(
     requires fit { StatesFit (scripts_of scripts.now) (tables_of scripts.now) world.world }
     requires quiet { world.world.trace ≡ [] }
     requires next { world.world.agenda.next < 2 ^ 61 }
-    ensures does { IsTrue S.tells → (c : Contents) → Does (tells (scripts_of scripts.now)
-        (played (cells_of (map (λ h. h.known) hooks.now.all.items)) table.now
-        (scripts_of scripts.now) world.world)) c (S.taken out.old) result c (S.taken out.new) }
-    ensures counts { (counts : FileCounts) → Tallies result (Counted counts (S.faults out.old))
-        (Counted counts (S.faults out.new)) }
+    ensures does { IsTrue S.tells → DoesPuts S.taken (tells (scripts_of scripts.now) (played
+        (cells_of (map (λ h. h.known) hooks.now.all.items)) table.now (scripts_of scripts.now)
+        world.world)) out.old result out.new }
+    ensures counts { TalliesPuts S.faults result out.old out.new }
     ensures only { IfErr result (Refusing Status.Limit) }
 {
     let mut world = world;
@@ -97,12 +94,11 @@ fn play_listed<S: Sink>(
     requires few { length scripts.now < 2 ^ 32 }
     requires meets { AllMeet table.now (scripts_of scripts.now) (tables_of scripts.now) }
     requires hooks { AreServing (map (λ h. h.known) hooks.now.all.items) }
-    ensures does { IsTrue S.tells → (ops : List PlainOp) →
-        scripts_of scripts.now ≡ listed name.now ops → (c : Contents) →
-        Does (plays_code (cells_of (map (λ h. h.known) hooks.now.all.items)) table.now name.now ops)
-        c (S.taken out.old) result c (S.taken out.new) }
-    ensures counts { (counts : FileCounts) → Tallies result (Counted counts (S.faults out.old))
-        (Counted counts (S.faults out.new)) }
+    ensures does { IsTrue S.tells → (ops : List PlainOp) → scripts_of scripts.now ≡ listed name.now
+        ops → DoesPuts S.taken
+        (plays_code (cells_of (map (λ h. h.known) hooks.now.all.items)) table.now name.now ops)
+        out.old result out.new }
+    ensures counts { TalliesPuts S.faults result out.old out.new }
     ensures only { IfErr result (Refusing Status.Limit) }
 {
     match first_world(alloc, name) {
@@ -123,11 +119,10 @@ fn play_code<S: Sink>(
 ) -> Result<(), Status>
     requires meets { MeetsRules table.now code.code (kept_table code) }
     requires hooks { AreServing (map (λ h. h.known) hooks.now.all.items) }
-    ensures does { IsTrue S.tells → (c : Contents) →
-        Does (plays_code (cells_of (map (λ h. h.known) hooks.now.all.items)) table.now
-        name.now code.code) c (S.taken out.old) result c (S.taken out.new) }
-    ensures counts { (counts : FileCounts) → Tallies result (Counted counts (S.faults out.old))
-        (Counted counts (S.faults out.new)) }
+    ensures does { IsTrue S.tells → DoesPuts S.taken (plays_code
+        (cells_of (map (λ h. h.known) hooks.now.all.items)) table.now name.now code.code)
+        out.old result out.new }
+    ensures counts { TalliesPuts S.faults result out.old out.new }
     ensures only { IfErr result (Refusing Status.Limit) }
 {
     match list_one(alloc, name, code) {
@@ -149,11 +144,10 @@ pub fn play_file<S: Sink>(
 ) -> Result<(), Status>
     requires small { length bytes.items ≤ file_limit }
     requires hooks { AreServing (map (λ h. h.known) hooks.now.all.items) }
-    ensures does { IsTrue S.tells → (c : Contents) →
-        Does (plays_file (cells_of (map (λ h. h.known) hooks.now.all.items)) table.now
-        name.now file.now bytes.items) c (S.taken out.old) result c (S.taken out.new) }
-    ensures counts { (counts : FileCounts) → Tallies result (Counted counts (S.faults out.old))
-        (Counted counts (S.faults out.new)) }
+    ensures does { IsTrue S.tells → DoesPuts S.taken (plays_file
+        (cells_of (map (λ h. h.known) hooks.now.all.items)) table.now name.now file.now bytes.items)
+        out.old result out.new }
+    ensures counts { TalliesPuts S.faults result out.old out.new }
     ensures only { IfErr result StopsPlay }
     // A file of well stacked instructions is never refused.
     ensures passes { IsStackedFile table.now bytes.items → IfErr result (Refusing Status.Limit) }

@@ -1,10 +1,8 @@
 ghost use Rattle.std.specs.Prelude.{◌≡◌, ◌≤◌, ℕ, length, map, IsTrue, IfErr};
 ghost use Rattle.nwq_value.specs.Limits.{file_limit};
-ghost use Rattle.nwq_outside.specs.Outside.{Contents};
-ghost use Rattle.world_core.specs.Calls.{cells_of, AreServing};
-ghost use Rattle.nwq_outside.specs.declared.counts.FileCounts.{FileCounts};
-ghost use Rattle.command_work.specs.Work.{Does};
-ghost use Rattle.command_work.specs.Counts.{Counted, Tallies, Refusing};
+ghost use Rattle.world_core.specs.Calls.{AreServing, cells_of};
+ghost use Rattle.command_work.specs.Counts.{Refusing};
+ghost use Rattle.command_work.specs.Calls.{DoesOn, TalliesOn, TalliesPuts, DoesPuts};
 ghost use Rattle.command_files.specs.Checks.{IsStackedFile};
 ghost use Rattle.command_compile.specs.Files.{code_name};
 ghost use Rattle.command_plays.specs.Scripts.{plays_file};
@@ -32,11 +30,10 @@ fn play_compiled<S: Sink>(
     requires small { length bytes ≤ file_limit }
     requires stacked { IsStackedFile table.now bytes }
     requires hooks { AreServing (map (λ h. h.known) hooks.now.all.items) }
-    ensures does { IsTrue S.tells → (c : Contents) →
-        Does (plays_file (cells_of (map (λ h. h.known) hooks.now.all.items)) table.now
-        script.now (code_name script.now) bytes) c (S.taken out.old) result c (S.taken out.new) }
-    ensures counts { (counts : FileCounts) → Tallies result (Counted counts (S.faults out.old))
-        (Counted counts (S.faults out.new)) }
+    ensures does { IsTrue S.tells → DoesPuts S.taken (plays_file
+        (cells_of (map (λ h. h.known) hooks.now.all.items)) table.now script.now
+        (code_name script.now) bytes) out.old result out.new }
+    ensures counts { TalliesPuts S.faults result out.old out.new }
     ensures only { IfErr result (Refusing Status.Limit) }
 {
     match code_name(alloc, script) {
@@ -64,12 +61,10 @@ fn run_under<F: Files, S: Sink>(
     hooks: &Hooks,
 ) -> Result<(), Status>
     requires hooks { AreServing (map (λ h. h.known) hooks.now.all.items) }
-    ensures does { IsTrue F.tells → IsTrue S.tells →
-        Does (runs_under (cells_of (map (λ h. h.known) hooks.now.all.items)) script.now table.now)
-        (F.contents files.old) (S.taken out.old)
-        result (F.contents files.new) (S.taken out.new) }
-    ensures counts { Tallies result (Counted (F.counts files.old) (S.faults out.old))
-        (Counted (F.counts files.new) (S.faults out.new)) }
+    ensures does { IsTrue F.tells → IsTrue S.tells → DoesOn F.contents S.taken
+        (runs_under (cells_of (map (λ h. h.known) hooks.now.all.items)) script.now table.now)
+        files.old out.old result files.new out.new }
+    ensures counts { TalliesOn F.counts S.faults result files.old out.old files.new out.new }
     ensures same { F.contents files.new ≡ F.contents files.old }
     ensures only { IfErr result StopsRun }
 {
@@ -90,12 +85,10 @@ pub fn run<F: Files, S: Sink>(
     hooks: &Hooks,
 ) -> Result<(), Status>
     requires hooks { AreServing (map (λ h. h.known) hooks.now.all.items) }
-    ensures does { IsTrue F.tells → IsTrue S.tells →
-        Does (runs (cells_of (map (λ h. h.known) hooks.now.all.items)) header.now script.now)
-        (F.contents files.old) (S.taken out.old)
-        result (F.contents files.new) (S.taken out.new) }
-    ensures counts { Tallies result (Counted (F.counts files.old) (S.faults out.old))
-        (Counted (F.counts files.new) (S.faults out.new)) }
+    ensures does { IsTrue F.tells → IsTrue S.tells → DoesOn F.contents S.taken
+        (runs (cells_of (map (λ h. h.known) hooks.now.all.items)) header.now script.now)
+        files.old out.old result files.new out.new }
+    ensures counts { TalliesOn F.counts S.faults result files.old out.old files.new out.new }
     ensures same { F.contents files.new ≡ F.contents files.old }
     ensures only { IfErr result StopsRun }
 {

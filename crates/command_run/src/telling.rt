@@ -1,15 +1,14 @@
 //! The text at the end of a play, and the status that comes of it.
 ghost use Rattle.std.specs.Prelude.{◌≡◌, ℕ, IsTrue, IfOk, IfErr};
-ghost use Rattle.nwq_outside.specs.Outside.{Contents};
 ghost use Rattle.saved_state.specs.declared.saved.Saved.{Saved as SavedView};
 ghost use Rattle.world_rules.specs.Plays.{Played as PlayedView};
 ghost use Rattle.ncs_machine.specs.Host.{scripts_of};
 ghost use Rattle.module_player.specs.CodePlays.{code_end_text};
 ghost use Rattle.module_player.specs.EndTexts.{HasText, IsEnding};
-ghost use Rattle.nwq_outside.specs.declared.counts.FileCounts.{FileCounts};
-ghost use Rattle.command_work.specs.Work.{Does, CutsShort};
+ghost use Rattle.command_work.specs.Work.{CutsShort};
 ghost use Rattle.command_work.specs.Parts.{PutsWhole};
-ghost use Rattle.command_work.specs.Counts.{Counted, Tallies, Refusing};
+ghost use Rattle.command_work.specs.Counts.{Refusing};
+ghost use Rattle.command_work.specs.Calls.{TalliesPuts, DoesPuts};
 ghost use Rattle.command_plays.specs.Scripts.{tells_end};
 
 use command_plays::ending_of;
@@ -55,8 +54,7 @@ fn put_end<S: Sink>(
     ensures puts { IsTrue S.tells → (p : PlayedView SavedView) → IsEnding played.now p world.world →
         PutsWhole (code_end_text (scripts_of scripts.now) p)
         (S.taken out.old) result (S.taken out.new) }
-    ensures counts { (counts : FileCounts) → Tallies result (Counted counts (S.faults out.old))
-        (Counted counts (S.faults out.new)) }
+    ensures counts { TalliesPuts S.faults result out.old out.new }
     ensures only { IfErr result CutsShort }
 {
     put(text_of(alloc, world, scripts, played), out)
@@ -73,10 +71,8 @@ pub(crate) fn tell_end<S: Sink>(
 ) -> Result<(), Status>
     requires told { HasText played.now.how }
     ensures does { IsTrue S.tells → (p : PlayedView SavedView) → IsEnding played.now p world.world →
-        (c : Contents) → Does (tells_end (scripts_of scripts.now) p) c
-        (S.taken out.old) result c (S.taken out.new) }
-    ensures counts { (counts : FileCounts) → Tallies result (Counted counts (S.faults out.old))
-        (Counted counts (S.faults out.new)) }
+        DoesPuts S.taken (tells_end (scripts_of scripts.now) p) out.old result out.new }
+    ensures counts { TalliesPuts S.faults result out.old out.new }
     ensures only { IfErr result (Refusing Status.Limit) }
 {
     match put_end(alloc, world, scripts, played, out) {

@@ -1,11 +1,9 @@
 //! The header and the area of a play that may be saved, with the bytes of their files.
 ghost use Rattle.std.specs.Prelude.{◌≡◌, ◌≤◌, ℕ, length, IsTrue, IfOk, IfErr};
 ghost use Rattle.nwq_value.specs.Limits.{file_limit};
-ghost use Rattle.nwq_outside.specs.Outside.{Contents};
-ghost use Rattle.nwq_outside.specs.declared.counts.FileCounts.{FileCounts};
 ghost use Rattle.play_save.specs.Rules.{IsAreaOf, IsHeaderOf};
-ghost use Rattle.command_work.specs.Work.{Does};
-ghost use Rattle.command_work.specs.Counts.{Counted, Tallies, Refusing, StopsArea, StopsSource};
+ghost use Rattle.command_work.specs.Counts.{Refusing, StopsArea, StopsSource};
+ghost use Rattle.command_work.specs.Calls.{DoesOn, TalliesOn, TalliesPuts, DoesPuts};
 ghost use Rattle.command_save.specs.Inputs.{area_in, area_named, header_in, header_named};
 ghost use Rattle.command_save.specs.Inputs.{header_of};
 
@@ -41,10 +39,9 @@ fn header_of_text<S: Sink>(
     out: &mut S,
 ) -> Result<HeaderFile, Status>
     requires small { length text ≤ file_limit }
-    ensures does { IsTrue S.tells → (c : Contents) →
-        Does (header_in name.now text) c (S.taken out.old) result c (S.taken out.new) }
-    ensures counts { (counts : FileCounts) → Tallies result (Counted counts (S.faults out.old))
-        (Counted counts (S.faults out.new)) }
+    ensures does { IsTrue S.tells → DoesPuts S.taken (header_in name.now text)
+        out.old result out.new }
+    ensures counts { TalliesPuts S.faults result out.old out.new }
     ensures header { IfOk result (λ h. IsHeaderOf h.text h.table) }
     ensures only { IfErr result (Refusing Status.Script) }
 {
@@ -68,11 +65,9 @@ fn header_of_file<F: Files, S: Sink>(
     files: &mut F,
     out: &mut S,
 ) -> Result<HeaderFile, Status>
-    ensures does { IsTrue F.tells → IsTrue S.tells →
-        Does (header_named name.now) (F.contents files.old) (S.taken out.old)
-        result (F.contents files.new) (S.taken out.new) }
-    ensures counts { Tallies result (Counted (F.counts files.old) (S.faults out.old))
-        (Counted (F.counts files.new) (S.faults out.new)) }
+    ensures does { IsTrue F.tells → IsTrue S.tells → DoesOn F.contents S.taken
+        (header_named name.now) files.old out.old result files.new out.new }
+    ensures counts { TalliesOn F.counts S.faults result files.old out.old files.new out.new }
     ensures same { F.contents files.new ≡ F.contents files.old }
     ensures header { IfOk result (λ h. IsHeaderOf h.text h.table) }
     ensures only { IfErr result StopsSource }
@@ -91,11 +86,9 @@ pub(crate) fn read_header<F: Files, S: Sink>(
     files: &mut F,
     out: &mut S,
 ) -> Result<HeaderFile, Status>
-    ensures does { IsTrue F.tells → IsTrue S.tells →
-        Does (header_of word.now) (F.contents files.old) (S.taken out.old)
-        result (F.contents files.new) (S.taken out.new) }
-    ensures counts { Tallies result (Counted (F.counts files.old) (S.faults out.old))
-        (Counted (F.counts files.new) (S.faults out.new)) }
+    ensures does { IsTrue F.tells → IsTrue S.tells → DoesOn F.contents S.taken (header_of word.now)
+        files.old out.old result files.new out.new }
+    ensures counts { TalliesOn F.counts S.faults result files.old out.old files.new out.new }
     ensures same { F.contents files.new ≡ F.contents files.old }
     ensures header { IfOk result (λ h. IsHeaderOf h.text h.table) }
     ensures only { IfErr result StopsSource }
@@ -118,10 +111,9 @@ fn area_with<S: Sink>(
     out: &mut S,
 ) -> Result<AreaFile, Status>
     requires small { length bytes ≤ file_limit }
-    ensures does { IsTrue S.tells → (c : Contents) →
-        Does (area_in name.now bytes) c (S.taken out.old) result c (S.taken out.new) }
-    ensures counts { (counts : FileCounts) → Tallies result (Counted counts (S.faults out.old))
-        (Counted counts (S.faults out.new)) }
+    ensures does { IsTrue S.tells → DoesPuts S.taken (area_in name.now bytes)
+        out.old result out.new }
+    ensures counts { TalliesPuts S.faults result out.old out.new }
     ensures area { IfOk result (λ a. IsAreaOf a.area.tree a.bytes) }
     ensures only { IfErr result (Refusing Status.Area) }
 {
@@ -142,11 +134,9 @@ pub(crate) fn read_area_file<F: Files, S: Sink>(
     files: &mut F,
     out: &mut S,
 ) -> Result<AreaFile, Status>
-    ensures does { IsTrue F.tells → IsTrue S.tells →
-        Does (area_named name.now) (F.contents files.old) (S.taken out.old)
-        result (F.contents files.new) (S.taken out.new) }
-    ensures counts { Tallies result (Counted (F.counts files.old) (S.faults out.old))
-        (Counted (F.counts files.new) (S.faults out.new)) }
+    ensures does { IsTrue F.tells → IsTrue S.tells → DoesOn F.contents S.taken (area_named name.now)
+        files.old out.old result files.new out.new }
+    ensures counts { TalliesOn F.counts S.faults result files.old out.old files.new out.new }
     ensures same { F.contents files.new ≡ F.contents files.old }
     ensures area { IfOk result (λ a. IsAreaOf a.area.tree a.bytes) }
     ensures only { IfErr result StopsArea }

@@ -1,12 +1,10 @@
 //! The command that resumes: a state is read, and its play goes on.
 ghost use Rattle.std.specs.Prelude.{◌≡◌, ◌≤◌, ℕ, length, map, IsTrue, IfErr};
 ghost use Rattle.nwq_value.specs.Limits.{file_limit};
-ghost use Rattle.nwq_outside.specs.Outside.{Contents};
-ghost use Rattle.nwq_outside.specs.declared.counts.FileCounts.{FileCounts};
 ghost use Rattle.world_core.specs.Calls.{AreServing, cells_of};
 ghost use Rattle.ncs_machine.specs.Host.{scripts_of};
-ghost use Rattle.command_work.specs.Work.{Does};
-ghost use Rattle.command_work.specs.Counts.{Counted, Tallies, KeepsBut, Refusing, StopsArea};
+ghost use Rattle.command_work.specs.Counts.{KeepsBut, Refusing, StopsArea};
+ghost use Rattle.command_work.specs.Calls.{DoesOn, TalliesOn, TalliesPuts, IsName, DoesPuts};
 ghost use Rattle.command_play.specs.Games.{tells};
 ghost use Rattle.command_play.specs.Tellings.{StopsEnd};
 ghost use Rattle.command_save.specs.Resumes.{resumes, resumes_state, state_in, state_named};
@@ -30,10 +28,9 @@ fn state_of_bytes<S: Sink>(
     out: &mut S,
 ) -> Result<State, Status>
     requires small { length bytes.now ≤ file_limit }
-    ensures does { IsTrue S.tells → (c : Contents) →
-        Does (state_in name.now bytes.now) c (S.taken out.old) result c (S.taken out.new) }
-    ensures counts { (counts : FileCounts) → Tallies result (Counted counts (S.faults out.old))
-        (Counted counts (S.faults out.new)) }
+    ensures does { IsTrue S.tells → DoesPuts S.taken (state_in name.now bytes.now)
+        out.old result out.new }
+    ensures counts { TalliesPuts S.faults result out.old out.new }
     ensures only { IfErr result (Refusing Status.Area) }
 {
     match read_state(alloc, bytes) {
@@ -57,11 +54,9 @@ fn read_state_file<F: Files, S: Sink>(
     files: &mut F,
     out: &mut S,
 ) -> Result<State, Status>
-    ensures does { IsTrue F.tells → IsTrue S.tells →
-        Does (state_named name.now) (F.contents files.old) (S.taken out.old)
-        result (F.contents files.new) (S.taken out.new) }
-    ensures counts { Tallies result (Counted (F.counts files.old) (S.faults out.old))
-        (Counted (F.counts files.new) (S.faults out.new)) }
+    ensures does { IsTrue F.tells → IsTrue S.tells → DoesOn F.contents S.taken
+        (state_named name.now) files.old out.old result files.new out.new }
+    ensures counts { TalliesOn F.counts S.faults result files.old out.old files.new out.new }
     ensures same { F.contents files.new ≡ F.contents files.old }
     ensures only { IfErr result StopsArea }
 {
@@ -83,15 +78,12 @@ fn play_rest<F: Files, S: Sink>(
 ) -> Result<(), Status>
     requires hooks { AreServing (map (λ h. h.known) hooks.now.all.items) }
     requires opened { MayGoOn opened }
-    ensures does { IsTrue F.tells → IsTrue S.tells →
-        Does (tells to.now (scripts_of opened.scripts) (rest_of
-        (cells_of (map (λ h. h.known) hooks.now.all.items)) opened))
-        (F.contents files.old) (S.taken out.old)
-        result (F.contents files.new) (S.taken out.new) }
-    ensures counts { Tallies result (Counted (F.counts files.old) (S.faults out.old))
-        (Counted (F.counts files.new) (S.faults out.new)) }
-    ensures names { KeepsBut (λ other. other ≡ to.now)
-        (F.contents files.old) (F.contents files.new) }
+    ensures does { IsTrue F.tells → IsTrue S.tells → DoesOn F.contents S.taken (tells to.now
+        (scripts_of opened.scripts)
+        (rest_of (cells_of (map (λ h. h.known) hooks.now.all.items)) opened))
+        files.old out.old result files.new out.new }
+    ensures counts { TalliesOn F.counts S.faults result files.old out.old files.new out.new }
+    ensures names { KeepsBut (IsName to.now) (F.contents files.old) (F.contents files.new) }
     ensures only { IfErr result StopsEnd }
 {
     let Opened {
@@ -131,14 +123,11 @@ fn resume_state<F: Files, S: Sink>(
     out: &mut S,
 ) -> Result<(), Status>
     requires hooks { AreServing (map (λ h. h.known) hooks.now.all.items) }
-    ensures does { IsTrue F.tells → IsTrue S.tells →
-        Does (resumes_state (cells_of (map (λ h. h.known) hooks.now.all.items)) to.now state)
-        (F.contents files.old) (S.taken out.old)
-        result (F.contents files.new) (S.taken out.new) }
-    ensures counts { Tallies result (Counted (F.counts files.old) (S.faults out.old))
-        (Counted (F.counts files.new) (S.faults out.new)) }
-    ensures names { KeepsBut (λ other. other ≡ to.now)
-        (F.contents files.old) (F.contents files.new) }
+    ensures does { IsTrue F.tells → IsTrue S.tells → DoesOn F.contents S.taken
+        (resumes_state (cells_of (map (λ h. h.known) hooks.now.all.items)) to.now state)
+        files.old out.old result files.new out.new }
+    ensures counts { TalliesOn F.counts S.faults result files.old out.old files.new out.new }
+    ensures names { KeepsBut (IsName to.now) (F.contents files.old) (F.contents files.new) }
     ensures only { IfErr result StopsEnd }
 {
     state.keeps();
@@ -160,15 +149,12 @@ pub fn resume_play<F: Files, S: Sink>(
     out: &mut S,
 ) -> Result<(), Status>
     requires hooks { AreServing (map (λ h. h.known) hooks.now.all.items) }
-    ensures does { IsTrue F.tells → IsTrue S.tells →
-        Does (resumes (cells_of (map (λ h. h.known) hooks.now.all.items)) state.now to.now)
-        (F.contents files.old) (S.taken out.old)
-        result (F.contents files.new) (S.taken out.new) }
-    ensures counts { Tallies result (Counted (F.counts files.old) (S.faults out.old))
-        (Counted (F.counts files.new) (S.faults out.new)) }
+    ensures does { IsTrue F.tells → IsTrue S.tells → DoesOn F.contents S.taken
+        (resumes (cells_of (map (λ h. h.known) hooks.now.all.items)) state.now to.now)
+        files.old out.old result files.new out.new }
+    ensures counts { TalliesOn F.counts S.faults result files.old out.old files.new out.new }
     // The file of the area that is left alone is written.
-    ensures names { KeepsBut (λ other. other ≡ to.now)
-        (F.contents files.old) (F.contents files.new) }
+    ensures names { KeepsBut (IsName to.now) (F.contents files.old) (F.contents files.new) }
     ensures only { IfErr result StopsResume }
 {
     match read_state_file(alloc, state, files, out) {

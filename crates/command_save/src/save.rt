@@ -1,14 +1,14 @@
 //! The command that saves: what a play needs is read, in order, and some entries of the plan are
 //! played.
-ghost use Rattle.std.specs.Prelude.{◌≡◌, ◌<◌, ◌≤◌, ◌^◌, length, map, IsTrue, IfErr};
+ghost use Rattle.std.specs.Prelude.{◌<◌, ◌≤◌, ◌^◌, length, map, IsTrue, IfErr};
 ghost use Rattle.plan_text.specs.Plans.{IsPlan};
 ghost use Rattle.stack_rules.specs.Laws.{AllMeet};
 ghost use Rattle.world_core.specs.Calls.{AreServing, cells_of};
 ghost use Rattle.ncs_machine.specs.Host.{scripts_of, tables_of};
 ghost use Rattle.play_save.specs.Rules.{IsAreaOf, IsHeaderOf};
 ghost use Rattle.play_save.specs.States.{MayList};
-ghost use Rattle.command_work.specs.Work.{Does};
-ghost use Rattle.command_work.specs.Counts.{Counted, Tallies, KeepsBut};
+ghost use Rattle.command_work.specs.Counts.{KeepsBut};
+ghost use Rattle.command_work.specs.Calls.{DoesOn, TalliesOn, IsName};
 ghost use Rattle.command_play.specs.Tellings.{IsGameFile, StopsGame};
 ghost use Rattle.command_save.specs.Saves.{saves, saves_area, saves_plan, saves_scripts};
 ghost use Rattle.command_save.specs.Saves.{saves_under};
@@ -47,14 +47,11 @@ fn save_plan<F: Files, S: Sink>(
     requires plan { IsPlan plan.now }
     requires some { 1 ≤ entries }
     requires area { IsAreaOf area.area.tree area.bytes }
-    ensures does { IsTrue F.tells → IsTrue S.tells →
-        Does (saves_plan (cells_of (map (λ h. h.known) hooks.now.all.items)) header plan.now
-        (scripts_of scripts.now) entries name.now area) (F.contents files.old) (S.taken out.old)
-        result (F.contents files.new) (S.taken out.new) }
-    ensures counts { Tallies result (Counted (F.counts files.old) (S.faults out.old))
-        (Counted (F.counts files.new) (S.faults out.new)) }
-    ensures names { KeepsBut (λ other. other ≡ name.now)
-        (F.contents files.old) (F.contents files.new) }
+    ensures does { IsTrue F.tells → IsTrue S.tells → DoesOn F.contents S.taken (saves_plan
+        (cells_of (map (λ h. h.known) hooks.now.all.items)) header plan.now (scripts_of scripts.now)
+        entries name.now area) files.old out.old result files.new out.new }
+    ensures counts { TalliesOn F.counts S.faults result files.old out.old files.new out.new }
+    ensures names { KeepsBut (IsName name.now) (F.contents files.old) (F.contents files.new) }
     ensures only { IfErr result StopsGame }
 {
     plays_can_rest();
@@ -101,15 +98,11 @@ fn save_area<F: Files, S: Sink>(
     requires hooks { AreServing (map (λ h. h.known) hooks.now.all.items) }
     requires plan { IsPlan plan.now }
     requires some { 1 ≤ entries }
-    ensures does { IsTrue F.tells → IsTrue S.tells →
-        Does (saves_area (cells_of (map (λ h. h.known) hooks.now.all.items)) header area.now
-        plan.now entries name.now (scripts_of scripts.now))
-        (F.contents files.old) (S.taken out.old)
-        result (F.contents files.new) (S.taken out.new) }
-    ensures counts { Tallies result (Counted (F.counts files.old) (S.faults out.old))
-        (Counted (F.counts files.new) (S.faults out.new)) }
-    ensures names { KeepsBut (λ other. other ≡ name.now)
-        (F.contents files.old) (F.contents files.new) }
+    ensures does { IsTrue F.tells → IsTrue S.tells → DoesOn F.contents S.taken (saves_area
+        (cells_of (map (λ h. h.known) hooks.now.all.items)) header area.now plan.now entries
+        name.now (scripts_of scripts.now)) files.old out.old result files.new out.new }
+    ensures counts { TalliesOn F.counts S.faults result files.old out.old files.new out.new }
+    ensures names { KeepsBut (IsName name.now) (F.contents files.old) (F.contents files.new) }
     ensures only { IfErr result StopsGame }
 {
     match read_area_file(alloc, area, files, out) {
@@ -141,12 +134,10 @@ fn save_scripts<F: Files, S: Sink>(
     requires hooks { AreServing (map (λ h. h.known) hooks.now.all.items) }
     requires plan { IsPlan plan.now }
     requires some { 1 ≤ entries }
-    ensures does { IsTrue F.tells → IsTrue S.tells →
-        Does (saves_scripts (cells_of (map (λ h. h.known) hooks.now.all.items)) area.now plan.now
-        entries name.now header) (F.contents files.old) (S.taken out.old)
-        result (F.contents files.new) (S.taken out.new) }
-    ensures counts { Tallies result (Counted (F.counts files.old) (S.faults out.old))
-        (Counted (F.counts files.new) (S.faults out.new)) }
+    ensures does { IsTrue F.tells → IsTrue S.tells → DoesOn F.contents S.taken (saves_scripts
+        (cells_of (map (λ h. h.known) hooks.now.all.items)) area.now plan.now entries name.now
+        header) files.old out.old result files.new out.new }
+    ensures counts { TalliesOn F.counts S.faults result files.old out.old files.new out.new }
     ensures names { KeepsBut (IsGameFile name.now) (F.contents files.old) (F.contents files.new) }
     ensures only { IfErr result StopsGame }
 {
@@ -178,12 +169,10 @@ fn save_under<F: Files, S: Sink>(
     requires hooks { AreServing (map (λ h. h.known) hooks.now.all.items) }
     requires plan { IsPlan plan.now }
     requires some { 1 ≤ entries }
-    ensures does { IsTrue F.tells → IsTrue S.tells →
-        Does (saves_under (cells_of (map (λ h. h.known) hooks.now.all.items)) header.now area.now
-        entries name.now plan.now) (F.contents files.old) (S.taken out.old)
-        result (F.contents files.new) (S.taken out.new) }
-    ensures counts { Tallies result (Counted (F.counts files.old) (S.faults out.old))
-        (Counted (F.counts files.new) (S.faults out.new)) }
+    ensures does { IsTrue F.tells → IsTrue S.tells → DoesOn F.contents S.taken (saves_under
+        (cells_of (map (λ h. h.known) hooks.now.all.items)) header.now area.now entries name.now
+        plan.now) files.old out.old result files.new out.new }
+    ensures counts { TalliesOn F.counts S.faults result files.old out.old files.new out.new }
     ensures names { KeepsBut (IsGameFile name.now) (F.contents files.old) (F.contents files.new) }
     ensures only { IfErr result StopsGame }
 {
@@ -209,12 +198,10 @@ pub fn save_play<F: Files, S: Sink>(
 ) -> Result<(), Status>
     requires hooks { AreServing (map (λ h. h.known) hooks.now.all.items) }
     requires some { 1 ≤ entries }
-    ensures does { IsTrue F.tells → IsTrue S.tells →
-        Does (saves (cells_of (map (λ h. h.known) hooks.now.all.items)) header.now area.now
-        plan.now entries state.now) (F.contents files.old) (S.taken out.old)
-        result (F.contents files.new) (S.taken out.new) }
-    ensures counts { Tallies result (Counted (F.counts files.old) (S.faults out.old))
-        (Counted (F.counts files.new) (S.faults out.new)) }
+    ensures does { IsTrue F.tells → IsTrue S.tells → DoesOn F.contents S.taken (saves
+        (cells_of (map (λ h. h.known) hooks.now.all.items)) header.now area.now plan.now entries
+        state.now) files.old out.old result files.new out.new }
+    ensures counts { TalliesOn F.counts S.faults result files.old out.old files.new out.new }
     // The files of bytecode of scripts, and the file of the state, alone are written.
     ensures names { KeepsBut (IsGameFile state.now)
         (F.contents files.old) (F.contents files.new) }

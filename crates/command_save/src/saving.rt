@@ -9,9 +9,9 @@ ghost use Rattle.module_player.specs.CodePlays.{code_end_text};
 ghost use Rattle.module_player.specs.EndTexts.{HasText, IsEnding};
 ghost use Rattle.play_save.specs.States.{MayCount, MayList, MayRest};
 ghost use Rattle.nwq_outside.specs.Outside.{Contents};
-ghost use Rattle.nwq_outside.specs.declared.counts.FileCounts.{FileCounts};
 ghost use Rattle.command_work.specs.Work.{Does, Ends, Puts};
-ghost use Rattle.command_work.specs.Counts.{Counted, Tallies, Refusing, KeepsBut};
+ghost use Rattle.command_work.specs.Counts.{Refusing, KeepsBut};
+ghost use Rattle.command_work.specs.Calls.{TalliesOn, TalliesPuts, IsName};
 ghost use Rattle.command_plays.specs.Tellings.{cut_of};
 ghost use Rattle.command_play.specs.Tellings.{StopsGame};
 ghost use Rattle.command_save.specs.Saves.{IsStateAt, saves_at, saves_by};
@@ -103,10 +103,8 @@ fn save_state<F: Files, S: Sink>(
         Does (saves_at header file plan.now (scripts_of scripts.now) name.now p)
         (F.contents files.old) (S.taken out.old)
         result (F.contents files.new) (S.taken out.new) }
-    ensures counts { Tallies result (Counted (F.counts files.old) (S.faults out.old))
-        (Counted (F.counts files.new) (S.faults out.new)) }
-    ensures names { KeepsBut (λ other. other ≡ name.now)
-        (F.contents files.old) (F.contents files.new) }
+    ensures counts { TalliesOn F.counts S.faults result files.old out.old files.new out.new }
+    ensures names { KeepsBut (IsName name.now) (F.contents files.old) (F.contents files.new) }
     ensures only { IfErr result (Refusing Status.Area) }
 {
     match take_state(alloc, header, file, plan, scripts, world, played) {
@@ -129,8 +127,7 @@ fn tell_stopped<S: Sink>(
         IsEnding played.now p world.world →
         Does (Puts (code_end_text (scripts_of scripts.now) p) (Ends Status.Limit))
         c (S.taken out.old) result c (S.taken out.new) }
-    ensures counts { (counts : FileCounts) → Tallies result (Counted counts (S.faults out.old))
-        (Counted counts (S.faults out.new)) }
+    ensures counts { TalliesPuts S.faults result out.old out.new }
     ensures only { IfErr result (Refusing Status.Limit) }
 {
     match end_text(alloc, world, scripts, played) {
@@ -166,10 +163,8 @@ pub(crate) fn save_broken<F: Files, S: Sink>(
         Does (saves_by p.ending header file plan.now (scripts_of scripts.now) name.now p)
         (F.contents files.old) (S.taken out.old)
         result (F.contents files.new) (S.taken out.new) }
-    ensures counts { Tallies result (Counted (F.counts files.old) (S.faults out.old))
-        (Counted (F.counts files.new) (S.faults out.new)) }
-    ensures names { KeepsBut (λ other. other ≡ name.now)
-        (F.contents files.old) (F.contents files.new) }
+    ensures counts { TalliesOn F.counts S.faults result files.old out.old files.new out.new }
+    ensures names { KeepsBut (IsName name.now) (F.contents files.old) (F.contents files.new) }
     ensures only { IfErr result StopsGame }
 {
     match played.how {

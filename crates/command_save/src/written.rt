@@ -2,8 +2,9 @@
 ghost use Rattle.std.specs.Prelude.{◌≡◌, ◌≤◌, ◌++◌, ℕ, length, IsTrue, IfOk, IfErr, OnOk};
 ghost use Rattle.nwq_value.specs.Limits.{file_limit};
 ghost use Rattle.state_format.specs.Fields.{parts_bytes};
-ghost use Rattle.command_work.specs.Work.{Does, CutsShort};
-ghost use Rattle.command_work.specs.Counts.{Counted, Tallies, Refusing, KeepsBut};
+ghost use Rattle.command_work.specs.Work.{CutsShort};
+ghost use Rattle.command_work.specs.Counts.{Refusing, KeepsBut};
+ghost use Rattle.command_work.specs.Calls.{DoesOn, TalliesOn, IsName};
 ghost use Rattle.command_save.specs.Saves.{saved_line, state_told, state_written};
 
 use command_work::{AreaFlaw, Status, put, refuse_area, write_file};
@@ -36,13 +37,10 @@ fn write_bytes<F: Files, S: Sink>(
     files: &mut F,
     out: &mut S,
 ) -> Result<(), Status>
-    ensures does { IsTrue F.tells → IsTrue S.tells →
-        Does (state_told name.now bytes.now entries) (F.contents files.old) (S.taken out.old)
-        result (F.contents files.new) (S.taken out.new) }
-    ensures counts { Tallies result (Counted (F.counts files.old) (S.faults out.old))
-        (Counted (F.counts files.new) (S.faults out.new)) }
-    ensures names { KeepsBut (λ other. other ≡ name.now)
-        (F.contents files.old) (F.contents files.new) }
+    ensures does { IsTrue F.tells → IsTrue S.tells → DoesOn F.contents S.taken
+        (state_told name.now bytes.now entries) files.old out.old result files.new out.new }
+    ensures counts { TalliesOn F.counts S.faults result files.old out.old files.new out.new }
+    ensures names { KeepsBut (IsName name.now) (F.contents files.old) (F.contents files.new) }
     ensures only { IfErr result CutsShort }
 {
     match write_file(name, bytes, files) {
@@ -62,13 +60,10 @@ pub(crate) fn write_state<F: Files, S: Sink>(
     out: &mut S,
 ) -> Result<(), Status>
     requires taken { state.now.taken ≡ entries }
-    ensures does { IsTrue F.tells → IsTrue S.tells →
-        Does (state_written name.now state.now) (F.contents files.old) (S.taken out.old)
-        result (F.contents files.new) (S.taken out.new) }
-    ensures counts { Tallies result (Counted (F.counts files.old) (S.faults out.old))
-        (Counted (F.counts files.new) (S.faults out.new)) }
-    ensures names { KeepsBut (λ other. other ≡ name.now)
-        (F.contents files.old) (F.contents files.new) }
+    ensures does { IsTrue F.tells → IsTrue S.tells → DoesOn F.contents S.taken
+        (state_written name.now state.now) files.old out.old result files.new out.new }
+    ensures counts { TalliesOn F.counts S.faults result files.old out.old files.new out.new }
+    ensures names { KeepsBut (IsName name.now) (F.contents files.old) (F.contents files.new) }
     ensures only { IfErr result (Refusing Status.Area) }
 {
     match put_state(alloc, state) {

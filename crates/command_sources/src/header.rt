@@ -2,11 +2,9 @@ ghost use Rattle.std.specs.Prelude.{◌≡◌, ◌≤◌, ℕ, List, length, IsT
 ghost use Rattle.std.specs.Prelude.{bytes_eq, codes};
 ghost use Rattle.nwq_value.specs.Limits.{file_limit};
 ghost use Rattle.nwq_value.specs.Engine.{EngineTable};
-ghost use Rattle.nwq_outside.specs.Outside.{Contents};
 ghost use Rattle.engine_table.specs.Headers.{HasTable, IsRefused, IsWithin};
-ghost use Rattle.nwq_outside.specs.declared.counts.FileCounts.{FileCounts};
-ghost use Rattle.command_work.specs.Work.{Does};
-ghost use Rattle.command_work.specs.Counts.{Counted, Tallies, TalliesEnd, Refusing, StopsSource};
+ghost use Rattle.command_work.specs.Counts.{Refusing, StopsSource};
+ghost use Rattle.command_work.specs.Calls.{DoesOn, TalliesOn, TalliesPuts, TalliesStop, DoesPuts};
 ghost use Rattle.command_sources.specs.Headers.{table_in, table_named, table_of};
 
 use command_work::{Cause, Status, read_file, refuse_at};
@@ -27,10 +25,9 @@ fn refuse_header<S: Sink>(
 ) -> Status
     requires size { length bytes.now ≤ file_limit }
     requires within { IsWithin (length bytes.now) fault }
-    ensures does { IsTrue S.tells → IsRefused bytes.now fault → (c : Contents) →
-        Does (table_in name.now bytes.now) c (S.taken out.old) (Err result) c (S.taken out.new) }
-    ensures counts { (counts : FileCounts) → TalliesEnd result (Counted counts (S.faults out.old))
-        (Counted counts (S.faults out.new)) }
+    ensures does { IsTrue S.tells → IsRefused bytes.now fault → DoesPuts S.taken
+        (table_in name.now bytes.now) out.old (Err result) out.new }
+    ensures counts { TalliesStop S.faults result out.old out.new }
     ensures only { Refusing Status.Script result }
 {
     match fault {
@@ -55,10 +52,9 @@ pub fn table_of_text<S: Sink>(
     out: &mut S,
 ) -> Result<Table, Status>
     requires { length bytes.now ≤ file_limit }
-    ensures does { IsTrue S.tells → (c : Contents) →
-        Does (table_in name.now bytes.now) c (S.taken out.old) result c (S.taken out.new) }
-    ensures counts { (counts : FileCounts) → Tallies result (Counted counts (S.faults out.old))
-        (Counted counts (S.faults out.new)) }
+    ensures does { IsTrue S.tells → DoesPuts S.taken (table_in name.now bytes.now)
+        out.old result out.new }
+    ensures counts { TalliesPuts S.faults result out.old out.new }
     ensures has { IfOk result (HasTable bytes.now) }
     ensures only { IfErr result (Refusing Status.Script) }
 {
@@ -76,11 +72,9 @@ fn table_of_file<F: Files, S: Sink>(
     files: &mut F,
     out: &mut S,
 ) -> Result<Table, Status>
-    ensures does { IsTrue F.tells → IsTrue S.tells →
-        Does (table_named name.now) (F.contents files.old) (S.taken out.old)
-        result (F.contents files.new) (S.taken out.new) }
-    ensures counts { Tallies result (Counted (F.counts files.old) (S.faults out.old))
-        (Counted (F.counts files.new) (S.faults out.new)) }
+    ensures does { IsTrue F.tells → IsTrue S.tells → DoesOn F.contents S.taken
+        (table_named name.now) files.old out.old result files.new out.new }
+    ensures counts { TalliesOn F.counts S.faults result files.old out.old files.new out.new }
     ensures same { F.contents files.new ≡ F.contents files.old }
     ensures only { IfErr result StopsSource }
 {
@@ -105,11 +99,9 @@ pub fn read_table<F: Files, S: Sink>(
     files: &mut F,
     out: &mut S,
 ) -> Result<Table, Status>
-    ensures does { IsTrue F.tells → IsTrue S.tells →
-        Does (table_of header.now) (F.contents files.old) (S.taken out.old)
-        result (F.contents files.new) (S.taken out.new) }
-    ensures counts { Tallies result (Counted (F.counts files.old) (S.faults out.old))
-        (Counted (F.counts files.new) (S.faults out.new)) }
+    ensures does { IsTrue F.tells → IsTrue S.tells → DoesOn F.contents S.taken (table_of header.now)
+        files.old out.old result files.new out.new }
+    ensures counts { TalliesOn F.counts S.faults result files.old out.old files.new out.new }
     ensures same { F.contents files.new ≡ F.contents files.old }
     ensures only { IfErr result StopsSource }
 {

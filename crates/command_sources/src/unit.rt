@@ -11,7 +11,8 @@ ghost use Rattle.nss_include.specs.Gather.{Gathers, CountsGathered};
 ghost use Rattle.nwq_outside.specs.declared.counts.FileCounts.{FileCounts};
 ghost use Rattle.command_work.specs.Work.{Does};
 ghost use Rattle.command_work.specs.Parts.{Refuses};
-ghost use Rattle.command_work.specs.Counts.{Counted, Tallies, TalliesEnd, Refusing, StopsSource};
+ghost use Rattle.command_work.specs.Counts.{Counted, TalliesEnd, Refusing, StopsSource};
+ghost use Rattle.command_work.specs.Calls.{DoesOn, TalliesOn, TalliesPuts, TalliesStop};
 ghost use Rattle.command_sources.specs.Reading.{HasFault, HasTree, IsCounted};
 ghost use Rattle.command_sources.specs.Scripts.{plain_answer};
 ghost use Rattle.command_sources.specs.Units.{spot_at, spot_of, at_spot, unit_of};
@@ -48,8 +49,7 @@ fn spot_of(alloc: Global, unit: &Unit, i: usize) -> Result<Spot, NoMemory>
 fn refuse_spot<S: Sink>(alloc: Global, cause: Cause, spot: &Spot, out: &mut S) -> Status
     ensures does { IsTrue S.tells →
         Refuses (at_spot cause spot.now) (S.taken out.old) result (S.taken out.new) }
-    ensures counts { (counts : FileCounts) → TalliesEnd result (Counted counts (S.faults out.old))
-        (Counted counts (S.faults out.new)) }
+    ensures counts { TalliesStop S.faults result out.old out.new }
     ensures only { Refusing Status.Script result }
 {
     refuse_at(alloc, spot.name.bytes(), spot.line, spot.at, cause, out)
@@ -68,8 +68,7 @@ pub fn refuse_token<S: Sink>(
     ensures does { IsTrue S.tells →
         Refuses (at_spot cause (spot_at unit.now.files unit.now.tokens i))
         (S.taken out.old) result (S.taken out.new) }
-    ensures counts { (counts : FileCounts) → TalliesEnd result (Counted counts (S.faults out.old))
-        (Counted counts (S.faults out.new)) }
+    ensures counts { TalliesStop S.faults result out.old out.new }
     ensures only { Refusing Status.Script result }
 {
     match spot_of(alloc, unit, i) {
@@ -84,8 +83,7 @@ pub fn refuse_end<S: Sink>(alloc: Global, unit: &Unit, cause: Cause, out: &mut S
     requires files { 0 < length unit.now.files }
     ensures does { IsTrue S.tells → Refuses (at_spot cause (spot_of unit.now.files None))
         (S.taken out.old) result (S.taken out.new) }
-    ensures counts { (counts : FileCounts) → TalliesEnd result (Counted counts (S.faults out.old))
-        (Counted counts (S.faults out.new)) }
+    ensures counts { TalliesStop S.faults result out.old out.new }
     ensures only { Refusing Status.Script result }
 {
     match unit.spot(alloc, 0, unit.file_bytes(0).len() as u32) {
@@ -139,8 +137,7 @@ fn refuse_parse<S: Sink>(alloc: Global, unit: &Unit, fault: ParseFault, out: &mu
     ensures does { IsTrue S.tells → (c : Contents) (name : List ℕ) →
         IsUnit (fin_map.get c) name unit.now.tokens unit.now.files None →
         Does (unit_of name) c (S.taken out.old) (Err result) c (S.taken out.new) }
-    ensures counts { (counts : FileCounts) → TalliesEnd result (Counted counts (S.faults out.old))
-        (Counted counts (S.faults out.new)) }
+    ensures counts { TalliesStop S.faults result out.old out.new }
     ensures only { Refusing Status.Script result }
 {
     match fault {
@@ -158,8 +155,7 @@ fn parsed<S: Sink>(alloc: Global, unit: Unit, out: &mut S) -> Result<Script, Sta
         IsUnit (fin_map.get c) name unit.tokens unit.files None →
         Does (unit_of name) c (S.taken out.old) (plain_answer result) c (S.taken out.new) }
     ensures tree { IfOk result (λ script. HasTree script.unit (plain_tree script.tree)) }
-    ensures counts { (counts : FileCounts) → Tallies result (Counted counts (S.faults out.old))
-        (Counted counts (S.faults out.new)) }
+    ensures counts { TalliesPuts S.faults result out.old out.new }
     ensures only { IfErr result (Refusing Status.Script) }
 {
     match tree_of(alloc, &unit) {
@@ -176,13 +172,11 @@ pub fn read_unit<F: Files, S: Sink>(
     files: &mut F,
     out: &mut S,
 ) -> Result<Script, Status>
-    ensures does { IsTrue F.tells → IsTrue S.tells →
-        Does (unit_of script.now) (F.contents files.old) (S.taken out.old)
-        (plain_answer result) (F.contents files.new) (S.taken out.new) }
+    ensures does { IsTrue F.tells → IsTrue S.tells → DoesOn F.contents S.taken (unit_of script.now)
+        files.old out.old (plain_answer result) files.new out.new }
     // Also of files that don't tell what they hold the tree is that of the unit's tokens.
     ensures tree { IfOk result (λ script. HasTree script.unit (plain_tree script.tree)) }
-    ensures counts { Tallies result (Counted (F.counts files.old) (S.faults out.old))
-        (Counted (F.counts files.new) (S.faults out.new)) }
+    ensures counts { TalliesOn F.counts S.faults result files.old out.old files.new out.new }
     ensures same { F.contents files.new ≡ F.contents files.old }
     ensures only { IfErr result StopsSource }
 {

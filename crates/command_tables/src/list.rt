@@ -1,10 +1,8 @@
 ghost use Rattle.std.specs.Prelude.{◌≡◌, ℕ, true, [], ◌∷◌, ◌++◌, IsTrue, IfOk, IfErr, OnOk};
 ghost use Rattle.std.specs.List.{list_any};
 ghost use Rattle.table_2da.specs.Look.{same_name};
-ghost use Rattle.nwq_outside.specs.Outside.{Contents};
-ghost use Rattle.nwq_outside.specs.declared.counts.FileCounts.{FileCounts};
-ghost use Rattle.command_work.specs.Work.{Does};
-ghost use Rattle.command_work.specs.Counts.{Counted, Tallies, Refusing, StopsArea};
+ghost use Rattle.command_work.specs.Counts.{Refusing, StopsArea};
+ghost use Rattle.command_work.specs.Calls.{DoesOn, TalliesOn, TalliesPuts, DoesPuts};
 ghost use Rattle.command_tables.specs.Lists.{may_follow, AreNames, HasNames, IsFaulty, names_in};
 ghost use Rattle.command_tables.specs.Lists.{names_listed};
 
@@ -84,10 +82,9 @@ fn names_of_bytes<S: Sink>(
     bytes: &[u8],
     out: &mut S,
 ) -> Result<Names, Status>
-    ensures does { IsTrue S.tells → (c : Contents) →
-        Does (names_in list.now bytes.now) c (S.taken out.old) result c (S.taken out.new) }
-    ensures counts { (counts : FileCounts) → Tallies result (Counted counts (S.faults out.old))
-        (Counted counts (S.faults out.new)) }
+    ensures does { IsTrue S.tells → DoesPuts S.taken (names_in list.now bytes.now)
+        out.old result out.new }
+    ensures counts { TalliesPuts S.faults result out.old out.new }
     ensures names { IfOk result AreNames }
     ensures only { IfErr result (Refusing Status.Area) }
 {
@@ -106,11 +103,9 @@ pub(crate) fn read_list<F: Files, S: Sink>(
     files: &mut F,
     out: &mut S,
 ) -> Result<Names, Status>
-    ensures does { IsTrue F.tells → IsTrue S.tells →
-        Does (names_listed list.now) (F.contents files.old) (S.taken out.old)
-        result (F.contents files.new) (S.taken out.new) }
-    ensures counts { Tallies result (Counted (F.counts files.old) (S.faults out.old))
-        (Counted (F.counts files.new) (S.faults out.new)) }
+    ensures does { IsTrue F.tells → IsTrue S.tells → DoesOn F.contents S.taken
+        (names_listed list.now) files.old out.old result files.new out.new }
+    ensures counts { TalliesOn F.counts S.faults result files.old out.old files.new out.new }
     ensures same { F.contents files.new ≡ F.contents files.old }
     ensures names { IfOk result AreNames }
     ensures only { IfErr result StopsArea }

@@ -2,8 +2,8 @@ ghost use Rattle.std.specs.Prelude.{◌≡◌, [], ◌∷◌, ◌++◌, map, Non
 ghost use Rattle.std.specs.Option.{option_map};
 ghost use Rattle.nwq_text.specs.Names.{is_script_name};
 ghost use Rattle.table_2da.specs.Look.{table_named};
-ghost use Rattle.command_work.specs.Work.{Does};
-ghost use Rattle.command_work.specs.Counts.{Counted, Tallies, StopsArea};
+ghost use Rattle.command_work.specs.Counts.{StopsArea};
+ghost use Rattle.command_work.specs.Calls.{DoesOn, TalliesOn};
 ghost use Rattle.command_tables.specs.Lists.{AreNames};
 ghost use Rattle.command_tables.specs.Reading.{with_tables};
 ghost use Rattle.command_tables.specs.Tables.{table_file, table_of, with_table, one_more};
@@ -27,11 +27,9 @@ fn read_one<F: Files, S: Sink>(
     out: &mut S,
 ) -> Result<Table2, Status>
     requires name { IsTrue (is_script_name name.now) }
-    ensures does { IsTrue F.tells → IsTrue S.tells →
-        Does (table_of (table_file name.now)) (F.contents files.old) (S.taken out.old)
-        result (F.contents files.new) (S.taken out.new) }
-    ensures counts { Tallies result (Counted (F.counts files.old) (S.faults out.old))
-        (Counted (F.counts files.new) (S.faults out.new)) }
+    ensures does { IsTrue F.tells → IsTrue S.tells → DoesOn F.contents S.taken
+        (table_of (table_file name.now)) files.old out.old result files.new out.new }
+    ensures counts { TalliesOn F.counts S.faults result files.old out.old files.new out.new }
     ensures same { F.contents files.new ≡ F.contents files.old }
     ensures only { IfErr result StopsArea }
 {
@@ -66,13 +64,12 @@ fn add_table<F: Files, S: Sink>(
 ) -> Result<(), Status>
     requires name { IsTrue (is_script_name name.now) }
     requires new_name { table_named name.now tables.old ≡ None }
-    ensures does { IsTrue F.tells → IsTrue S.tells →
-        Does (one_more tables.old name.now) (F.contents files.old) (S.taken out.old)
-        (with_tables tables.new result) (F.contents files.new) (S.taken out.new) }
+    ensures does { IsTrue F.tells → IsTrue S.tells → DoesOn F.contents S.taken
+        (one_more tables.old name.now)
+        files.old out.old (with_tables tables.new result) files.new out.new }
     ensures tables { OnOk result (map (λ t. t.name) tables.new
         ≡ map (λ t. t.name) tables.old ++ name.now ∷ []) }
-    ensures counts { Tallies result (Counted (F.counts files.old) (S.faults out.old))
-        (Counted (F.counts files.new) (S.faults out.new)) }
+    ensures counts { TalliesOn F.counts S.faults result files.old out.old files.new out.new }
     ensures same { F.contents files.new ≡ F.contents files.old }
     ensures only { IfErr result StopsArea }
 {
@@ -95,11 +92,10 @@ fn add_tables<F: Files, S: Sink>(
 ) -> Result<(), Status>
     requires names { AreNames names.now }
     requires none { tables.old ≡ [] }
-    ensures does { IsTrue F.tells → IsTrue S.tells →
-        Does (all_behind [] names.now) (F.contents files.old) (S.taken out.old)
-        (with_tables tables.new result) (F.contents files.new) (S.taken out.new) }
-    ensures counts { Tallies result (Counted (F.counts files.old) (S.faults out.old))
-        (Counted (F.counts files.new) (S.faults out.new)) }
+    ensures does { IsTrue F.tells → IsTrue S.tells → DoesOn F.contents S.taken
+        (all_behind [] names.now)
+        files.old out.old (with_tables tables.new result) files.new out.new }
+    ensures counts { TalliesOn F.counts S.faults result files.old out.old files.new out.new }
     ensures same { F.contents files.new ≡ F.contents files.old }
     ensures only { IfErr result StopsArea }
 {
@@ -122,11 +118,9 @@ fn read_all<F: Files, S: Sink>(
     out: &mut S,
 ) -> Result<Tables, Status>
     requires names { AreNames names.now }
-    ensures does { IsTrue F.tells → IsTrue S.tells →
-        Does (all_behind [] names.now) (F.contents files.old) (S.taken out.old)
-        result (F.contents files.new) (S.taken out.new) }
-    ensures counts { Tallies result (Counted (F.counts files.old) (S.faults out.old))
-        (Counted (F.counts files.new) (S.faults out.new)) }
+    ensures does { IsTrue F.tells → IsTrue S.tells → DoesOn F.contents S.taken
+        (all_behind [] names.now) files.old out.old result files.new out.new }
+    ensures counts { TalliesOn F.counts S.faults result files.old out.old files.new out.new }
     ensures same { F.contents files.new ≡ F.contents files.old }
     ensures only { IfErr result StopsArea }
 {
@@ -148,11 +142,9 @@ fn read_listed<F: Files, S: Sink>(
     files: &mut F,
     out: &mut S,
 ) -> Result<Tables, Status>
-    ensures does { IsTrue F.tells → IsTrue S.tells →
-        Does (tables_listed list.now) (F.contents files.old) (S.taken out.old)
-        result (F.contents files.new) (S.taken out.new) }
-    ensures counts { Tallies result (Counted (F.counts files.old) (S.faults out.old))
-        (Counted (F.counts files.new) (S.faults out.new)) }
+    ensures does { IsTrue F.tells → IsTrue S.tells → DoesOn F.contents S.taken
+        (tables_listed list.now) files.old out.old result files.new out.new }
+    ensures counts { TalliesOn F.counts S.faults result files.old out.old files.new out.new }
     ensures same { F.contents files.new ≡ F.contents files.old }
     ensures only { IfErr result StopsArea }
 {
@@ -169,12 +161,10 @@ pub fn read_tables<F: Files, S: Sink>(
     files: &mut F,
     out: &mut S,
 ) -> Result<Tables, Status>
-    ensures does { IsTrue F.tells → IsTrue S.tells →
-        Does (tables_given (option_map (λ name. name.now) list.entry))
-        (F.contents files.old) (S.taken out.old)
-        result (F.contents files.new) (S.taken out.new) }
-    ensures counts { Tallies result (Counted (F.counts files.old) (S.faults out.old))
-        (Counted (F.counts files.new) (S.faults out.new)) }
+    ensures does { IsTrue F.tells → IsTrue S.tells → DoesOn F.contents S.taken
+        (tables_given (option_map (λ name. name.now) list.entry))
+        files.old out.old result files.new out.new }
+    ensures counts { TalliesOn F.counts S.faults result files.old out.old files.new out.new }
     ensures same { F.contents files.new ≡ F.contents files.old }
     ensures only { IfErr result StopsArea }
     ensures none { list.entry ≡ None → result ≡ Ok [] }

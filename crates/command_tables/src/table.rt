@@ -1,9 +1,7 @@
 ghost use Rattle.std.specs.Prelude.{◌≡◌, ℕ, string_bytes, IsTrue, IfOk, IfErr};
-ghost use Rattle.nwq_outside.specs.Outside.{Contents};
-ghost use Rattle.nwq_outside.specs.declared.counts.FileCounts.{FileCounts};
 ghost use Rattle.nwq_text.specs.Names.{is_script_name};
-ghost use Rattle.command_work.specs.Work.{Does};
-ghost use Rattle.command_work.specs.Counts.{Counted, Tallies, Refusing, StopsArea};
+ghost use Rattle.command_work.specs.Counts.{Refusing, StopsArea};
+ghost use Rattle.command_work.specs.Calls.{DoesOn, TalliesOn, TalliesPuts, DoesPuts};
 ghost use Rattle.command_tables.specs.Tables.{table_file, table_in, table_of};
 
 use command_work::{AreaFlaw, Status, read_file, refuse_area};
@@ -31,10 +29,9 @@ fn table_of_bytes<S: Sink>(
     bytes: &[u8],
     out: &mut S,
 ) -> Result<Table2, Status>
-    ensures does { IsTrue S.tells → (c : Contents) →
-        Does (table_in file.now bytes.now) c (S.taken out.old) result c (S.taken out.new) }
-    ensures counts { (counts : FileCounts) → Tallies result (Counted counts (S.faults out.old))
-        (Counted counts (S.faults out.new)) }
+    ensures does { IsTrue S.tells → DoesPuts S.taken (table_in file.now bytes.now)
+        out.old result out.new }
+    ensures counts { TalliesPuts S.faults result out.old out.new }
     ensures only { IfErr result (Refusing Status.Area) }
 {
     match read_table(alloc, bytes) {
@@ -52,11 +49,9 @@ pub(crate) fn read_named<F: Files, S: Sink>(
     files: &mut F,
     out: &mut S,
 ) -> Result<Table2, Status>
-    ensures does { IsTrue F.tells → IsTrue S.tells →
-        Does (table_of file.now) (F.contents files.old) (S.taken out.old)
-        result (F.contents files.new) (S.taken out.new) }
-    ensures counts { Tallies result (Counted (F.counts files.old) (S.faults out.old))
-        (Counted (F.counts files.new) (S.faults out.new)) }
+    ensures does { IsTrue F.tells → IsTrue S.tells → DoesOn F.contents S.taken (table_of file.now)
+        files.old out.old result files.new out.new }
+    ensures counts { TalliesOn F.counts S.faults result files.old out.old files.new out.new }
     ensures same { F.contents files.new ≡ F.contents files.old }
     ensures only { IfErr result StopsArea }
 {

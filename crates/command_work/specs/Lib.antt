@@ -7,3 +7,4 @@ pub mod Outcomes
 pub mod Sequences
 pub mod Reading
 pub mod Comes
+pub mod Calls

@@ -1,9 +1,9 @@
 ghost use Rattle.std.specs.Prelude.{◌≡◌, ◌≤◌, ℕ, List, length, IsTrue, IfOk, IfErr};
 ghost use Rattle.nwq_value.specs.Limits.{file_limit};
-ghost use Rattle.nwq_outside.specs.declared.counts.FileCounts.{FileCounts};
 ghost use Rattle.command_work.specs.Work.{Does, CutsShort, file_named, writes};
 ghost use Rattle.command_work.specs.Parts.{PutsWhole};
 ghost use Rattle.command_work.specs.Counts.{Counted, Tallies, CountsPut, KeepsBut, StopsRead};
+ghost use Rattle.command_work.specs.Calls.{DoesOn, TalliesOn, TalliesPuts, IsName};
 
 use crate::refusal::{refuse_absent, refuse_long};
 use crate::status::Status;
@@ -33,8 +33,7 @@ pub(crate) fn put_line<S: Sink>(text: Result<Vec<u8>, NoMemory>, out: &mut S) ->
 pub fn put<S: Sink>(text: Result<Vec<u8>, NoMemory>, out: &mut S) -> Result<(), Status>
     ensures does { IsTrue S.tells → (whole : List ℕ) → IfOk text (λ t. t.items ≡ whole) →
         PutsWhole whole (S.taken out.old) result (S.taken out.new) }
-    ensures counts { (counts : FileCounts) → Tallies result (Counted counts (S.faults out.old))
-        (Counted counts (S.faults out.new)) }
+    ensures counts { TalliesPuts S.faults result out.old out.new }
     ensures only { IfErr result CutsShort }
 {
     match put_line(text, out) {
@@ -51,11 +50,9 @@ pub fn read_file<F: Files, S: Sink>(
     files: &mut F,
     out: &mut S,
 ) -> Result<Items<u8>, Status>
-    ensures does { IsTrue F.tells → IsTrue S.tells →
-        Does (file_named name.now) (F.contents files.old) (S.taken out.old)
-        result (F.contents files.new) (S.taken out.new) }
-    ensures counts { Tallies result (Counted (F.counts files.old) (S.faults out.old))
-        (Counted (F.counts files.new) (S.faults out.new)) }
+    ensures does { IsTrue F.tells → IsTrue S.tells → DoesOn F.contents S.taken (file_named name.now)
+        files.old out.old result files.new out.new }
+    ensures counts { TalliesOn F.counts S.faults result files.old out.old files.new out.new }
     ensures same { F.contents files.new ≡ F.contents files.old }
     ensures size { IfOk result (λ bytes. length bytes ≤ file_limit) }
     ensures only { IfErr result StopsRead }
@@ -76,8 +73,7 @@ pub fn write_file<F: Files>(name: &str, bytes: &[u8], files: &mut F) -> Result<(
         Does (writes name.now bytes.now) (F.contents files.old) t result (F.contents files.new) t }
     ensures counts { (puts : ℕ) → Tallies result (Counted (F.counts files.old) puts)
         (Counted (F.counts files.new) puts) }
-    ensures names { KeepsBut (λ other. other ≡ name.now)
-        (F.contents files.old) (F.contents files.new) }
+    ensures names { KeepsBut (IsName name.now) (F.contents files.old) (F.contents files.new) }
     ensures only { IfErr result CutsShort }
 {
     match files.write(name, bytes) {

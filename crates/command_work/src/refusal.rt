@@ -7,6 +7,7 @@ ghost use Rattle.command_work.specs.Refusal.{line_of, NoForm, Absent, TooLong, A
 ghost use Rattle.command_work.specs.Refusal.{BadCode, BadArea};
 ghost use Rattle.command_work.specs.Parts.{Refuses};
 ghost use Rattle.command_work.specs.Counts.{Counted, TalliesEnd, Refusing};
+ghost use Rattle.command_work.specs.Calls.{TalliesStop};
 
 use crate::calls::put_line;
 use crate::cause::Cause;
@@ -89,8 +90,7 @@ fn form_line(alloc: Global) -> Result<Vec<u8>, NoMemory>
 #[tactic(auto, using(crate::proofs::Tallied::put_cut))]
 pub fn refuse_form<S: Sink>(alloc: Global, out: &mut S) -> Status
     ensures does { IsTrue S.tells → Refuses NoForm (S.taken out.old) result (S.taken out.new) }
-    ensures counts { (counts : FileCounts) → TalliesEnd result (Counted counts (S.faults out.old))
-        (Counted counts (S.faults out.new)) }
+    ensures counts { TalliesStop S.faults result out.old out.new }
     ensures only { Refusing Status.Words result }
 {
     match put_line(form_line(alloc), out) {
@@ -111,8 +111,7 @@ pub fn refuse_at<S: Sink>(
 ) -> Status
     ensures does { IsTrue S.tells →
         Refuses (At name.now line at cause) (S.taken out.old) result (S.taken out.new) }
-    ensures counts { (counts : FileCounts) → TalliesEnd result (Counted counts (S.faults out.old))
-        (Counted counts (S.faults out.new)) }
+    ensures counts { TalliesStop S.faults result out.old out.new }
     ensures only { Refusing Status.Script result }
 {
     match put_line(place_line(alloc, name, line, at, cause), out) {
@@ -126,8 +125,7 @@ pub fn refuse_at<S: Sink>(
 pub fn refuse_code<S: Sink>(alloc: Global, name: &[u8], flaw: CodeFlaw, out: &mut S) -> Status
     ensures does { IsTrue S.tells →
         Refuses (BadCode name.now flaw) (S.taken out.old) result (S.taken out.new) }
-    ensures counts { (counts : FileCounts) → TalliesEnd result (Counted counts (S.faults out.old))
-        (Counted counts (S.faults out.new)) }
+    ensures counts { TalliesStop S.faults result out.old out.new }
     ensures only { Refusing Status.Code result }
 {
     match put_line(code_line(alloc, name, flaw), out) {
@@ -141,8 +139,7 @@ pub fn refuse_code<S: Sink>(alloc: Global, name: &[u8], flaw: CodeFlaw, out: &mu
 pub fn refuse_area<S: Sink>(alloc: Global, name: &[u8], flaw: AreaFlaw, out: &mut S) -> Status
     ensures does { IsTrue S.tells →
         Refuses (BadArea name.now flaw) (S.taken out.old) result (S.taken out.new) }
-    ensures counts { (counts : FileCounts) → TalliesEnd result (Counted counts (S.faults out.old))
-        (Counted counts (S.faults out.new)) }
+    ensures counts { TalliesStop S.faults result out.old out.new }
     ensures only { Refusing Status.Area result }
 {
     match put_line(area_line(alloc, name, flaw), out) {

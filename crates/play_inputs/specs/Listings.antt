@@ -4,7 +4,9 @@ use Rattle.nwq_value.specs.Engine.{EngineTable}
 use Rattle.ncs_code.specs.Plain.{PlainOp}
 use Rattle.plan_text.specs.declared.plan.Script.{Script as ScriptLine}
 use Rattle.machine_rules.specs.Machine.{Script}
-use Rattle.ncs_machine.specs.Host.{script_of, scripts_of}
+use Rattle.stack_rules.specs.Laws.{AllMeet}
+use Rattle.stack_check.specs.Checked.{AllStand}
+use Rattle.ncs_machine.specs.Host.{script_of, scripts_of, tables_of}
 use Rattle.ncs_machine.specs.declared.scripts.Loaded.{Loaded}
 use Rattle.command_work.specs.declared.status.Status.{Status}
 use Rattle.command_work.specs.declared.status.Status.TheVariants.{Code}
@@ -65,6 +67,11 @@ line_names lines = map (λ (line : ScriptLine). line.name) lines
 
 abbrev pub loaded_names : List Loaded → List (List ℕ)
 loaded_names scripts = map (λ (loaded : Loaded). loaded.name) scripts
+
+-- each script's table meets the rules, and stands in every table that does
+abbrev pub KeepTables : EngineTable → List Loaded → Type 0
+KeepTables header scripts =
+    AllMeet header (scripts_of scripts) (tables_of scripts) × AllStand header (scripts_of scripts) (tables_of scripts)
 
 -- ---- answers
 

@@ -1,13 +1,11 @@
 ghost use Rattle.std.specs.Prelude.{◌≡◌, ◌<◌, ◌≤◌, ℕ, [], length, IsTrue, IfOk, IfErr};
 ghost use Rattle.nwq_value.specs.Limits.{file_limit};
-ghost use Rattle.nwq_outside.specs.Outside.{Contents};
 ghost use Rattle.gff_tree.specs.Whole.{plain_gff};
 ghost use Rattle.gff_tree.specs.Count.{node_count};
 ghost use Rattle.area_rules.specs.Area.{area_of};
 ghost use Rattle.area_rules.specs.Broken.{broken_places};
-ghost use Rattle.nwq_outside.specs.declared.counts.FileCounts.{FileCounts};
-ghost use Rattle.command_work.specs.Work.{Does};
-ghost use Rattle.command_work.specs.Counts.{Counted, Tallies, Refusing, StopsArea};
+ghost use Rattle.command_work.specs.Counts.{Refusing, StopsArea};
+ghost use Rattle.command_work.specs.Calls.{DoesOn, TalliesOn, TalliesPuts, DoesPuts};
 ghost use Rattle.play_inputs.specs.Areas.{area_flaw, area_in, area_named, area_of_bytes, TellsArea};
 
 use area_rules::AreaFault;
@@ -40,13 +38,11 @@ fn area_flaw(fault: AreaFault) -> Option<AreaFlaw>
 #[tactic(auto, using(crate::proofs::AreaLemmas::areas))]
 fn area_of_tree<S: Sink>(alloc: Global, name: &[u8], tree: Gff, out: &mut S) -> Result<Area, Status>
     requires few { node_count (plain_gff tree).top < 4294967296 }
-    ensures does { IsTrue S.tells → (c : Contents) →
-        Does (area_in name.now (plain_gff tree)) c
-        (S.taken out.old) result c (S.taken out.new) }
+    ensures does { IsTrue S.tells → DoesPuts S.taken (area_in name.now (plain_gff tree))
+        out.old result out.new }
     ensures area { IfOk result (λ area. (broken_places (plain_gff tree).top ≡ [])
         × (area ≡ area_of (plain_gff tree))) }
-    ensures counts { (counts : FileCounts) → Tallies result (Counted counts (S.faults out.old))
-        (Counted counts (S.faults out.new)) }
+    ensures counts { TalliesPuts S.faults result out.old out.new }
     ensures only { IfErr result (Refusing Status.Area) }
 {
     match Area::of(alloc, tree) {
@@ -67,10 +63,9 @@ pub fn area_of_bytes<S: Sink>(
     out: &mut S,
 ) -> Result<Area, Status>
     requires size { length bytes.now ≤ file_limit }
-    ensures does { IsTrue S.tells → (c : Contents) →
-        Does (area_of_bytes name.now bytes.now) c (S.taken out.old) result c (S.taken out.new) }
-    ensures counts { (counts : FileCounts) → Tallies result (Counted counts (S.faults out.old))
-        (Counted counts (S.faults out.new)) }
+    ensures does { IsTrue S.tells → DoesPuts S.taken (area_of_bytes name.now bytes.now)
+        out.old result out.new }
+    ensures counts { TalliesPuts S.faults result out.old out.new }
     ensures tells { IfOk result (TellsArea bytes.now) }
     ensures only { IfErr result (Refusing Status.Area) }
 {
@@ -88,11 +83,9 @@ pub fn read_area<F: Files, S: Sink>(
     files: &mut F,
     out: &mut S,
 ) -> Result<Area, Status>
-    ensures does { IsTrue F.tells → IsTrue S.tells →
-        Does (area_named name.now) (F.contents files.old) (S.taken out.old)
-        result (F.contents files.new) (S.taken out.new) }
-    ensures counts { Tallies result (Counted (F.counts files.old) (S.faults out.old))
-        (Counted (F.counts files.new) (S.faults out.new)) }
+    ensures does { IsTrue F.tells → IsTrue S.tells → DoesOn F.contents S.taken (area_named name.now)
+        files.old out.old result files.new out.new }
+    ensures counts { TalliesOn F.counts S.faults result files.old out.old files.new out.new }
     ensures same { F.contents files.new ≡ F.contents files.old }
     ensures only { IfErr result StopsArea }
 {

@@ -2,12 +2,9 @@
 ghost use Rattle.std.specs.Prelude.{◌≡◌, ◌≤◌, ℕ, false, length, string_bytes, IsTrue, IfOk, IfErr};
 ghost use Rattle.nwq_value.specs.Limits.{file_limit};
 ghost use Rattle.nwq_text.specs.Names.{is_script_name};
-ghost use Rattle.stack_rules.specs.Tables.{ShapeTable};
-ghost use Rattle.stack_rules.specs.Rules.{MeetsRules};
-ghost use Rattle.stack_check.specs.Checked.{StoredStand, kept_table};
-ghost use Rattle.command_work.specs.Work.{Does};
-ghost use Rattle.command_work.specs.Counts.{Counted, Tallies, KeepsBut};
-ghost use Rattle.command_files.specs.Checks.{plain_answer};
+ghost use Rattle.command_work.specs.Counts.{KeepsBut};
+ghost use Rattle.command_work.specs.Calls.{DoesOn, TalliesOn, IsName};
+ghost use Rattle.command_files.specs.Checks.{plain_answer, KeepsTable};
 ghost use Rattle.command_compile.specs.Files.{code_name};
 ghost use Rattle.play_inputs.specs.Listings.{writes_loaded, source_named, code_by, script_in};
 ghost use Rattle.play_inputs.specs.Listings.{IsOwnFile, StopsListing, script_answer};
@@ -42,17 +39,12 @@ fn write_loaded<F: Files, S: Sink>(
     out: &mut S,
 ) -> Result<Checked, Status>
     requires small { length bytes ≤ file_limit }
-    ensures does { IsTrue F.tells → IsTrue S.tells →
-        Does (writes_loaded table.now file.now bytes) (F.contents files.old) (S.taken out.old)
-        (plain_answer result) (F.contents files.new) (S.taken out.new) }
-    ensures counts { Tallies result (Counted (F.counts files.old) (S.faults out.old))
-        (Counted (F.counts files.new) (S.faults out.new)) }
-    ensures names { KeepsBut (λ other. other ≡ file.now)
-        (F.contents files.old) (F.contents files.new) }
-    ensures meets { IfOk result (λ checked.
-        MeetsRules table.now checked.code (kept_table checked)) }
-    ensures stored { IfOk result (λ checked. (other : ShapeTable) →
-        MeetsRules table.now checked.code other → StoredStand (kept_table checked) other) }
+    ensures does { IsTrue F.tells → IsTrue S.tells → DoesOn F.contents S.taken
+        (writes_loaded table.now file.now bytes)
+        files.old out.old (plain_answer result) files.new out.new }
+    ensures counts { TalliesOn F.counts S.faults result files.old out.old files.new out.new }
+    ensures names { KeepsBut (IsName file.now) (F.contents files.old) (F.contents files.new) }
+    ensures kept { IfOk result (KeepsTable table.now) }
     ensures only { IfErr result StopsListing }
 {
     match write_file(file, bytes.as_slice(), files) {
@@ -75,17 +67,13 @@ fn read_source<F: Files, S: Sink>(
     out: &mut S,
 ) -> Result<Checked, Status>
     requires file { file.now ≡ code_name name.now }
-    ensures does { IsTrue F.tells → IsTrue S.tells →
-        Does (source_named table.now name.now) (F.contents files.old) (S.taken out.old)
-        (plain_answer result) (F.contents files.new) (S.taken out.new) }
-    ensures counts { Tallies result (Counted (F.counts files.old) (S.faults out.old))
-        (Counted (F.counts files.new) (S.faults out.new)) }
-    ensures names { KeepsBut (λ other. other ≡ code_name name.now)
-        (F.contents files.old) (F.contents files.new) }
-    ensures meets { IfOk result (λ checked.
-        MeetsRules table.now checked.code (kept_table checked)) }
-    ensures stored { IfOk result (λ checked. (other : ShapeTable) →
-        MeetsRules table.now checked.code other → StoredStand (kept_table checked) other) }
+    ensures does { IsTrue F.tells → IsTrue S.tells → DoesOn F.contents S.taken
+        (source_named table.now name.now)
+        files.old out.old (plain_answer result) files.new out.new }
+    ensures counts { TalliesOn F.counts S.faults result files.old out.old files.new out.new }
+    ensures names { KeepsBut (IsName (code_name name.now)) (F.contents files.old) (F.contents
+        files.new) }
+    ensures kept { IfOk result (KeepsTable table.now) }
     ensures only { IfErr result StopsListing }
 {
     match read_compiled(alloc, table, name, files, out) {
@@ -106,17 +94,13 @@ fn read_by<F: Files, S: Sink>(
     out: &mut S,
 ) -> Result<Checked, Status>
     requires file { file.now ≡ code_name name.now }
-    ensures does { IsTrue F.tells → IsTrue S.tells →
-        Does (code_by binary table.now name.now) (F.contents files.old) (S.taken out.old)
-        (plain_answer result) (F.contents files.new) (S.taken out.new) }
-    ensures counts { Tallies result (Counted (F.counts files.old) (S.faults out.old))
-        (Counted (F.counts files.new) (S.faults out.new)) }
+    ensures does { IsTrue F.tells → IsTrue S.tells → DoesOn F.contents S.taken
+        (code_by binary table.now name.now)
+        files.old out.old (plain_answer result) files.new out.new }
+    ensures counts { TalliesOn F.counts S.faults result files.old out.old files.new out.new }
     ensures names { KeepsBut (λ other. (binary ≡ false) × (other ≡ code_name name.now))
         (F.contents files.old) (F.contents files.new) }
-    ensures meets { IfOk result (λ checked.
-        MeetsRules table.now checked.code (kept_table checked)) }
-    ensures stored { IfOk result (λ checked. (other : ShapeTable) →
-        MeetsRules table.now checked.code other → StoredStand (kept_table checked) other) }
+    ensures kept { IfOk result (KeepsTable table.now) }
     ensures only { IfErr result StopsListing }
 {
     if binary {
@@ -136,17 +120,12 @@ fn read_code<F: Files, S: Sink>(
     out: &mut S,
 ) -> Result<Checked, Status>
     requires named { IsTrue (is_script_name line.now.name) }
-    ensures does { IsTrue F.tells → IsTrue S.tells →
-        Does (code_by line.now.binary table.now line.now.name)
-        (F.contents files.old) (S.taken out.old)
-        (plain_answer result) (F.contents files.new) (S.taken out.new) }
-    ensures counts { Tallies result (Counted (F.counts files.old) (S.faults out.old))
-        (Counted (F.counts files.new) (S.faults out.new)) }
+    ensures does { IsTrue F.tells → IsTrue S.tells → DoesOn F.contents S.taken
+        (code_by line.now.binary table.now line.now.name)
+        files.old out.old (plain_answer result) files.new out.new }
+    ensures counts { TalliesOn F.counts S.faults result files.old out.old files.new out.new }
     ensures names { KeepsBut (IsOwnFile line.now) (F.contents files.old) (F.contents files.new) }
-    ensures meets { IfOk result (λ checked.
-        MeetsRules table.now checked.code (kept_table checked)) }
-    ensures stored { IfOk result (λ checked. (other : ShapeTable) →
-        MeetsRules table.now checked.code other → StoredStand (kept_table checked) other) }
+    ensures kept { IfOk result (KeepsTable table.now) }
     ensures only { IfErr result StopsListing }
 {
     match script_name(alloc, line.name.bytes()) {
@@ -168,16 +147,11 @@ pub(crate) fn read_script<F: Files, S: Sink>(
     out: &mut S,
 ) -> Result<Loaded, Status>
     requires named { IsTrue (is_script_name line.now.name) }
-    ensures does { IsTrue F.tells → IsTrue S.tells →
-        Does (script_in table.now line.now) (F.contents files.old) (S.taken out.old)
-        (script_answer result) (F.contents files.new) (S.taken out.new) }
-    ensures counts { Tallies result (Counted (F.counts files.old) (S.faults out.old))
-        (Counted (F.counts files.new) (S.faults out.new)) }
+    ensures does { IsTrue F.tells → IsTrue S.tells → DoesOn F.contents S.taken
+        (script_in table.now line.now) files.old out.old (script_answer result) files.new out.new }
+    ensures counts { TalliesOn F.counts S.faults result files.old out.old files.new out.new }
     ensures names { KeepsBut (IsOwnFile line.now) (F.contents files.old) (F.contents files.new) }
-    ensures meets { IfOk result (λ loaded.
-        MeetsRules table.now loaded.code.code (kept_table loaded.code)) }
-    ensures stored { IfOk result (λ loaded. (other : ShapeTable) →
-        MeetsRules table.now loaded.code.code other → StoredStand (kept_table loaded.code) other) }
+    ensures kept { IfOk result (λ loaded. KeepsTable table.now loaded.code) }
     ensures name { IfOk result (λ loaded. loaded.name ≡ line.now.name) }
     ensures only { IfErr result StopsListing }
 {

@@ -1,8 +1,8 @@
-ghost use Rattle.std.specs.Prelude.{◌≡◌, ℕ, IsTrue, IfErr};
+ghost use Rattle.std.specs.Prelude.{ℕ, IsTrue, IfErr};
 ghost use Rattle.gff_tree.specs.Whole.{plain_gff};
 ghost use Rattle.area_back.specs.Back.{tree_back};
-ghost use Rattle.command_work.specs.Work.{Does};
-ghost use Rattle.command_work.specs.Counts.{Counted, Tallies, KeepsBut, Refusing};
+ghost use Rattle.command_work.specs.Counts.{KeepsBut, Refusing};
+ghost use Rattle.command_work.specs.Calls.{DoesOn, TalliesOn, IsName};
 ghost use Rattle.play_inputs.specs.Finals.{final_written};
 
 use area_back::into_tree;
@@ -23,13 +23,10 @@ fn write_tree<F: Files, S: Sink>(
     files: &mut F,
     out: &mut S,
 ) -> Result<(), Status>
-    ensures does { IsTrue F.tells → IsTrue S.tells →
-        Does (final_written name.now (plain_gff tree.now)) (F.contents files.old) (S.taken out.old)
-        result (F.contents files.new) (S.taken out.new) }
-    ensures counts { Tallies result (Counted (F.counts files.old) (S.faults out.old))
-        (Counted (F.counts files.new) (S.faults out.new)) }
-    ensures names { KeepsBut (λ other. other ≡ name.now)
-        (F.contents files.old) (F.contents files.new) }
+    ensures does { IsTrue F.tells → IsTrue S.tells → DoesOn F.contents S.taken
+        (final_written name.now (plain_gff tree.now)) files.old out.old result files.new out.new }
+    ensures counts { TalliesOn F.counts S.faults result files.old out.old files.new out.new }
+    ensures names { KeepsBut (IsName name.now) (F.contents files.old) (F.contents files.new) }
     ensures only { IfErr result (Refusing Status.Area) }
 {
     match write(alloc, tree) {
@@ -50,13 +47,10 @@ pub fn write_area<F: Files, S: Sink>(
     files: &mut F,
     out: &mut S,
 ) -> Result<(), Status>
-    ensures does { IsTrue F.tells → IsTrue S.tells →
-        Does (final_written name.now (tree_back area)) (F.contents files.old) (S.taken out.old)
-        result (F.contents files.new) (S.taken out.new) }
-    ensures counts { Tallies result (Counted (F.counts files.old) (S.faults out.old))
-        (Counted (F.counts files.new) (S.faults out.new)) }
-    ensures names { KeepsBut (λ other. other ≡ name.now)
-        (F.contents files.old) (F.contents files.new) }
+    ensures does { IsTrue F.tells → IsTrue S.tells → DoesOn F.contents S.taken
+        (final_written name.now (tree_back area)) files.old out.old result files.new out.new }
+    ensures counts { TalliesOn F.counts S.faults result files.old out.old files.new out.new }
+    ensures names { KeepsBut (IsName name.now) (F.contents files.old) (F.contents files.new) }
     ensures only { IfErr result (Refusing Status.Area) }
 {
     match into_tree(alloc, area) {

@@ -4,10 +4,10 @@ ghost use Rattle.plan_text.specs.Plans.{AreListed};
 ghost use Rattle.stack_rules.specs.Laws.{AllMeet};
 ghost use Rattle.stack_check.specs.Checked.{AllStand};
 ghost use Rattle.ncs_machine.specs.Host.{scripts_of, tables_of};
-ghost use Rattle.command_work.specs.Work.{Does};
-ghost use Rattle.command_work.specs.Counts.{Counted, Tallies, KeepsBut};
+ghost use Rattle.command_work.specs.Counts.{KeepsBut};
+ghost use Rattle.command_work.specs.Calls.{DoesOn, TalliesOn};
 ghost use Rattle.play_inputs.specs.Listings.{lists_on, scripts_listed, listed_by, listed_answer};
-ghost use Rattle.play_inputs.specs.Listings.{IsSourceFile, StopsListing};
+ghost use Rattle.play_inputs.specs.Listings.{IsSourceFile, KeepTables, StopsListing};
 ghost use Rattle.play_inputs.specs.Listings.{line_names, loaded_names};
 
 use crate::code::read_script;
@@ -31,18 +31,13 @@ fn list_on<F: Files, S: Sink>(
     requires named { AreListed lines.now }
     requires meets { AllMeet table.now (scripts_of scripts.old) (tables_of scripts.old) }
     requires stand { AllStand table.now (scripts_of scripts.old) (tables_of scripts.old) }
-    ensures does { IsTrue F.tells → IsTrue S.tells →
-        Does (lists_on table.now (scripts_of scripts.old) lines.now)
-        (F.contents files.old) (S.taken out.old)
-        (listed_by result scripts.new) (F.contents files.new) (S.taken out.new) }
-    ensures counts { Tallies result (Counted (F.counts files.old) (S.faults out.old))
-        (Counted (F.counts files.new) (S.faults out.new)) }
+    ensures does { IsTrue F.tells → IsTrue S.tells → DoesOn F.contents S.taken
+        (lists_on table.now (scripts_of scripts.old) lines.now)
+        files.old out.old (listed_by result scripts.new) files.new out.new }
+    ensures counts { TalliesOn F.counts S.faults result files.old out.old files.new out.new }
     ensures names { KeepsBut (IsSourceFile lines.now)
         (F.contents files.old) (F.contents files.new) }
-    ensures meets { OnOk result
-        (AllMeet table.now (scripts_of scripts.new) (tables_of scripts.new)) }
-    ensures stand { OnOk result
-        (AllStand table.now (scripts_of scripts.new) (tables_of scripts.new)) }
+    ensures kept { OnOk result (KeepTables table.now scripts.new) }
     ensures listed { OnOk result (loaded_names scripts.new
         ≡ loaded_names scripts.old ++ line_names lines.now) }
     ensures count { OnOk result (length scripts.new ≡ length scripts.old + length lines.now) }
@@ -71,20 +66,15 @@ pub fn list_scripts<F: Files, S: Sink>(
     out: &mut S,
 ) -> Result<Scripts, Status>
     requires named { AreListed lines.now }
-    ensures does { IsTrue F.tells → IsTrue S.tells →
-        Does (scripts_listed table.now lines.now) (F.contents files.old) (S.taken out.old)
-        (listed_answer result) (F.contents files.new) (S.taken out.new) }
-    ensures counts { Tallies result (Counted (F.counts files.old) (S.faults out.old))
-        (Counted (F.counts files.new) (S.faults out.new)) }
+    ensures does { IsTrue F.tells → IsTrue S.tells → DoesOn F.contents S.taken
+        (scripts_listed table.now lines.now)
+        files.old out.old (listed_answer result) files.new out.new }
+    ensures counts { TalliesOn F.counts S.faults result files.old out.old files.new out.new }
     // The files of the sources alone are written.
     ensures names { KeepsBut (IsSourceFile lines.now)
         (F.contents files.old) (F.contents files.new) }
     // All are well stacked, by the tables that are kept.
-    ensures meets { IfOk result (λ scripts.
-        AllMeet table.now (scripts_of scripts) (tables_of scripts)) }
-    // What these tables say of stored states stands in every table that meets the rules.
-    ensures stand { IfOk result (λ scripts.
-        AllStand table.now (scripts_of scripts) (tables_of scripts)) }
+    ensures kept { IfOk result (KeepTables table.now) }
     ensures listed { IfOk result (λ scripts. loaded_names scripts ≡ line_names lines.now) }
     ensures count { IfOk result (λ scripts. length scripts ≡ length lines.now) }
     ensures only { IfErr result StopsListing }

@@ -1,8 +1,6 @@
 ghost use Rattle.std.specs.Prelude.{◌≡◌, ℕ, IsTrue, IfErr, IfOk};
-ghost use Rattle.nwq_outside.specs.Outside.{Contents};
-ghost use Rattle.nwq_outside.specs.declared.counts.FileCounts.{FileCounts};
-ghost use Rattle.command_work.specs.Work.{Does};
-ghost use Rattle.command_work.specs.Counts.{Counted, Tallies, Refusing, StopsArea};
+ghost use Rattle.command_work.specs.Counts.{Refusing, StopsArea};
+ghost use Rattle.command_work.specs.Calls.{DoesOn, TalliesOn, TalliesPuts, DoesPuts};
 ghost use Rattle.plan_text.specs.Plans.{IsPlan};
 ghost use Rattle.play_inputs.specs.Plans.{plan_in, plan_named};
 
@@ -20,10 +18,9 @@ fn plan_of_bytes<S: Sink>(
     bytes: &[u8],
     out: &mut S,
 ) -> Result<Plan, Status>
-    ensures does { IsTrue S.tells → (c : Contents) →
-        Does (plan_in name.now bytes.now) c (S.taken out.old) result c (S.taken out.new) }
-    ensures counts { (counts : FileCounts) → Tallies result (Counted counts (S.faults out.old))
-        (Counted counts (S.faults out.new)) }
+    ensures does { IsTrue S.tells → DoesPuts S.taken (plan_in name.now bytes.now)
+        out.old result out.new }
+    ensures counts { TalliesPuts S.faults result out.old out.new }
     // Every plan that is read keeps its limits.
     ensures keeps { IfOk result IsPlan }
     ensures only { IfErr result (Refusing Status.Area) }
@@ -44,11 +41,9 @@ pub fn read_plan_file<F: Files, S: Sink>(
     files: &mut F,
     out: &mut S,
 ) -> Result<Plan, Status>
-    ensures does { IsTrue F.tells → IsTrue S.tells →
-        Does (plan_named name.now) (F.contents files.old) (S.taken out.old)
-        result (F.contents files.new) (S.taken out.new) }
-    ensures counts { Tallies result (Counted (F.counts files.old) (S.faults out.old))
-        (Counted (F.counts files.new) (S.faults out.new)) }
+    ensures does { IsTrue F.tells → IsTrue S.tells → DoesOn F.contents S.taken (plan_named name.now)
+        files.old out.old result files.new out.new }
+    ensures counts { TalliesOn F.counts S.faults result files.old out.old files.new out.new }
     ensures same { F.contents files.new ≡ F.contents files.old }
     // Every plan that is read keeps its limits.
     ensures keeps { IfOk result IsPlan }

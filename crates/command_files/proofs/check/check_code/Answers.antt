@@ -1,6 +1,5 @@
 use Rattle.std.proofs.Common.{Err, ap, sym, subst}
-use Rattle.stack_rules.specs.Rules.{MeetsRules}
-use Rattle.stack_check.specs.Checked.{kept_table}
+use Rattle.stack_check.specs.Checked.{IsKeptTable, kept_table}
 use Rattle.command_files.proofs.CheckLemmas.{passes_does, unstacked_does, check_cut}
 use Rattle.command_files.proofs.check.check_code.Goals as goal
 
@@ -8,9 +7,10 @@ pub returns-in-Ok-clause-does : goal.returns-in-Ok-clause-does
 returns-in-Ok-clause-does g c = λ tells d.
     passes_does c.args.table.now c.args.name.now c.args.code d c.in-Ok.checked (g.S.Sink.taken c.args.out.now) c.in-Ok.ensures.code c.in-Ok.ensures.meets
 
-pub returns-in-Ok-clause-meets : goal.returns-in-Ok-clause-meets
-returns-in-Ok-clause-meets g c =
-    subst (λ ops. MeetsRules c.args.table.now ops (kept_table c.in-Ok.checked)) (sym c.in-Ok.ensures.code) c.in-Ok.ensures.meets
+pub returns-in-Ok-clause-kept : goal.returns-in-Ok-clause-kept
+returns-in-Ok-clause-kept g c =
+    subst (λ ops. IsKeptTable c.args.table.now ops (kept_table c.in-Ok.checked)) (sym c.in-Ok.ensures.code)
+    (record { meets = c.in-Ok.ensures.meets; stored = c.in-Ok.ensures.stored })
 
 pub returns-in-Err-Unstacked-clause-does : goal.returns-in-Err-Unstacked-clause-does
 returns-in-Err-Unstacked-clause-does g c = λ tells d.

@@ -4,6 +4,9 @@ use Rattle.command_work.specs.Counts.{Counted}
 use Rattle.command_generate.proofs.CommandLemmas.{checked_then, counted_on}
 use Rattle.command_generate.proofs.command.play_file.Goals as goal
 
+pub play_code-requires-clause-meets : goal.play_code-requires-clause-meets
+play_code-requires-clause-meets g c = c.in-Ok.ensures.kept.meets
+
 pub returns-in-Ok-clause-does : goal.returns-in-Ok-clause-does
 returns-in-Ok-clause-does g c = λ tells d.
     checked_then (cells_of (map (λ h. h.known) c.args.hooks.now.all.items)) c.args.number c.play_code.result d (g.S.Sink.taken c.args.out.now)

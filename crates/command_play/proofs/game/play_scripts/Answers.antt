@@ -1,6 +1,9 @@
 use Rattle.command_play.specs.Files.{keeps_listing, keeps_game}
 use Rattle.command_play.proofs.game.play_scripts.Goals as goal
 
+pub play_area-requires-clause-meets : goal.play_area-requires-clause-meets
+play_area-requires-clause-meets g c = c.in-Ok.ensures.kept.0
+
 pub returns-in-Err-clause-names : goal.returns-in-Err-clause-names
 returns-in-Err-clause-names g c =
     keeps_listing c.args.plan.now c.requires.plan c.args.to.now (g.F.Files.contents c.args.files.now) (g.F.Files.contents c.list_scripts.new.files) c.as_slice.result.now

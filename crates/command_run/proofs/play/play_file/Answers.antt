@@ -6,6 +6,9 @@ use Rattle.command_files.specs.Checks.{loaded_in}
 use Rattle.command_plays.specs.Scripts.{plays_code, plays_file}
 use Rattle.command_run.proofs.play.play_file.Goals as goal
 
+pub play_code-requires-clause-meets : goal.play_code-requires-clause-meets
+play_code-requires-clause-meets g c = c.in-Ok.ensures.kept.meets
+
 pub returns-in-Ok-clause-does : goal.returns-in-Ok-clause-does
 unfolding plays_file
 returns-in-Ok-clause-does g c = λ tells d.

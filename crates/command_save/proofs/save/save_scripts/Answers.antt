@@ -5,7 +5,7 @@ use Rattle.command_save.proofs.save.save_scripts.Goals as goal
 pub save_area-requires-clause-listed : goal.save_area-requires-clause-listed
 save_area-requires-clause-listed g c =
     may_list c.args.header c.args.plan.now c.as_slice.result.now c.in-Ok.scripts c.requires.header c.requires.plan c.as_slice.ensures.items c.in-Ok.ensures.count c.in-Ok.ensures.listed
-    c.in-Ok.ensures.meets c.in-Ok.ensures.stand
+    c.in-Ok.ensures.kept.0 c.in-Ok.ensures.kept.1
 
 pub returns-in-Err-clause-names : goal.returns-in-Err-clause-names
 returns-in-Err-clause-names g c =

@@ -19,8 +19,8 @@ loop-line-preserved g c =
       c.in-Ok.ensures.counts ∙ c.loop-line.invariant.1,
       keeps_on c.args.lines.now c.loop-line.line-index c.line-item.result _ c0 (g.F.Files.contents c.loop-line.files) c1 c.loop-line-test.true c.line-item.is
           c.loop-line.invariant.2 c.in-Ok.ensures.names,
-      meets_on c.loop-line.scripts c.push.new.self c.in-Ok.script pushed c.args.table.now c.loop-line.invariant.3 c.in-Ok.ensures.meets,
-      stands_on c.loop-line.scripts c.push.new.self c.in-Ok.script pushed c.args.table.now c.loop-line.invariant.4 c.in-Ok.ensures.stored,
+      meets_on c.loop-line.scripts c.push.new.self c.in-Ok.script pushed c.args.table.now c.loop-line.invariant.3 c.in-Ok.ensures.kept.meets,
+      stands_on c.loop-line.scripts c.push.new.self c.in-Ok.script pushed c.args.table.now c.loop-line.invariant.4 c.in-Ok.ensures.kept.stored,
       names_on c.loop-line.scripts c.push.new.self c.in-Ok.script pushed c.args.scripts.now c.args.lines.now c.loop-line.line-index c.line-item.result _
           c.loop-line-test.true c.line-item.is c.in-Ok.ensures.name c.loop-line.invariant.5,
       count_on c.loop-line.scripts c.push.new.self c.in-Ok.script pushed (length c.args.scripts.now) c.loop-line.line-index c.loop-line.invariant.6,
