@@ -90,6 +90,17 @@ fn begin(found: &mut Outcome, before: &[(&str, &[u8])], failing: Failing) -> Res
     let_fail(&mut found.files, &mut found.out, failing)
 }
 
+/// These names, before anything is done, with the call that fails.
+pub fn begun(
+    alloc: Global,
+    before: &[(&str, &[u8])],
+    failing: Failing,
+) -> Result<Outcome, NoMemory> {
+    let mut found = Outcome::new(alloc);
+    begin(&mut found, before, failing)?;
+    Ok(found)
+}
+
 /// Does what a line says over what was begun.
 pub fn carry_on(
     alloc: Global,
@@ -120,8 +131,7 @@ pub fn outcome_of(
 ) -> Result<Outcome, NoMemory>
     requires hooks { AreServing (map (λ h. h.known) hooks.now.all.items) }
 {
-    let mut found = Outcome::new(alloc);
-    begin(&mut found, before, failing)?;
+    let mut found = begun(alloc, before, failing)?;
     carry_on(alloc, line, &mut found, hooks)?;
     Ok(found)
 }
@@ -134,7 +144,8 @@ fn is_held(found: Option<&[u8]>, held: Held) -> bool {
     }
 }
 
-fn are_held(files: &MemFiles, after: &[(&str, Held)]) -> bool {
+/// Whether each of these names holds what is told of it.
+pub fn are_held(files: &MemFiles, after: &[(&str, Held)]) -> bool {
     for (name, held) in after {
         if !is_held(files.get(name), *held) {
             return false;

@@ -4,10 +4,10 @@ ghost use Rattle.std.specs.Prelude.{map};
 ghost use Rattle.world_core.specs.Calls.{AreServing};
 
 use crate::answers::{Outcome, carry_on, words_of};
-use crate::saves::{is_parted, is_saved};
+use crate::saves::goes_on;
 use crate::town::{AREA, PLAYED, TEXTS};
 use hook_table::Hooks;
-use nwq_outside::{MemFiles, MemSink};
+use nwq_outside::MemFiles;
 use nwq_top::{Status, nwq_tables};
 use nwq_value::NoMemory;
 use std::alloc::Global;
@@ -24,7 +24,11 @@ fn add_town(files: &mut MemFiles) -> Result<(), NoMemory> {
 }
 
 /// The tables that words give, read as the program reads them, or how it stops there.
-fn tables_given(alloc: Global, words: &[String], found: &mut Outcome) -> Result<Tables, Status> {
+pub fn tables_given(
+    alloc: Global,
+    words: &[String],
+    found: &mut Outcome,
+) -> Result<Tables, Status> {
     nwq_tables(alloc, words, &mut found.files, &mut found.out)
 }
 
@@ -55,42 +59,94 @@ pub fn plays(alloc: Global, hooks: &Hooks) -> Result<bool, NoMemory>
     Ok(is_played(&found))
 }
 
-/// Whether the play, saved after so many entries and resumed, prints and leaves what it did.
-fn goes_on(alloc: Global, n: u64, evening: Option<&[u8]>, hooks: &Hooks) -> Result<bool, NoMemory>
-    requires hooks { AreServing (map (λ h. h.known) hooks.now.all.items) }
-{
-    let line = format!(in alloc; "save nwscript.nss town.git day.plan {n} s.nwq tables.txt")?;
-    let mut found = Outcome::new(alloc);
-    add_town(&mut found.files)?;
-    carry_on(alloc, &line, &mut found, hooks)?;
-    if found.status != Status::Done || !is_saved(found.out.bytes()) {
-        return Ok(false);
+/// The plan that lists sources, and the one that lists their files of code.
+const PLANS: [&str; 2] = ["day.plan", "code.plan"];
+
+/// What the town has under a name.
+fn text_of(name: &str) -> &'static str {
+    for (other, text) in TEXTS {
+        if *other == name {
+            return *text;
+        }
     }
-    let first = Vec::from_slice(alloc, found.out.bytes())?;
-    found.out = MemSink::new(alloc);
-    carry_on(
-        alloc,
-        "resume s.nwq after.git tables.txt",
-        &mut found,
-        hooks,
-    )?;
-    Ok(
-        found.status == Status::Done
-            && is_parted(first.as_slice(), found.out.bytes(), PLAYED.as_bytes())
-            && found.files.get("after.git") == evening,
-    )
+    ""
 }
 
-/// After how many of its 31 entries the saved play goes on otherwise, if it does so anywhere.
-pub fn first_broken(alloc: Global, hooks: &Hooks) -> Result<Option<u64>, NoMemory>
+/// The plan that lists files of code where that of the day lists sources.
+fn code_plan(alloc: Global) -> Result<Vec<u8>, NoMemory> {
+    let mut plan = Vec::new(alloc);
+    for line in text_of("day.plan").lines() {
+        match line.strip_prefix("script ") {
+            None => plan.extend_from_slice(line.as_bytes())?,
+            Some(name) => {
+                plan.extend_from_slice(b"binary ")?;
+                plan.extend_from_slice(name.as_bytes())?;
+            }
+        }
+        plan.push(b'\n')?;
+    }
+    Ok(plan)
+}
+
+/// Compiles each script that the plan of the day lists.
+fn compile_all(alloc: Global, found: &mut Outcome, hooks: &Hooks) -> Result<(), NoMemory>
     requires hooks { AreServing (map (λ h. h.known) hooks.now.all.items) }
 {
-    let mut unbroken = Outcome::new(alloc);
-    add_town(&mut unbroken.files)?;
-    carry_on(alloc, LINE, &mut unbroken, hooks)?;
+    for line in text_of("day.plan").lines() {
+        if let Some(name) = line.strip_prefix("script ") {
+            let words = format!(in alloc; "compile nwscript.nss {name}")?;
+            carry_on(alloc, &words, found, hooks)?;
+        }
+    }
+    Ok(())
+}
+
+/// Plays the day, once its scripts were compiled: the area of the evening.
+fn evening(alloc: Global, found: &mut Outcome, hooks: &Hooks) -> Result<Vec<u8>, NoMemory>
+    requires hooks { AreServing (map (λ h. h.known) hooks.now.all.items) }
+{
+    let plan = code_plan(alloc)?;
+    add_town(&mut found.files)?;
+    found.files.add("code.plan", plan.as_slice())?;
+    compile_all(alloc, found, hooks)?;
+    carry_on(alloc, LINE, found, hooks)?;
+    let area = found.files.get("after.git").unwrap_or(b"");
+    Ok(Vec::from_slice(alloc, area)?)
+}
+
+/// After how many of its 31 entries the saved play of a plan goes on otherwise than to print and
+/// leave what the unbroken one does, if it does so anywhere.
+fn first_apart(
+    alloc: Global,
+    plan: &str,
+    found: &mut Outcome,
+    area: &[u8],
+    hooks: &Hooks,
+) -> Result<Option<u64>, NoMemory>
+    requires hooks { AreServing (map (λ h. h.known) hooks.now.all.items) }
+{
     for n in 1..33 {
-        if !goes_on(alloc, n, unbroken.files.get("after.git"), hooks)? {
+        let save = format!(in alloc; "save nwscript.nss town.git {plan} {n} s.nwq tables.txt")?;
+        let lines = [save.as_str(), "resume s.nwq f.git tables.txt"];
+        found.files.add("s.nwq", b"not written")?;
+        found.files.add("f.git", b"not written")?;
+        if !goes_on(alloc, lines, found, PLAYED.as_bytes(), Some(area), hooks)? {
             return Ok(Some(n));
+        }
+    }
+    Ok(None)
+}
+
+/// The place of the first plan whose play goes on otherwise once it was saved, and after how many
+/// entries.
+pub fn first_broken(alloc: Global, hooks: &Hooks) -> Result<Option<(usize, u64)>, NoMemory>
+    requires hooks { AreServing (map (λ h. h.known) hooks.now.all.items) }
+{
+    let mut found = Outcome::new(alloc);
+    let area = evening(alloc, &mut found, hooks)?;
+    for (place, plan) in PLANS.iter().enumerate() {
+        if let Some(n) = first_apart(alloc, plan, &mut found, area.as_slice(), hooks)? {
+            return Ok(Some((place, n)));
         }
     }
     Ok(None)

@@ -4,7 +4,7 @@ ghost use Rattle.std.specs.Prelude.{map};
 ghost use Rattle.world_core.specs.Calls.{AreServing};
 
 use crate::answers::{Failing, Held, Row, comes};
-use crate::samples::{NOTHING, SUM, TREE};
+use crate::samples::{EMPTY, NOTHING, SUM, TREE};
 use byteorder::{ByteOrder, LittleEndian};
 use hook_table::Hooks;
 use nwq_top::Status;
@@ -29,6 +29,25 @@ pub const TOLD: &[Told] = &[
         TREE,
         Status::Done,
         "gff \"GIT \"\nstruct 4294967295\n  A byte 7\n",
+        Held::Nothing,
+    ),
+    (
+        "tree in",
+        EMPTY,
+        Status::Done,
+        "gff \"GIT \"\nstruct 4294967295\n",
+        Held::Nothing,
+    ),
+    // A list that has its one struct twice.
+    (
+        "tree in",
+        b"\
+            GIT V3.28\0\0\0\x03\0\0\0\\\0\0\0\x01\0\0\0h\0\0\0\x01\0\0\0x\0\0\0\0\0\0\0x\0\0\0\0\
+            \0\0\0x\0\0\0\x0c\0\0\0\xff\xff\xff\xff\0\0\0\0\x01\0\0\0\x04\0\0\0\xff\xff\xff\xff\0\
+            \0\0\0\x04\0\0\0\xff\xff\xff\xff\0\0\0\0\x0f\0\0\0\0\0\0\0\0\0\0\0Creature List\0\0\0\
+            \x02\0\0\0\x01\0\0\0\x01\0\0\0",
+        Status::Area,
+        "refused in shared 1\n",
         Held::Nothing,
     ),
     (
@@ -145,6 +164,27 @@ pub const TOLD: &[Told] = &[
         Held::Nothing,
     ),
     (
+        "check - in",
+        b"NCS V1.0B\0\0\0\x15\x1d\0\0\0\0\x07 \0",
+        Status::Code,
+        "refused in 13 target\n",
+        Held::Nothing,
+    ),
+    (
+        "check - in",
+        b"NCS V1.0B\0\0\0\x0e\x1c",
+        Status::Code,
+        "refused in 13 opcode\n",
+        Held::Nothing,
+    ),
+    (
+        "check - in",
+        b"NCS V1.0B\0\0\0\x0f\x14@",
+        Status::Code,
+        "refused in 13 typebyte\n",
+        Held::Nothing,
+    ),
+    (
         "asm in out",
         b"JMP 00 @14\nRETN 00\n",
         Status::Code,
@@ -229,6 +269,16 @@ fn changed(alloc: Global, changes: &[(usize, u32)]) -> Result<Vec<u8>, NoMemory>
         }
     }
     Ok(bytes)
+}
+
+/// Whether the file of an area without objects is refused without its last byte.
+pub fn is_refused_short(alloc: Global, hooks: &Hooks) -> Result<bool, NoMemory>
+    requires hooks { AreServing (map (λ h. h.known) hooks.now.all.items) }
+{
+    match EMPTY.get(..67) {
+        None => Ok(false),
+        Some(bytes) => is_refused(alloc, bytes, "refused in section 0\n", hooks),
+    }
 }
 
 /// The place of the first change that is refused otherwise, if there is one.

@@ -5,7 +5,10 @@ ghost use Rattle.hook_table.specs.Standard.{function_numbered, IsAnswer};
 ghost use Rattle.world_core.specs.Calls.{AreServing};
 
 use crate::answers::first_wrong;
-use crate::{cuts, example, files, games, plans, profile, programs, reads, saves, scripts, words};
+use crate::{
+    chains, cuts, example, files, games, long, plans, profile, programs, reads, refusing, saves,
+    scripts, states, words,
+};
 use hook_table::{Call, Hooks, cell_call};
 use nwq_hooks::{all_are_put, call_function, put_cell_hook, put_hook};
 use nwq_top::Status;
@@ -73,6 +76,8 @@ fn of_stops(alloc: Global, hooks: &Hooks) -> Result<[Option<usize>; 4], NoMemory
 enum Tried {
     Rows,
     Saves,
+    Town,
+    Refusing,
 }
 
 fn rows_hold(alloc: Global, rt: &impl Abort, hooks: &Hooks) -> Result<(), Fail>
@@ -80,10 +85,21 @@ fn rows_hold(alloc: Global, rt: &impl Abort, hooks: &Hooks) -> Result<(), Fail>
 {
     assert!(rt; example::plays(alloc, hooks)?);
     assert_eq!(rt; cuts::first_wrong(alloc, hooks)?, None);
+    assert_eq!(rt; chains::first_wrong(alloc, hooks)?, None);
+    assert!(rt; files::is_refused_short(alloc, hooks)?);
     assert_eq!(rt; of_games(alloc, hooks)?, [None; 7]);
     assert_eq!(rt; of_files(alloc, hooks)?, [None; 5]);
     assert_eq!(rt; of_stops(alloc, hooks)?, [None; 4]);
     assert_eq!(rt; of_scripts(alloc, hooks)?, [None; 7]);
+    Ok(())
+}
+
+fn saves_hold(alloc: Global, rt: &impl Abort, hooks: &Hooks) -> Result<(), Fail>
+    requires hooks { AreServing (map (λ h. h.known) hooks.now.all.items) }
+{
+    assert_eq!(rt; saves::first_wrong(alloc, hooks)?, None);
+    assert_eq!(rt; states::are_as_told(alloc, hooks)?, [true; 3]);
+    assert_eq!(rt; long::is_kept(alloc, hooks)?, [true; 2]);
     Ok(())
 }
 
@@ -92,16 +108,29 @@ fn all_hold(alloc: Global, rt: &impl Abort, tried: Tried, hooks: &Hooks) -> Resu
 {
     match tried {
         Tried::Rows => rows_hold(alloc, rt, hooks),
-        Tried::Saves => {
-            assert_eq!(rt; saves::first_wrong(alloc, hooks)?, None);
+        Tried::Saves => saves_hold(alloc, rt, hooks),
+        Tried::Town => {
             assert_eq!(rt; example::first_broken(alloc, hooks)?, None);
+            Ok(())
+        }
+        Tried::Refusing => {
+            assert_eq!(rt; first_wrong(alloc, refusing::ROWS, hooks)?, None);
             Ok(())
         }
     }
 }
 
+/// The number of the hook that finds no memory, if one does: there are ten.
+fn refused(tried: Tried) -> u8 {
+    match tried {
+        Tried::Refusing => refusing::REFUSED,
+        _ => 10,
+    }
+}
+
 /// The hooks look cells up in these tables.
 fn of_all(alloc: Global, rt: &impl Abort, tried: Tried, tables: Tables) -> Result<(), Fail> {
+    let refused = refused(tried);
     let own = tables.copy(alloc)?;
     let mut hooks = Hooks::new(alloc);
     for n in 0u8..9 {
@@ -111,7 +140,13 @@ fn of_all(alloc: Global, rt: &impl Abort, tried: Tried, tables: Tables) -> Resul
                 requires { n ≤ 9 }
                 ensures { IfOk result (λ v. IsAnswer [] (function_numbered n).name
                     (function_numbered n).result args.now v) }
-            { call_function(alloc, n, args) },
+            {
+                if n == refused {
+                    Err(NoMemory)
+                } else {
+                    call_function(alloc, n, args)
+                }
+            },
         )?;
         put_hook(alloc, &mut hooks, n, call)?;
     }
@@ -128,7 +163,11 @@ fn of_all(alloc: Global, rt: &impl Abort, tried: Tried, tables: Tables) -> Resul
 }
 
 fn try_all(alloc: Global, rt: &impl Abort, tried: Tried) -> Result<(), Fail> {
-    match example::tables(alloc)? {
+    let given = match tried {
+        Tried::Refusing => refusing::tables(alloc)?,
+        _ => example::tables(alloc)?,
+    };
+    match given {
         Ok(tables) => of_all(alloc, rt, tried, tables),
         Err(status) => {
             assert_eq!(rt; status, Status::Done);
@@ -140,6 +179,16 @@ fn try_all(alloc: Global, rt: &impl Abort, tried: Tried) -> Result<(), Fail> {
 #[test]
 fn top_call(rt: HostRuntime) -> Result<(), Fail> {
     try_all(rt.alloc(), &rt, Tried::Rows)
+}
+
+#[test]
+fn a_hook_finds_no_memory(rt: HostRuntime) -> Result<(), Fail> {
+    try_all(rt.alloc(), &rt, Tried::Refusing)
+}
+
+#[test]
+fn the_town_is_saved_and_resumed(rt: HostRuntime) -> Result<(), Fail> {
+    try_all(rt.alloc(), &rt, Tried::Town)
 }
 
 #[test]

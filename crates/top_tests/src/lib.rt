@@ -7,6 +7,8 @@ mod answers;
 #[cfg(test)]
 mod areas;
 #[cfg(test)]
+mod chains;
+#[cfg(test)]
 mod cuts;
 #[cfg(test)]
 mod example;
@@ -16,6 +18,8 @@ mod files;
 mod games;
 #[cfg(test)]
 mod hooked;
+#[cfg(test)]
+mod long;
 #[cfg(test)]
 mod parts;
 #[cfg(test)]
@@ -27,11 +31,15 @@ mod programs;
 #[cfg(test)]
 mod reads;
 #[cfg(test)]
+mod refusing;
+#[cfg(test)]
 mod samples;
 #[cfg(test)]
 mod saves;
 #[cfg(test)]
 mod scripts;
+#[cfg(test)]
+mod states;
 #[cfg(test)]
 mod tables;
 #[cfg(test)]

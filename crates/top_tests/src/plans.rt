@@ -1,7 +1,7 @@
 //! Worked examples of plays: what a plan, its scripts and an area come to.
 
 use crate::answers::{Failing, Held, Row};
-use crate::samples::{FIVE, GUARD, SEVEN, SUM, TICK, TREE};
+use crate::samples::{FIVE, GUARD, NOTHING, SEVEN, SUM, TICK, TREE};
 use nwq_top::Status;
 
 /// An area with a creature whose tag is `0`.
@@ -257,6 +257,51 @@ pub const ROWS: &[Row] = &[
             ("tick.ncs", Held::Bytes(TICK)),
             ("f.git", Held::Bytes(SEVEN)),
         ],
+    },
+    // A script that isn't there: the one before it was compiled.
+    Row {
+        line: "play - a.git x.plan f.git",
+        before: &[
+            ("x.plan", b"NWQ PLAN 1\nscript a\nscript b\nstart 0 - a\n"),
+            ("a.nss", b"void main() {}"),
+            ("a.git", GUARD),
+        ],
+        failing: Failing::Nothing,
+        status: Status::Missing,
+        puts: Some(1),
+        text: "missing b.nss\n",
+        after: &[
+            ("a.ncs", Held::Bytes(NOTHING)),
+            ("b.ncs", Held::Nothing),
+            ("f.git", Held::Nothing),
+        ],
+    },
+    // A file of code that copies from beneath its stack.
+    Row {
+        line: "play - a.git x.plan f.git",
+        before: &[
+            ("x.plan", b"NWQ PLAN 1\nbinary e\nstart 0 - e\n"),
+            (
+                "e.ncs",
+                b"NCS V1.0B\0\0\0\x17\x03\x01\xff\xff\xff\xfc\0\x04\x20\0",
+            ),
+            ("a.git", GUARD),
+        ],
+        failing: Failing::Nothing,
+        status: Status::Code,
+        puts: Some(1),
+        text: "refused e.ncs unstacked\n",
+        after: &[("f.git", Held::Nothing)],
+    },
+    // A limit of no instructions.
+    Row {
+        line: "play - a.git x.plan f.git",
+        before: &[("x.plan", b"NWQ PLAN 1\nlimit 0\n"), ("a.git", TREE)],
+        failing: Failing::Nothing,
+        status: Status::Area,
+        puts: None,
+        text: "refused x.plan line 2\n",
+        after: &[("f.git", Held::Nothing)],
     },
     // A version that no plan has.
     Row {

@@ -9,7 +9,12 @@ pub const TREE: &[u8] = b"\
     `\0\0\0\0\0\0\0`\0\0\0\0\0\0\0`\0\0\0\0\0\0\0\xff\xff\xff\xff\0\0\0\0\x01\0\0\0\
     \0\0\0\0\0\0\0\0\x07\0\0\0A\0\0\0\0\0\0\0\0\0\0\0\0\0\0\0";
 
-/// The same, where the field is a BYTE `TriggerList`, which is no list of objects.
+/// An area without objects: one struct without fields.
+pub const EMPTY: &[u8] = b"\
+    GIT V3.28\0\0\0\x01\0\0\0D\0\0\0\0\0\0\0D\0\0\0\0\0\0\0D\0\0\0\0\0\0\0D\0\0\0\0\0\0\0D\0\0\0\0\
+    \0\0\0\xff\xff\xff\xff\xff\xff\xff\xff\0\0\0\0";
+
+/// The tree, where the field is a BYTE `TriggerList`, which is no list of objects.
 pub const BROKEN: &[u8] = b"\
     GIT V3.28\0\0\0\x01\0\0\0D\0\0\0\x01\0\0\0P\0\0\0\x01\0\0\0\
     `\0\0\0\0\0\0\0`\0\0\0\0\0\0\0`\0\0\0\0\0\0\0\xff\xff\xff\xff\0\0\0\0\x01\0\0\0\

@@ -4,7 +4,7 @@
 ghost use Rattle.std.specs.Prelude.{map};
 ghost use Rattle.world_core.specs.Calls.{AreServing};
 
-use crate::answers::{Failing, Held, Outcome, Row, carry_on, is_as, outcome_of};
+use crate::answers::{Failing, Held, Outcome, Row, begun, carry_on, is_as, outcome_of};
 use crate::plans::NOTIFIED;
 use crate::samples::{GUARD, ROUNDS};
 use hook_table::Hooks;
@@ -100,11 +100,6 @@ const GAMES: &[Game] = &[
     },
 ];
 
-/// The words of a play that is saved after so many entries.
-fn saving(alloc: Global, given: &str, n: u64) -> Result<String, NoMemory> {
-    Ok(format!(in alloc; "save {given} {n} s.nwq")?)
-}
-
 /// Where the last line of a text begins.
 fn last_line(text: &[u8]) -> usize {
     let mut at = 0;
@@ -117,7 +112,7 @@ fn last_line(text: &[u8]) -> usize {
 }
 
 /// Whether the text ends with the line of a save.
-pub fn is_saved(text: &[u8]) -> bool {
+fn is_saved(text: &[u8]) -> bool {
     match text.get(last_line(text)..) {
         Some(line) => line.starts_with(b"saved s.nwq entries "),
         None => false,
@@ -125,7 +120,7 @@ pub fn is_saved(text: &[u8]) -> bool {
 }
 
 /// Whether what was put before the last line, and what is put after it, is the text.
-pub fn is_parted(first: &[u8], rest: &[u8], text: &[u8]) -> bool {
+fn is_parted(first: &[u8], rest: &[u8], text: &[u8]) -> bool {
     let at = last_line(first);
     match (first.get(..at), text.get(..at), text.get(at..)) {
         (Some(told), Some(front), Some(end)) => told == front && rest == end,
@@ -133,8 +128,36 @@ pub fn is_parted(first: &[u8], rest: &[u8], text: &[u8]) -> bool {
     }
 }
 
+/// Whether a play over these files that is saved by one line and resumed by another puts this text in
+/// all, without the line of the save, and leaves this area.
+pub fn goes_on(
+    alloc: Global,
+    lines: [&str; 2],
+    found: &mut Outcome,
+    text: &[u8],
+    area: Option<&[u8]>,
+    hooks: &Hooks,
+) -> Result<bool, NoMemory>
+    requires hooks { AreServing (map (λ h. h.known) hooks.now.all.items) }
+{
+    let [save, resume] = lines;
+    found.out = MemSink::new(alloc);
+    carry_on(alloc, save, found, hooks)?;
+    if found.status != Status::Done || !is_saved(found.out.bytes()) {
+        return Ok(false);
+    }
+    let first = Vec::from_slice(alloc, found.out.bytes())?;
+    found.out = MemSink::new(alloc);
+    carry_on(alloc, resume, found, hooks)?;
+    Ok(
+        found.status == Status::Done
+            && is_parted(first.as_slice(), found.out.bytes(), text)
+            && found.files.get("f.git") == area,
+    )
+}
+
 /// Whether a play that is saved after so many entries and resumed goes as the unbroken one.
-fn goes_on(
+fn goes_as(
     alloc: Global,
     game: &Game,
     n: u64,
@@ -143,19 +166,11 @@ fn goes_on(
 ) -> Result<bool, NoMemory>
     requires hooks { AreServing (map (λ h. h.known) hooks.now.all.items) }
 {
-    let line = saving(alloc, game.given, n)?;
-    let mut found = outcome_of(alloc, &line, game.files, Failing::Nothing, hooks)?;
-    if found.status != Status::Done || !is_saved(found.out.bytes()) {
-        return Ok(false);
-    }
-    let first = Vec::from_slice(alloc, found.out.bytes())?;
-    found.out = MemSink::new(alloc);
-    carry_on(alloc, "resume s.nwq f.git", &mut found, hooks)?;
-    Ok(
-        found.status == unbroken.status
-            && is_parted(first.as_slice(), found.out.bytes(), unbroken.out.bytes())
-            && found.files.get("f.git") == unbroken.files.get("f.git"),
-    )
+    let save = format!(in alloc; "save {} {n} s.nwq", game.given)?;
+    let lines = [save.as_str(), "resume s.nwq f.git"];
+    let (text, area) = (unbroken.out.bytes(), unbroken.files.get("f.git"));
+    let mut found = begun(alloc, game.files, Failing::Nothing)?;
+    goes_on(alloc, lines, &mut found, text, area, hooks)
 }
 
 /// After how many entries a saved play goes on otherwise, if it does so anywhere.
@@ -168,7 +183,7 @@ fn first_broken(alloc: Global, game: &Game, hooks: &Hooks) -> Result<Option<u64>
         return Ok(Some(0));
     }
     for n in 1..game.below {
-        if !goes_on(alloc, game, n, &unbroken, hooks)? {
+        if !goes_as(alloc, game, n, &unbroken, hooks)? {
             return Ok(Some(n));
         }
     }

@@ -4,7 +4,7 @@ ghost use Rattle.std.specs.Prelude.{map};
 ghost use Rattle.world_core.specs.Calls.{AreServing};
 
 use crate::answers::{Failing, Held, Row, comes, outcome_of};
-use crate::samples::{NOTHING, SUM, repeated};
+use crate::samples::{FIRST_SUM, NOTHING, SUM, repeated};
 use hook_table::Hooks;
 use nwq_top::Status;
 use nwq_value::NoMemory;
@@ -79,6 +79,27 @@ pub const PLAYS: &[(&str, &str)] = &[
     (
         "void main() { int p; p += p += 1/0; }",
         "0 #0 fault divide\nend done clock 0 entries 1 instructions 7\n",
+    ),
+    // As many brackets as may be.
+    (
+        "void main() { PrintInteger((((((((((((((((((((((((((((((((((((((((((((((((((((((((\
+            ((((((((((((((((((((((((((((((((((((((((((((((((((((((((((((((((((((((((((((((((((\
+            ((((((((((((((((((((((((((((((((((((((((((((((((((((((((((((((((((((((((((((((((((\
+            (((((((((((((((((((((((((((((((((((1))))))))))))))))))))))))))))))))))))))))))))))\
+            ))))))))))))))))))))))))))))))))))))))))))))))))))))))))))))))))))))))))))))))))))\
+            ))))))))))))))))))))))))))))))))))))))))))))))))))))))))))))))))))))))))))))))))))\
+            ))))))))))))))))))))))))))))))))))))))))))))); }",
+        "0 #0 print 1\nend done clock 0 entries 1 instructions 5\n",
+    ),
+    (
+        "void main() { int p; \
+            p += p += p += p += p += p += p += p += p += p += p += p += p += p += p += p += p += \
+            p += p += p += p += p += p += p += p += p += p += p += p += p += p += p += p += p += \
+            p += p += p += p += p += p += p += p += p += p += p += p += p += p += p += p += p += \
+            p += p += p += p += p += p += p += p += p += p += p += p += p += p += p += p += p += \
+            p += p += p += p += p += p += p += p += p += p += p += p += p += p += p += p += p += \
+            p += p += p += p += p += p += p += p += p += p += p += p += p += p += p += 1/0; }",
+        "0 #0 fault divide\nend done clock 0 entries 1 instructions 105\n",
     ),
     (
         "void main() { PrintObject(OBJECT_INVALID); }",
@@ -205,6 +226,10 @@ pub const REFUSED: &[(&str, &str)] = &[
     ),
     ("void main() { int n = n; }", "refused p.nss 1 22 unknown\n"),
     ("int f; void f() {}", "refused p.nss 1 12 redeclared\n"),
+    (
+        "void main() { int a; int a; }",
+        "refused p.nss 1 25 redeclared\n",
+    ),
     ("void f(int n = 1, int m) {}", "refused p.nss 1 18 arity\n"),
     (
         "int n; void main() { switch (1) { case n: ; } }",
@@ -216,7 +241,15 @@ pub const REFUSED: &[(&str, &str)] = &[
         "void main() { string s = 1; }",
         "refused p.nss 1 21 mismatch\n",
     ),
+    (
+        "void main() { DelayCommand(1, Random(3)); }",
+        "refused p.nss 1 14 mismatch\n",
+    ),
     ("int f() {} void main() {}", "refused p.nss 1 4 noreturn\n"),
+    (
+        "int f() { if (1) return 2; } void main() {}",
+        "refused p.nss 1 4 noreturn\n",
+    ),
     (
         "struct A { int a, b, c, d, e, f, g, h; }; struct B { struct A a, b, c, d, e, f, g, h; \
             int z; };",
@@ -446,6 +479,14 @@ const SIZES: &[(&[u8], u8, usize, &[u8], Status, &str)] = &[
         "refused p.nss 1 268 nested\n",
     ),
     (
+        b"void main() { PrintInteger(",
+        b'(',
+        255,
+        b"1",
+        Status::Script,
+        "refused p.nss 1 281 nested\n",
+    ),
+    (
         b"void main() {",
         b';',
         99_994,
@@ -593,6 +634,40 @@ end done clock 2000 entries 2 instructions 71
         puts: Some(1),
         text: "compiled p.ncs 42\n",
         after: &[("p.ncs", Held::Bytes(SUM))],
+    },
+    Row {
+        line: "compile h.nss p",
+        before: &[
+            ("h.nss", b"void PrintInteger(int n);"),
+            ("p.nss", b"void main() { PrintInteger(2+3); }"),
+        ],
+        failing: Failing::Nothing,
+        status: Status::Done,
+        puts: Some(1),
+        text: "compiled p.ncs 42\n",
+        after: &[("p.ncs", Held::Bytes(FIRST_SUM))],
+    },
+    // An include that isn't there, and one that can't be read.
+    Row {
+        line: "run - p",
+        before: &[("p.nss", b"#include \"nope\"\nvoid main() {}")],
+        failing: Failing::Nothing,
+        status: Status::Missing,
+        puts: Some(1),
+        text: "missing nope.nss\n",
+        after: &[],
+    },
+    Row {
+        line: "run - p",
+        before: &[
+            ("p.nss", b"#include \"inc\"\nvoid main() {}"),
+            ("inc.nss", b""),
+        ],
+        failing: Failing::File(1),
+        status: Status::Fault,
+        puts: Some(0),
+        text: "",
+        after: &[],
     },
     Row {
         line: "compile - p",
