@@ -72,8 +72,8 @@ bare object = record object { vars = [] }
 abbrev pub HaveDistinct : List AreaObject → Type 0
 HaveDistinct objects = AllByRecursion (λ object. IsDistinct same_variable object.vars) objects
 
--- what every area keeps: its tree is sound and breaks no rule, its objects are the tree's but for their variables, and no two
--- variables of an object have one type and name
+-- what every area keeps: its tree is sound and breaks no rule, its objects are the tree's but for
+-- their variables, and no two variables of an object have one type and name
 pub record IsArea (area : PlainArea) : Type 0 where
   pub sound : IsTrue (is_sound (top_of area))
   pub whole : broken_places (top_of area) ≡ []

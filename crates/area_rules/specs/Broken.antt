@@ -8,8 +8,9 @@ use Rattle.area_rules.specs.declared.fault.AreaFault.TheVariants as fault
 use Rattle.local_variables.specs.Variables.{Variable, same_variable}
 use Rattle.area_rules.specs.Objects.{Entry, Broken, Unread, Tells, entry_of, list_labels}
 
--- A place: a list by its number from 0, a member and an entry by theirs from 1. A 0 in place of one of these two says that the
--- fault lies above: in the list itself, or in the member's tag or the table as a whole.
+-- A place: a list by its number from 0, a member and an entry by theirs from 1. A 0 in place of one
+-- of these two says that the fault lies above: in the list itself, or in the member's tag or the
+-- table as a whole.
 pub record Place : Type 0 where
   pub list : ℕ
   pub member : ℕ

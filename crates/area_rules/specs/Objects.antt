@@ -25,7 +25,8 @@ structs_in (Some (Holds scalar)) = []
 structs_in (Some (Child node)) = []
 structs_in (Some (Children nodes)) = nodes_in nodes
 
--- an entry of a table of variables: it breaks the rules, or its type isn't read, or it is a variable
+-- an entry of a table of variables: it breaks the rules, or its type isn't read, or it is a
+-- variable
 pub data Entry : Type 0 where
   Broken : Entry
   Unread : Entry
@@ -55,7 +56,8 @@ text_entry None text = Broken
 text_entry (Some name) None = Broken
 text_entry (Some name) (Some text) = Tells (TextVar name text)
 
--- an entry by its type, name and value: type 1 is an int, type 3 a string, and of another type nothing else is looked at
+-- an entry by its type, name and value: type 1 is an int, type 3 a string, and of another type
+-- nothing else is looked at
 abbrev pub typed_entry : Option ℕ → Option PlainLeaf → Option PlainLeaf → Entry
 typed_entry None name value = Broken
 typed_entry (Some type) name value =

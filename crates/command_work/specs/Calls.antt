@@ -1,5 +1,5 @@
--- What a part of a command promises of the files and of the sink that it is given, of whatever kinds
--- these are: what they hold and what they took, and how their counts stand.
+-- What a part of a command promises of the files and of the sink that it is given, of whatever
+-- kinds these are: what they hold and what they took, and how their counts stand.
 use Rattle.std.specs.Prelude.{◌≡◌, ℕ, List, Result}
 use Rattle.nwq_outside.specs.declared.counts.FileCounts.{FileCounts}
 use Rattle.nwq_outside.specs.Outside.{Contents}

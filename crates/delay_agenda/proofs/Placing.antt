@@ -1,4 +1,5 @@
--- Entries put in order, one by one: what the test of the order gives, and where an entry comes to stand.
+-- Entries put in order, one by one: what the test of the order gives, and where an entry comes to
+-- stand.
 use Rattle.std.proofs.Common.{◌≡◌, ◌<◌, ◌+◌, ◌++◌, ◌∷◌, [], ℕ, zero, suc, Bool, true, false, List, length, take, drop, get_or, slice_get, refl, sym, ap, subst, ◌∙◌, inl, inr, arith}
 use Rattle.std.specs.Prelude.{◌≢◌, ◌⊎◌, if◌then◌else◌}
 use Rattle.std.specs.List.{remove}

@@ -10,7 +10,8 @@ IsBefore a b = (a.due < b.due) ⊎ ((a.due ≡ b.due) × (a.number < b.number))
 abbrev pub is_before : {X : Type 0} → Entry X → Entry X → Bool
 is_before a b = if nat_lt a.due b.due then true else (if nat_eq a.due b.due then nat_lt a.number b.number else false)
 
--- the entry that is taken next: no member is due earlier, and none at its due time has a lesser number
+-- the entry that is taken next: no member is due earlier, and none at its due time has a lesser
+-- number
 pub record IsNext {X : Type 0} (e : Entry X) (es : List (Entry X)) : Type 0 where
   pub member : (i : ℕ) × (slice_get es i ≡ Some e)
   pub least_due : (i : ℕ) (a : Entry X) → slice_get es i ≡ Some a → e.due ≤ a.due

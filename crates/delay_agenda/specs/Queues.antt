@@ -1,4 +1,5 @@
--- How the entries are kept: in queues by due time, and in an inbox that moves into them. No public clause speaks of it.
+-- How the entries are kept: in queues by due time, and in an inbox that moves into them. No public
+-- clause speaks of it.
 use Rattle.std.specs.Prelude.{◌≡◌, ◌≢◌, ◌<◌, ℕ, suc, nat_eq, Option, None, Some, true, false, List, [], ◌∷◌, ◌++◌, length, get_or, if◌then◌else◌}
 use Rattle.std.specs.List.{remove}
 use Rattle.std.specs.Ordering.{nat_cmp}
@@ -82,7 +83,8 @@ abbrev pub IsFirst : {X : Type 0} → ℕ → Row X → Type 0
 IsFirst due [] = ⊥
 IsFirst due (q ∷ qs) = q.0 ≡ due
 
--- of the first n entries of an inbox, the one at this place is taken first; of several alike it is the last
+-- of the first n entries of an inbox, the one at this place is taken first; of several alike it is
+-- the last
 pub record IsLeastAt {X : Type 0} (at n : ℕ) (es : List (Entry X)) : Type 0 where
   pub inside : at < n
   pub before : (i : ℕ) (d : Entry X) → i < at → is_before (get_or es i d) (get_or es at d) ≡ false

@@ -131,7 +131,8 @@ counting : code (only_main (
 unfolding program
 counting = refl
 
--- void main() { switch (2) { case 1: PrintInteger(1); case 2: PrintInteger(2); default: PrintInteger(3); } }
+-- void main() { switch (2) { case 1: PrintInteger(1); case 2: PrintInteger(2); default:
+-- PrintInteger(3); } }
 falling : code (only_main (
     s.switch 0 (int 2) (stmts (
     s.case_label 0 (c.Int (pos 1)) ∷ run (print (int 1))
@@ -147,7 +148,8 @@ falling : code (only_main (
 unfolding program
 falling = refl
 
--- int f(int a, int b) { if (a==0) return b; return f(a-1,b+1); } void main() { PrintInteger(f(3,4)); }
+-- int f(int a, int b) { if (a==0) return b; return f(a-1,b+1); } void main() {
+-- PrintInteger(f(3,4)); }
 recursive : code (unit_of (
     function t.Int (param 0 t.Int ∷ param 1 t.Int ∷ []) (
     s.if_only 0 (e.binary t.Int bin.Equal (local 0) (int 0)) (s.return_from 0 (Some (local 1)))
@@ -189,7 +191,8 @@ shared : code (unit_of (
 unfolding program
 shared = refl
 
--- struct P { int x; int y; }; struct P Make(int a) { struct P p; p.x=a; p.y=a+1; return p; } void main() { PrintInteger(Make(4).y); }
+-- struct P { int x; int y; }; struct P Make(int a) { struct P p; p.x=a; p.y=a+1; return p; } void
+-- main() { PrintInteger(Make(4).y); }
 made : code (unit_of (
     unit.structure 0 (codes "P") (record { token = 0; ty = t.Int; names = record { token = 0; name = codes "x" } ∷ [] }
     ∷ record { token = 0; ty = t.Int; names = record { token = 0; name = codes "y" } ∷ [] } ∷ [])
@@ -239,7 +242,8 @@ kept_global : code (unit_of (
 unfolding program
 kept_global = refl
 
--- int f() { DelayCommand(1, PrintString("inner")); return 5; } void main() { DelayCommand(f(), PrintString("outer")); }
+-- int f() { DelayCommand(1, PrintString("inner")); return 5; } void main() { DelayCommand(f(),
+-- PrintString("outer")); }
 both_kept : code (unit_of (
     function t.Int [] (
     run (engine t.Void 7 (int 1 ∷ engine t.Void 1 (e.literal (c.Text (codes "inner")) ∷ []) ∷ []))
@@ -256,8 +260,8 @@ both_kept : code (unit_of (
 unfolding program
 both_kept = refl
 
--- ---- lines of nodes: struct 0 has an int and a text, variable 0 is an int at the bottom of the frame, 1 a struct above it, 2 a global
--- struct that stands above one cell
+-- ---- lines of nodes: struct 0 has an int and a text, variable 0 is an int at the bottom of the
+-- frame, 1 a struct above it, 2 a global struct that stands above one cell
 
 abbrev here : Layout
 here = record { structs = (t.Int ∷ t.Text ∷ []) ∷ []; positions = 0 ∷ 1 ∷ 1 ∷ []; globals = 3 }
@@ -318,7 +322,8 @@ filled : emit here 7 3 (e.call t.Void (Engine 8) (args (e.literal (c.Text (codes
     ≡ op (ops.Const (ops.Object 0)) ∷ op (text (codes "t")) ∷ op (ops.Action 8 2) ∷ []
 filled = refl
 
--- f(n, DelayCommand(n, F())) where f gives a struct: room for the result, then the action at the depth above it, then n
+-- f(n, DelayCommand(n, F())) where f gives a struct: room for the result, then the action at the
+-- depth above it, then n
 captured : emit here 7 3 (e.call (t.Struct 0) (InUnit 2) (args (local 0 ∷ engine t.Void 7 (local 0 ∷ e.call t.Void (InUnit 3) no_typed [] ∷ []) ∷ [])) [])
     ≡ op (ops.RsAdd 3) ∷ op (ops.RsAdd 5)
     ∷ op (ops.StoreState 12 20) ∷ JumpTo Jmp 7
@@ -398,8 +403,8 @@ condition_with_globals : code (unit_of (
 unfolding program
 condition_with_globals = refl
 
--- int g(int a); int f(int b); int f(int b) { return g(b); } int g(int a) { return a; } void main() { f(1); }: prototypes take numbers of
--- variables, and no place in the code
+-- int g(int a); int f(int b); int f(int b) { return g(b); } int g(int a) { return a; } void main()
+-- { f(1); }: prototypes take numbers of variables, and no place in the code
 declared_before : code (unit_of (
     unit.function 0 t.Int (codes "g") (param 0 t.Int ∷ []) None
     ∷ unit.function 0 t.Int (codes "f") (param 1 t.Int ∷ []) None
@@ -414,7 +419,8 @@ declared_before : code (unit_of (
 unfolding program
 declared_before = refl
 
--- struct P { int x; string s; }; struct P g; int h; void F(int a, struct P p) { int n; { int m; } object o; }
+-- struct P { int x; string s; }; struct P g; int h; void F(int a, struct P p) { int n; { int m; }
+-- object o; }
 laid_out : layout_of (unit_of (
     unit.structure 0 (codes "P") (record { token = 0; ty = t.Int; names = record { token = 0; name = codes "x" } ∷ [] }
     ∷ record { token = 0; ty = t.Text; names = record { token = 0; name = codes "s" } ∷ [] } ∷ [])

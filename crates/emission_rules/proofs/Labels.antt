@@ -44,7 +44,8 @@ home_labels l (postfix t o x) h is = absurd cc
 home_labels l (binary t o x y) h is = absurd cc
 home_labels l (assign t o x y) h is = absurd cc
 
--- `up n` stands for whether the label is n or a greater one: all that is used of it is how it goes from one number to the next.
+-- `up n` stands for whether the label is n or a greater one: all that is used of it is how it goes
+-- from one number to the next.
 module _ (add : PlacementsAdd) (label : ℕ) (up : ℕ → ℕ) (one : (n : ℕ) → cond (eqb n label) 1 0 + up (n + 1) ≡ up n) where
   -- the lines place no label
   record NoLabels (lines : List Line) : Type 0 where

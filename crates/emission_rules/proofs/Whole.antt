@@ -1,5 +1,5 @@
--- The code of a unit that keeps the bounds: each instruction has a spelling, each jump leads to a label that is placed, and the last line is
--- an instruction.
+-- The code of a unit that keeps the bounds: each instruction has a spelling, each jump leads to a
+-- label that is placed, and the last line is an instruction.
 use Rattle.std.proofs.Common.{rules, ◌≡◌, ◌≤◌, ◌<◌, ℕ, ℤ, pos, ◌+◌, ◌-◌, ◌*◌, ◌^◌, List, [], ◌∷◌, ◌++◌, length, arith, refl, Bool, true, false, cond, ltb, Option, Some, None, zero, suc}
 use Rattle.std.proofs.lemmas.Bool.Decides.{nat_tests}
 use Rattle.std.specs.Prelude.{FitsSigned}

@@ -1,5 +1,6 @@
--- What the typed tree of a unit keeps, as far as its code needs it: types of few cells, numbers inside their fields, calls of functions that
--- are there, `break` and `continue` inside of loops, and a stack that is nowhere too deep.
+-- What the typed tree of a unit keeps, as far as its code needs it: types of few cells, numbers
+-- inside their fields, calls of functions that are there, `break` and `continue` inside of loops,
+-- and a stack that is nowhere too deep.
 use Rattle.std.specs.Prelude.{ℕ, ◌+◌, ◌^◌, ◌<◌, ◌≤◌, Bool, true, false, List, [], ◌∷◌, Option, None, Some, length, IsTrue}
 use Rattle.std.specs.List.{AllByRecursion}
 use Rattle.nss_tree.specs.declared.operators.BinaryOperator.{BinaryOperator}

@@ -1,4 +1,5 @@
--- The code of an expression, at a depth of the frame and from a next label on: how many labels it takes, and its lines.
+-- The code of an expression, at a depth of the frame and from a next label on: how many labels it
+-- takes, and its lines.
 use Rattle.std.specs.Prelude.{ℕ, pos, ◌+◌, ◌-◌, Bool, true, false, List, [], ◌∷◌, ◌++◌, Option, None, Some, length, if◌then◌else◌}
 use Rattle.std.specs.Option.{option_map}
 use Rattle.nss_tree.specs.declared.operators.PrefixOperator.{PrefixOperator}
@@ -92,8 +93,8 @@ abbrev pub postfix_code : Layout → ℕ → PostfixOperator → Option Home →
 postfix_code l depth post.Increment h value = value ++ at_home (increment l (depth + 1)) h
 postfix_code l depth post.Decrement h value = value ++ at_home (decrement l (depth + 1)) h
 
--- What an operator does where its left operand decides alone: `||` and `&&` leave the right one out, where the left one isn't 0 and
--- where it is 0.
+-- What an operator does where its left operand decides alone: `||` and `&&` leave the right one
+-- out, where the left one isn't 0 and where it is 0.
 pub data Shortcut : Type 0 where
   WhereTrue : Shortcut
   WhereFalse : Shortcut
@@ -120,7 +121,8 @@ abbrev pub is_set : AssignOperator → Bool
 is_set asg.Set = true
 is_set _ = false
 
--- What an assignment reads of its place first, and how many cells that leaves beneath its value: `=` reads nothing.
+-- What an assignment reads of its place first, and how many cells that leaves beneath its value:
+-- `=` reads nothing.
 abbrev pub read_first : Bool → List Line → List Line
 read_first true lines = []
 read_first false lines = lines

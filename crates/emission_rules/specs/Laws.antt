@@ -25,7 +25,8 @@ pub record IsWhole (code : LabelledCode) : Type 0 where
 abbrev pub OneFile : Type 0
 OneFile = (table : EngineTable) (u : SourceTree) (s t : TypedUnit) → TypesUnit table u s → TypesUnit table u t → unit_file s ≡ unit_file t
 
--- In a typed unit the position of each variable, by its number, is the depth at which it is declared or pushed.
+-- In a typed unit the position of each variable, by its number, is the depth at which it is
+-- declared or pushed.
 abbrev pub PositionsByNumber : Type 0
 PositionsByNumber = (table : EngineTable) (u : SourceTree) (t : TypedUnit) → TypesUnit table u t
     → map (position (layout_of t)) (items_numbers t.items) ≡ (layout_of t).positions
@@ -34,7 +35,8 @@ PositionsByNumber = (table : EngineTable) (u : SourceTree) (t : TypedUnit) → T
 abbrev pub EachPlacedOnce : Type 0
 EachPlacedOnce = (u : TypedUnit) (label : ℕ) → placements (unit_code u).lines label ≡ (if nat_lt label (unit_code u).labels then 1 else 0)
 
--- So each line stands at its place in the program: an instruction begins there, and a jump leads to the place of its label.
+-- So each line stands at its place in the program: an instruction begins there, and a jump leads to
+-- the place of its label.
 abbrev pub CodeStands : Type 0
 CodeStands = (u : TypedUnit) → LinesStand (program (unit_code u).lines) (place_of (unit_code u).lines) header_size (unit_code u).lines
 

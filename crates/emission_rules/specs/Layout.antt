@@ -32,7 +32,8 @@ abbrev pub global_cells : Structs → List TypedItem → ℕ
 global_cells structs [] = 0
 global_cells structs (i ∷ is) = item_cells structs i + global_cells structs is
 
--- ---- positions: how many cells of the frame stand beneath a variable, in the order of the variables' numbers
+-- ---- positions: how many cells of the frame stand beneath a variable, in the order of the
+-- variables' numbers
 
 -- The parameters are pushed last to first, so the last one has position 0.
 abbrev pub params_positions : Structs → List TypedParameter → List ℕ

@@ -1,4 +1,5 @@
--- The code of a whole unit: its start, then every function with a body, in the order of the bodies; and its file.
+-- The code of a whole unit: its start, then every function with a body, in the order of the bodies;
+-- and its file.
 use Rattle.std.specs.Prelude.{ℕ, ◌+◌, Bool, true, false, List, [], ◌∷◌, ◌++◌, None, Some}
 use Rattle.nss_tree.specs.Units.{global, function}
 use Rattle.ncs_code.specs.Plain as ops

@@ -1,4 +1,5 @@
--- Structs by the lists of their fields: what is found, replaced and appended, and that it stays sound.
+-- Structs by the lists of their fields: what is found, replaced and appended, and that it stays
+-- sound.
 use Rattle.std.proofs.Common.{◌≡◌, ℕ, Bool, true, false, cond, not, ◌&&◌, ◌||◌, List, [], ◌∷◌, ◌++◌, Option, None, Some, refl, sym, ap, ◌∙◌}
 use Rattle.std.specs.List.{list_any}
 use Rattle.std.specs.Str.{bytes_eq}

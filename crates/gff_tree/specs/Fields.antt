@@ -40,7 +40,8 @@ replaced label leaf (field ∷ fields) =
 abbrev pub appended : List ℕ → PlainLeaf → List PlainField → List PlainField
 appended label leaf fields = fields ++ record { label = label; leaf = leaf } ∷ []
 
--- A struct stays sound where a field of it is replaced, or one of a new label appended, by what is sound one level below.
+-- A struct stays sound where a field of it is replaced, or one of a new label appended, by what is
+-- sound one level below.
 abbrev pub ReplacedIsSound : Type 0
 ReplacedIsSound = (depth kind : ℕ) (label : List ℕ) (leaf : PlainLeaf) (fields : List PlainField)
     → is_sound_node (suc depth) (node_from kind fields) ≡ true → is_sound_leaf depth leaf ≡ true

@@ -8,7 +8,8 @@ use Rattle.gff_tree.specs.declared.tree.Leaf.{Leaf, Row_of-Node, end_of-Node, mo
 use Rattle.gff_tree.specs.declared.tree.Field.{Field}
 use Rattle.gff_tree.specs.declared.tree.Node.{Node, Node', Row_of-Field, end_of-Field, more_of-Field}
 
--- how deep a struct may be, the top being 1 deep, and how many bytes the name of a resource may have
+-- how deep a struct may be, the top being 1 deep, and how many bytes the name of a resource may
+-- have
 abbrev pub depth_limit : ℕ
 depth_limit = 64
 
@@ -139,7 +140,8 @@ abbrev pub is_sound_scalar : Scalar → Bool
 is_sound_scalar (Res text) = nat_le (length text) resource_limit
 is_sound_scalar _ = true
 
--- is a struct at most so deep, with distinct labels in each of its structs and no long name of a resource?
+-- is a struct at most so deep, with distinct labels in each of its structs and no long name of a
+-- resource?
 abbrev mutual
   pub is_sound_node : ℕ → PlainNode → Bool
   is_sound_node zero (Struct kind fields) = false

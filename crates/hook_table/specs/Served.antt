@@ -22,7 +22,8 @@ BeginWith [] hooks = Unit {0}
 BeginWith (f ∷ fs) [] = ⊥
 BeginWith (f ∷ fs) (h ∷ hooks) = StandsFor f h × BeginWith fs hooks
 
--- hooks that begin with one for each of the functions, in order; the one that looks cells up has these tables
+-- hooks that begin with one for each of the functions, in order; the one that looks cells up has
+-- these tables
 pub record AreStandard (hooks : List Known) (tables : List Named) : Type 0 where
   pub begin : BeginWith standard hooks
   pub cells : (h : Known) → slice_get hooks cell_function ≡ Some h → h.tables ≡ tables
@@ -45,7 +46,8 @@ pub record Serves (tables : List Named) (n : ℕ) (takes : List Ty) (gives : Ty)
   pub result : h.result ≡ gives
   pub answers : (args : List Value) (v : Value) → IsAnswer h.tables h.name h.result args v → pure (cell_of tables) n args ≡ Some v
 
--- for a routine with the role Pure n there is a hook n that takes its arguments, and answers what the definition gives
+-- for a routine with the role Pure n there is a hook n that takes its arguments, and answers what
+-- the definition gives
 abbrev pub StandardServe : Type 0
 StandardServe = (hooks : List Known) (tables : List Named) (n : ℕ) (name : List ℕ) (gives : Ty) (takes : List Ty)
     → AreStandard hooks tables

@@ -62,7 +62,8 @@ pure_named tables name args = pure_numbered (cell_of tables) (number_named name)
 abbrev pub types_of : List Value → List Ty
 types_of args = map type_of args
 
--- the value is what the function of this name gives for these arguments, and it has the result's type
+-- the value is what the function of this name gives for these arguments, and it has the result's
+-- type
 pub record IsAnswer (tables : List Named) (name : List ℕ) (gives : Ty) (args : List Value) (v : Value) : Type 0 where
   pub value : pure_named tables name args ≡ Some v
   pub ty : type_of v ≡ gives

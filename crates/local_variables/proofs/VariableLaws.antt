@@ -1,4 +1,5 @@
--- Variables by type and name: one at most of each, and what becomes of that as they are put and taken out.
+-- Variables by type and name: one at most of each, and what becomes of that as they are put and
+-- taken out.
 use Rattle.std.proofs.Common.{◌≡◌, ℕ, Bool, true, false, cond, not, ◌||◌, List, [], ◌∷◌, ◌++◌, filter, is_some, Option, None, Some, refl, sym, ap, ◌∙◌}
 use Rattle.std.specs.List.{list_any, IsDistinct, AllByRecursion}
 use Rattle.std.specs.Cmp.{IsEquivalence}

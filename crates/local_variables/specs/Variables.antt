@@ -55,7 +55,8 @@ text_named name vars = text_of (first (is_text name) vars)
 abbrev pub matching : Variable → List Variable → Option Variable
 matching v vars = first (same_variable v) vars
 
--- the variables with this one: in the place of the one of its type and name, or last where there is none
+-- the variables with this one: in the place of the one of its type and name, or last where there is
+-- none
 abbrev pub put : Variable → List Variable → List Variable
 put v [] = v ∷ []
 put v (w ∷ vars) = if same_variable v w then v ∷ vars else w ∷ put v vars

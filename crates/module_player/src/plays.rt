@@ -204,9 +204,10 @@ pub fn play_on<S: Sink>(
         (tables_of scripts.now) world.new.world) }
     ensures quiet { WherePlayed result.how (world.new.world.trace ≡ []) }
     ensures next { WherePlayed result.how (world.new.world.agenda.next < 2 ^ 62) }
-    // Where it was cut short: the entries that are counted were finished, as if the play were broken
-    // off behind them, and the world is the one there, or that of the next entry: not begun, stopped
-    // after some of its instructions, or done. The sink took a prefix of that entry's lines.
+    // Where it was cut short: the entries that are counted were finished, as if the play were
+    // broken off behind them, and the world is the one there, or that of the next entry: not begun,
+    // stopped after some of its instructions, or done. The sink took a prefix of that entry's
+    // lines.
     ensures cut { WhereCut result.how (IsCutShort (host_of scripts.now table.now
         (map (λ h. h.known) hooks.now.all.items)) limit until (code_play_on (host_of scripts.now
         table.now (map (λ h. h.known) hooks.now.all.items)) limit entries until result.entries
@@ -278,9 +279,10 @@ pub fn play<S: Sink>(
         (tables_of scripts.now) world.new.world) }
     ensures quiet { WherePlayed result.how (world.new.world.trace ≡ []) }
     ensures next { WherePlayed result.how (world.new.world.agenda.next < 2 ^ 62) }
-    // Where it was cut short: the entries that are counted were finished, as if the play were broken
-    // off behind them, and the world is the one there, or that of the next entry: not begun, stopped
-    // after some of its instructions, or done. The sink took a prefix of that entry's lines.
+    // Where it was cut short: the entries that are counted were finished, as if the play were
+    // broken off behind them, and the world is the one there, or that of the next entry: not begun,
+    // stopped after some of its instructions, or done. The sink took a prefix of that entry's
+    // lines.
     ensures cut { WhereCut result.how (IsCutShort (host_of scripts.now table.now
         (map (λ h. h.known) hooks.now.all.items)) limit until (code_play_on (host_of scripts.now
         table.now (map (λ h. h.known) hooks.now.all.items)) limit entries until result.entries

@@ -114,7 +114,8 @@ spelled_answer (Err e) bytes is_op prefix long = tt
 pub spelled_at : (r : Result (Op × ℕ) CodeFault) (bytes whole : List ℕ) → bytes ≡ whole → IfOk r (λ x. Spells (plain x.0) x.1 bytes) → IfOk r (λ x. Spells (plain x.0) x.1 whole)
 spelled_at r bytes whole same spelled = subst (λ b. IfOk r (λ x. Spells (plain x.0) x.1 b)) same spelled
 
--- An answer that is spelled where it says, or tells the fault there, is the one instruction that is spelled.
+-- An answer that is spelled where it says, or tells the fault there, is the one instruction that is
+-- spelled.
 pub only_answer : (r : Result (Op × ℕ) CodeFault) (bytes : List ℕ) → IfOk r (λ x. Spells (plain x.0) x.1 bytes)
     → MatchResult r (λ _. fault_of bytes ≡ None) (λ fault. fault_of bytes ≡ Some fault)
     → (op : PlainOp) (rest : List ℕ) → IsOp op → bytes ≡ spelling op ++ rest → IsOkAnd r (λ x. (plain x.0 ≡ op) × (x.1 ≡ op_size op))

@@ -54,8 +54,8 @@ begins ops place = is_some (op_at ops place)
 
 -- ---- where instructions lead
 
--- The place that a jump leads to, by its distance from its own start. `-` stops at 0, where no instruction begins:
--- a jump to before the file leads there.
+-- The place that a jump leads to, by its distance from its own start. `-` stops at 0, where no
+-- instruction begins: a jump to before the file leads there.
 abbrev pub jump_place : ℕ → ℤ → ℕ
 jump_place at (pos n) = at + n
 jump_place at (negsuc n) = at - suc n
@@ -64,11 +64,13 @@ jump_place at (negsuc n) = at - suc n
 abbrev pub distance : ℕ → ℕ → ℤ
 distance at place = pos place -ℤ pos at
 
--- Where the code begins that a STORE_STATE stores: behind its own 10 bytes and the 6 of the jump over that code.
+-- Where the code begins that a STORE_STATE stores: behind its own 10 bytes and the 6 of the jump
+-- over that code.
 abbrev pub resume_place : ℕ → ℕ
 resume_place at = at + 16
 
--- Does an instruction that stands there lead to a beginning of an instruction, if it leads anywhere besides the next one?
+-- Does an instruction that stands there lead to a beginning of an instruction, if it leads anywhere
+-- besides the next one?
 abbrev pub leads_well : List PlainOp → ℕ → PlainOp → Bool
 leads_well ops at (Jmp offset) = begins ops (jump_place at offset)
 leads_well ops at (Jsr offset) = begins ops (jump_place at offset)
@@ -81,14 +83,16 @@ leads_well ops at _ = true
 abbrev pub AllLeadWell : List PlainOp → Type 0
 AllLeadWell ops = (at : ℕ) (op : PlainOp) → op_at ops at ≡ Some op → leads_well ops at op ≡ true
 
--- The instruction with this index begins at this place and doesn't lead well, and each one before it does.
+-- The instruction with this index begins at this place and doesn't lead well, and each one before
+-- it does.
 pub record IsFirstBad (ops : List PlainOp) (index place : ℕ) : Type 0 where
   pub op : PlainOp
   pub stands : slice_get (placed ops) index ≡ Some (place, op)
   pub bad : leads_well ops place op ≡ false
   pub before : (at : ℕ) (other : PlainOp) → at < place → op_at ops at ≡ Some other → leads_well ops at other ≡ true
 
--- The list is that of a file: each instruction has a spelling and leads to beginnings of instructions, and the file is no larger than a file may be.
+-- The list is that of a file: each instruction has a spelling and leads to beginnings of
+-- instructions, and the file is no larger than a file may be.
 pub record IsCode (ops : List PlainOp) : Type 0 where
   pub each : AllByRecursion IsOp ops
   pub leads : AllLeadWell ops

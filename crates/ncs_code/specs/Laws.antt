@@ -33,7 +33,8 @@ pub record SpellingLaws : Type 0 where
 
 -- ---- sizes
 
--- An instruction takes as many bytes as its spelling has, which are an opcode and a type byte at least.
+-- An instruction takes as many bytes as its spelling has, which are an opcode and a type byte at
+-- least.
 abbrev pub SizeIsLength : Type 0
 SizeIsLength = (op : PlainOp) → op_size op ≡ length (spelling op)
 
@@ -59,7 +60,8 @@ pub record SizeLaws : Type 0 where
 
 -- ---- places
 
--- An instruction of a file stands behind some others and before some others, at the length that a file of those before it has.
+-- An instruction of a file stands behind some others and before some others, at the length that a
+-- file of those before it has.
 pub record StandsBehind (ops : List PlainOp) (at : ℕ) (op : PlainOp) : Type 0 where
   pub before : List PlainOp
   pub behind : List PlainOp
@@ -74,7 +76,8 @@ BegunStands = (ops : List PlainOp) (at : ℕ) (op : PlainOp) → op_at ops at �
 abbrev pub StoodBegins : Type 0
 StoodBegins = (before behind : List PlainOp) (op : PlainOp) → op_at (before ++ op ∷ behind) (file_length before) ≡ Some op
 
--- An instruction lies between the header and the end of the file, and ends before another one begins.
+-- An instruction lies between the header and the end of the file, and ends before another one
+-- begins.
 abbrev pub BegunLies : Type 0
 BegunLies = (ops : List PlainOp) (at : ℕ) (op : PlainOp) → op_at ops at ≡ Some op → (header_size ≤ at) × (at + op_size op ≤ file_length ops)
 

@@ -5,14 +5,16 @@ use Rattle.ncs_code.specs.declared.instruction.Lit.TheVariants as lits
 use Rattle.ncs_code.specs.declared.instruction.Op.{Op}
 use Rattle.ncs_code.specs.declared.instruction.Op.TheVariants as ops
 
--- what CONST pushes: an int, the four bytes of a float, the bytes of a string, or an object's number
+-- what CONST pushes: an int, the four bytes of a float, the bytes of a string, or an object's
+-- number
 pub data PlainLit : Type 0 where
   Int : ℤ → PlainLit
   Float : List ℕ → PlainLit
   Text : List ℕ → PlainLit
   Object : ℕ → PlainLit
 
--- Fields in the order of the spelling: a type byte where the instruction has several, then the arguments.
+-- Fields in the order of the spelling: a type byte where the instruction has several, then the
+-- arguments.
 pub data PlainOp : Type 0 where
   CpDownSp : ℤ → ℕ → PlainOp
   RsAdd : ℕ → PlainOp

@@ -82,7 +82,8 @@ literal_size (Float bytes) = length bytes
 literal_size (Text bytes) = 2 + length bytes
 literal_size (Object n) = 4
 
--- How many bytes an instruction takes: the length of its spelling, by computing. Places in a file are sums of these.
+-- How many bytes an instruction takes: the length of its spelling, by computing. Places in a file
+-- are sums of these.
 abbrev pub op_size : PlainOp → ℕ
 op_size (CpDownSp offset size) = 8
 op_size (CpTopSp offset size) = 8
@@ -163,7 +164,8 @@ args_size code kind args =
     else if code == 0x2C then 8
     else 0
 
--- Why these bytes begin with no instruction, by the first test that fails; None where they begin with one.
+-- Why these bytes begin with no instruction, by the first test that fails; None where they begin
+-- with one.
 unfoldable pub fault_of : List ℕ → Option CodeFault
 fault_of [] = Some Short
 fault_of (code ∷ []) = if is_opcode code then Some Short else Some Opcode
@@ -190,7 +192,8 @@ HasSizes (Equal kind size) = kind ≢ 0x24 → size ≡ 0
 HasSizes (Nequal kind size) = kind ≢ 0x24 → size ≡ 0
 HasSizes _ = Unit {0}
 
--- What the fields of an instruction do not keep by their types: the condition of each call that takes one.
+-- What the fields of an instruction do not keep by their types: the condition of each call that
+-- takes one.
 pub record HasRow (op : PlainOp) : Type 0 where
   pub kind : IsTrue (has_its_type (spelling op))
   pub sizes : HasSizes op

@@ -41,7 +41,8 @@ pub record IsWhole (lines : List Line) (bytes : List ℕ) (kept : List Kept) (ca
   pub same : lines_of bytes kept ≡ lines
   pub room : length kept + missing ≤ capacity
 
--- The parts of an emitter agree. What is kept stands for the lines as long as their file is not too large.
+-- The parts of an emitter agree. What is kept stands for the lines as long as their file is not too
+-- large.
 pub record IsKept (lines : List Line) (bytes : List ℕ) (kept : List Kept) (capacity : ℕ) (placed : List Bool) (missing : ℕ) : Type 0 where
   pub whole : header_size + lines_size lines ≤ file_limit → IsWhole lines bytes kept capacity (length placed) missing
   pub fit : AllByRecursion (LineFits (length placed)) lines

@@ -53,13 +53,15 @@ place_from at (Label other ∷ lines) label = if other == label then at else pla
 abbrev pub place_of : List Line → ℕ → ℕ
 place_of lines label = place_from header_size lines label
 
--- the instructions of the lines, where the labels have these places and the first line stands at `at`
+-- the instructions of the lines, where the labels have these places and the first line stands at
+-- `at`
 abbrev pub ops_from : (ℕ → ℕ) → ℕ → List Line → List PlainOp
 ops_from places at [] = []
 ops_from places at (Instruction op ∷ lines) = op ∷ ops_from places (at + op_size op) lines
 ops_from places at (JumpTo kind label ∷ lines) = jump_over kind (distance at (places label)) ∷ ops_from places (at + 6) lines
 ops_from places at (Label label ∷ lines) = ops_from places at lines
 
--- the instructions of labelled code: each jump has the distance from its own start to its label's place
+-- the instructions of labelled code: each jump has the distance from its own start to its label's
+-- place
 unfoldable pub program : List Line → List PlainOp
 program lines = ops_from (place_of lines) header_size lines

@@ -1,4 +1,5 @@
--- Labelled code whose instructions all lead to instructions. Each condition holds of two parts together where it holds of each.
+-- Labelled code whose instructions all lead to instructions. Each condition holds of two parts
+-- together where it holds of each.
 use Rattle.std.specs.Prelude.{ℕ, ◌<◌, ◌≤◌, List, [], ◌∷◌, Bool, true, false, IsTrue}
 use Rattle.std.specs.List.{AllByRecursion}
 use Rattle.ncs_code.specs.Plain.{Jmp, Jsr, Jz, Jnz, StoreState}

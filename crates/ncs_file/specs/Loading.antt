@@ -22,7 +22,8 @@ pub record StopsAt (place : ℕ) (fault : CodeFault) (bytes : List ℕ) : Type 0
   pub inside : place < length bytes
   pub reason : fault_of (drop place bytes) ≡ Some fault
 
--- Instructions fill the file, and the first that leads to no beginning of one, with some index, stands at this place.
+-- Instructions fill the file, and the first that leads to no beginning of one, with some index,
+-- stands at this place.
 pub record LeadsAstray (place : ℕ) (bytes : List ℕ) : Type 0 where
   pub ops : List PlainOp
   pub each : AllByRecursion IsOp ops

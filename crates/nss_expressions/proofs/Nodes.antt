@@ -1,4 +1,5 @@
--- An expression of the source that is known, with its parts as code reaches them, and how large it is, so that the walk ends.
+-- An expression of the source that is known, with its parts as code reaches them, and how large it
+-- is, so that the walk ends.
 use Rattle.std.proofs.Common.{◌≡◌, ◌<◌, ◌≤◌, ◌+◌, ℕ, zero, suc, List, [], ◌∷◌, length, drop, get_or, Result, Ok, Err, arith, sym, true≢false, ap, subst, ◌∙◌}
 use Rattle.std.specs.Result.{IsErr, OnOk}
 use Rattle.std.proofs.lemmas.List.{at_drop_more}

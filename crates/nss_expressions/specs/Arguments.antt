@@ -7,7 +7,8 @@ use Rattle.typing_rules.specs.Nodes.{two}
 use Rattle.typing_rules.specs.Rules.{defaults, takes}
 use Rattle.typing_rules.specs.Typed.{TypedExpr, TypedExprs, no_typed, more_typed}
 
--- the defaults of the parameters behind so many; None where there are fewer of them, or one has no default
+-- the defaults of the parameters behind so many; None where there are fewer of them, or one has no
+-- default
 abbrev pub defaults_behind : ℕ → List Param → Option (List Const)
 defaults_behind n ps = if nat_lt (length ps) n then None else defaults (drop n ps)
 

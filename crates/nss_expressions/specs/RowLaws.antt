@@ -1,5 +1,5 @@
--- A loop over the parts of a node, each walked in what the ones before it leave in sight. These lemmas hold of parts of every type, of
--- which no clause can speak.
+-- A loop over the parts of a node, each walked in what the ones before it leave in sight. These
+-- lemmas hold of parts of every type, of which no clause can speak.
 use Rattle.std.proofs.Common.{◌≡◌, ℕ, ◌+◌, ◌<◌, ◌≤◌, List, [], ◌∷◌, ◌++◌, length, map, drop, get_or, Option, None, Some, refl, sym, ap, ◌∙◌}
 use Rattle.std.proofs.lemmas.List.{append_assoc, append-nil, at_drop_more, at_drop_all, map_push}
 use Rattle.std.specs.Option.{option_map}
@@ -9,7 +9,8 @@ use Rattle.typing_rules.specs.Verdicts.{one_more}
 use Rattle.nss_expressions.specs.Rows.{and_one, with_rest}
 use Rattle.nss_expressions.specs.Kept.{kept_append}
 
--- C is what is in sight, R a part of the tree, T what code answers, X and XS what is typed: one, and several.
+-- C is what is in sight, R a part of the tree, T what code answers, X and XS what is typed: one,
+-- and several.
 pub record RowLaws {C R T X XS : Type 0} (V : Option (List T) → Option XS) (v : Option T → Option X) (more : Option X → Option XS → Option XS)
     (behind : Option XS → Option XS → Option XS) (after : C → R → C) (one : C → R → Option X) (own : C → R → List Fault)
     (Fine : C → List R → Option XS) (Faults : C → List R → List Fault) (After : C → List R → C) : Type 0 where

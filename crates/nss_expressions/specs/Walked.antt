@@ -1,4 +1,5 @@
--- What a node's judgement gives, its parts being walked. Like those of RowLaws these lemmas hold of nodes and parts of every type.
+-- What a node's judgement gives, its parts being walked. Like those of RowLaws these lemmas hold of
+-- nodes and parts of every type.
 use Rattle.std.proofs.Common.{◌≡◌, ℕ, List, ◌++◌, Option, Result, Ok, Err, sym, ap, subst, ◌∙◌}
 use Rattle.std.specs.Option.{option_map}
 use Rattle.std.specs.Result.{IfOk, OnOk}

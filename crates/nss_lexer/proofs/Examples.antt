@@ -1,5 +1,5 @@
--- What reading gives at single texts, by computing. With the laws that reading finds what the grammar has, these are examples of
--- the grammar.
+-- What reading gives at single texts, by computing. With the laws that reading finds what the
+-- grammar has, these are examples of the grammar.
 use Rattle.std.specs.Prelude.{Some, None, codes}
 use Rattle.std.proofs.Common.{◌≡◌, [], ◌∷◌, refl}
 use Rattle.nss_lexer.specs.declared.token.Kind.TheVariants.{Name, Word, Int, Float, Sign}

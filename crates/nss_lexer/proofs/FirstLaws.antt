@@ -1,5 +1,5 @@
--- From reading to the definitions: which token begins a list of bytes, where nothing begins, and that what stands first from
--- a place on is one thing.
+-- From reading to the definitions: which token begins a list of bytes, where nothing begins, and
+-- that what stands first from a place on is one thing.
 use Rattle.std.specs.Prelude.{Option, Some, None, MatchOption, option_map, option_and_then, ◌==◌, ◌||◌, ◌&&◌, not, nat_lt, nat_le, slice_index}
 use Rattle.std.specs.List.{list_all}
 use Rattle.std.proofs.Common.{◌≡◌, ℕ, zero, suc, ◌+◌, ◌^◌, ◌<◌, ◌≤◌, Bool, true, false, List, [], ◌∷◌, ◌++◌, length, take, drop, refl, ap, sym, ◌∙◌, subst, arith, inl, inr, ◌⊎◌, ⊎_elim}

@@ -18,8 +18,8 @@ tokens_after [] at o rest = Some []
 tokens_after (b ∷ bs) at (Some m) rest = rest m
 tokens_after (b ∷ bs) at None rest = tokens_by (begins_comment (b ∷ bs)) (b ∷ bs) at (lexeme (b ∷ bs)) rest
 
--- The tokens of bytes whose first has this place, found in so many steps, one for each token and each blank or comment; `None`
--- where the steps don't suffice, or something begins no token.
+-- The tokens of bytes whose first has this place, found in so many steps, one for each token and
+-- each blank or comment; `None` where the steps don't suffice, or something begins no token.
 unfoldable pub tokens_in : ℕ → ℕ → List ℕ → Option (List Lexeme)
 tokens_in zero at bytes = None
 tokens_in (suc n) at bytes = tokens_after bytes at (pass bytes) (λ m. tokens_in n (at + m) (drop m bytes))

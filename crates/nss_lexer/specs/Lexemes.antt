@@ -58,8 +58,8 @@ pub data IsFloat : List ℕ → Type 0 where
   fraction : (digits end : List ℕ) → IsNumeral 10 digits → IsSuffix end → IsFloat (46 ∷ (digits ++ end))
   marked : (digits : List ℕ) → IsNumeral 10 digits → IsFloat (digits ++ 102 ∷ [])
 
--- The bytes have the form of this kind, whatever the limits. The longest match is among forms: a number that
--- is too great isn't cut into two that aren't.
+-- The bytes have the form of this kind, whatever the limits. The longest match is among forms: a
+-- number that is too great isn't cut into two that aren't.
 abbrev pub HasForm : Kind → List ℕ → Type 0
 HasForm Name text = IsIdentifier text × (is_word text ≡ false)
 HasForm Word text = IsTrue (is_word text)

@@ -1,5 +1,5 @@
--- Reading from the left, as the code does it. Only the law computed_tokens names this: reading is proved to find exactly
--- what the grammar has.
+-- Reading from the left, as the code does it. Only the law computed_tokens names this: reading is
+-- proved to find exactly what the grammar has.
 use Rattle.std.specs.Prelude.{ℕ, ◌+◌, ◌*◌, ◌^◌, ◌<◌, Bool, true, false, ◌&&◌, ◌||◌, ◌==◌, nat_lt, nat_le, List, [], ◌∷◌, length, take, drop, slice_index, Option, Some, None, option_map, option_and_then, if◌then◌else◌, not}
 use Rattle.std.specs.List.{prefix_len}
 use Rattle.std.specs.Char.{digit_value}

@@ -19,8 +19,8 @@ NeverCloses [] = Unit {0}
 NeverCloses (b ∷ []) = Unit {0}
 NeverCloses (b ∷ c ∷ text) = ((b ≡ 42) → (c ≡ 47) → ⊥) × NeverCloses (c ∷ text)
 
--- One blank or one closed comment begins the bytes, and these are the bytes after it. The line end after a
--- `//` comment is a blank of its own.
+-- One blank or one closed comment begins the bytes, and these are the bytes after it. The line end
+-- after a `//` comment is a blank of its own.
 pub data Skips : List ℕ → List ℕ → Type 0 where
   blank : (b : ℕ) (after : List ℕ) → IsTrue (is_blank b) → Skips (b ∷ after) after
   line : (text after : List ℕ) → AllByRecursion (λ b. b ≢ newline) text → EndsLine after
@@ -38,8 +38,8 @@ begins_comment [] = false
 begins_comment (b ∷ []) = false
 begins_comment (b ∷ c ∷ bytes) = b == 47 && (c == 47 || c == 42)
 
--- A token of this kind with this text begins the bytes: no comment begins them, and no longer prefix of them has
--- the form of a token.
+-- A token of this kind with this text begins the bytes: no comment begins them, and no longer
+-- prefix of them has the form of a token.
 pub record Begins (bytes : List ℕ) (kind : Kind) (text : List ℕ) : Type 0 where
   pub prefix : text ≡ take (length text) bytes
   pub lexeme : IsLexeme kind text
@@ -97,8 +97,8 @@ IsFirst bytes file at (Found t) = IsFirstToken bytes file at t
 IsFirst bytes file at AtEnd = Gap (drop at bytes) []
 IsFirst bytes file at (BadAt place) = IsFirstBad bytes at place
 
--- From a place on a file is split into these tokens, and ends: by `None` where nothing but a gap is left, and
--- by the place where nothing begins.
+-- From a place on a file is split into these tokens, and ends: by `None` where nothing but a gap is
+-- left, and by the place where nothing begins.
 pub data Splits (bytes : List ℕ) (file : ℕ) : ℕ → List Lexeme → Option ℕ → Type 0 where
   whole : (at : ℕ) → IsFirst bytes file at AtEnd → Splits bytes file at [] None
   broken : (at place : ℕ) → IsFirst bytes file at (BadAt place) → Splits bytes file at [] (Some place)

@@ -43,8 +43,9 @@ pub data StandsFor : List ℕ → List ℕ → Type 0 where
 abbrev pub IsString : List ℕ → Type 0
 IsString text = (bytes : List ℕ) × StandsFor text bytes
 
--- The bytes that a string stands for, as a function: those of what follows its opening quote, of what follows a `\`, and
--- of what follows `\x`. By law they are the bytes that `StandsFor` relates to the string.
+-- The bytes that a string stands for, as a function: those of what follows its opening quote, of
+-- what follows a `\`, and of what follows `\x`. By law they are the bytes that `StandsFor` relates
+-- to the string.
 abbrev mutual
   pub inside_value : List ℕ → List ℕ
   inside_value [] = []

@@ -1,4 +1,5 @@
--- How the declarations that code holds are seen as those of the definitions, and what is kept beside them.
+-- How the declarations that code holds are seen as those of the definitions, and what is kept
+-- beside them.
 use Rattle.std.specs.Prelude.{◌≡◌, ◌≤◌, ◌<◌, ◌^◌, ℕ, List, [], ◌∷◌, length, map, if◌then◌else◌}
 use Rattle.std.specs.Option.{option_map}
 use Rattle.nss_scopes.specs.declared.structs.Member.{Member}
@@ -38,8 +39,8 @@ struct_name s = s.called
 abbrev pub head_name : Head → List ℕ
 head_name h = h.called
 
--- the budgets: how many structs, declarations of functions and variables of a unit are kept. A struct has a number of 16 bits,
--- a declaration and a variable one of 32 bits.
+-- the budgets: how many structs, declarations of functions and variables of a unit are kept. A
+-- struct has a number of 16 bits, a declaration and a variable one of 32 bits.
 abbrev pub struct_limit : ℕ
 struct_limit = 65536
 

@@ -1,4 +1,5 @@
--- The names that are declared, as code keeps them: each with the place of the declaration that it hides.
+-- The names that are declared, as code keeps them: each with the place of the declaration that it
+-- hides.
 use Rattle.std.specs.Prelude.{◌≡◌, ℕ, ◌+◌, List, [], ◌∷◌, ◌++◌, Option, None, Some, bytes_eq, if◌then◌else◌}
 use Rattle.std.specs.Option.{option_map}
 use Rattle.nwq_value.specs.Index.{number_under}

@@ -1,4 +1,5 @@
--- The verdict on a declared name, by the fault that code finds, and that on a node that is made of parts which fit.
+-- The verdict on a declared name, by the fault that code finds, and that on a node that is made of
+-- parts which fit.
 use Rattle.std.proofs.Common.{◌≡◌, ℕ, Bool, true, false, not, ◌&&◌, Option, None, Some, Result, Ok, Err, refl, sym, ap, subst, ◌∙◌}
 use Rattle.std.specs.Option.{option_map}
 use Rattle.std.specs.Result.{IfOk}

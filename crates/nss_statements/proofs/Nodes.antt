@@ -1,4 +1,5 @@
--- A statement of the source that is known, with its parts as code reaches them; how large it is; and the scope of a statement that is left.
+-- A statement of the source that is known, with its parts as code reaches them; how large it is;
+-- and the scope of a statement that is left.
 use Rattle.std.proofs.Common.{◌≡◌, ◌<◌, ◌≤◌, ◌+◌, ℕ, zero, suc, List, [], ◌∷◌, length, drop, get_or, Option, Result, Ok, Err, arith, sym, true≢false, ap, subst, ◌∙◌}
 use Rattle.std.specs.Option.{option_map}
 use Rattle.std.specs.Result.{IsErr, OnOk}

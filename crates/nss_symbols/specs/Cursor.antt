@@ -41,7 +41,8 @@ abbrev pub Reads : {X A : Type 0} → (X → A) → Outcome A → Result X Stop 
 Reads view o (Ok x) new = o ≡ Got (view x) new
 Reads view o (Err e) new = Stops e o new
 
--- The same of a call that takes no memory: where it gives nothing, the next token can't stand there.
+-- The same of a call that takes no memory: where it gives nothing, the next token can't stand
+-- there.
 abbrev pub Passes : {X A : Type 0} → (X → A) → Outcome A → Result X Misfit → List Numbered → Type 0
 Passes view o (Ok x) new = o ≡ Got (view x) new
 Passes view o (Err e) new = o ≡ Stuck new

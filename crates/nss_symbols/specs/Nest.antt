@@ -1,5 +1,6 @@
--- How deep the tokens nest, counted over the tokens alone. A list of numbers is carried over them, with a
--- count of open `do`s beside each number; the nest of a token is the sum of the numbers after it.
+-- How deep the tokens nest, counted over the tokens alone. A list of numbers is carried over them,
+-- with a count of open `do`s beside each number; the nest of a token is the sum of the numbers
+-- after it.
 use Rattle.std.specs.Prelude.{ℕ, ◌+◌, ◌-◌, ◌<◌, ◌≤◌, ◌==◌, Bool, true, false, ◌&&◌, not, List, [], ◌∷◌, Option, None, Some, sum_by, slice_index, map, if◌then◌else◌}
 use Rattle.nwq_value.specs.Limits.{nest_limit}
 use Rattle.nss_symbols.specs.declared.terminal.Terminal.{Terminal}
@@ -140,8 +141,8 @@ reset_number (l ∷ ls) = 1
 abbrev pub is_positive : ℕ → Bool
 is_positive n = not (n == 0)
 
--- A `}` or `;` then resets the last number, to 1, or to 0 where it is the only one, and its count to 0; but not
--- before `else`, and not before `while` where the count is above 0.
+-- A `}` or `;` then resets the last number, to 1, or to 0 where it is the only one, and its count
+-- to 0; but not before `else`, and not before `while` where the count is above 0.
 abbrev pub reset : Terminal → Option Terminal → State → State
 reset m after s = if is_end m && not (is_some_and is_else after) && not (is_some_and is_while after && is_positive s.last.dos) then with_last s (record { number = reset_number s.below; dos = 0 }) else s
 

@@ -1,5 +1,5 @@
--- Reading: what a reader makes of a list of tokens, and how readers are put together. The cursor's clauses speak
--- of it; what the parser promises is said by the grammar alone.
+-- Reading: what a reader makes of a list of tokens, and how readers are put together. The cursor's
+-- clauses speak of it; what the parser promises is said by the grammar alone.
 use Rattle.std.specs.Prelude.{ℕ, Bool, true, false, List, [], ◌∷◌, Option, None, Some}
 use Rattle.nss_symbols.specs.declared.terminal.Terminal.{Terminal}
 use Rattle.nss_symbols.specs.Symbols as symbol

@@ -3,9 +3,9 @@ use Rattle.std.specs.Prelude.{ℕ, ◌+◌, ◌^◌, ◌<◌, ◌≤◌, All, Li
 use Rattle.nwq_value.specs.Limits.{text_limit}
 use Rattle.nss_symbols.specs.declared.terminal.Terminal.{Terminal}
 
--- A token as the grammar sees it: a name with its bytes, a literal with its value, or a terminal, which is a word or
--- sign of one fixed spelling. A float keeps no value. `Unknown` is what is spelled as no terminal; it fits nothing,
--- and no token is seen so.
+-- A token as the grammar sees it: a name with its bytes, a literal with its value, or a terminal,
+-- which is a word or sign of one fixed spelling. A float keeps no value. `Unknown` is what is
+-- spelled as no terminal; it fits nothing, and no token is seen so.
 pub data Symbol : Type 0 where
   Name : List ℕ → Symbol
   Int : ℕ → Symbol

@@ -1,4 +1,5 @@
--- The terminals of the grammar, words and signs of one fixed spelling: how each is written, and which one a text is.
+-- The terminals of the grammar, words and signs of one fixed spelling: how each is written, and
+-- which one a text is.
 use Rattle.std.specs.Prelude.{◌≡◌, IsTrue, ℕ, List, [], ◌∷◌, Option, None, Some, codes, bytes_eq, if◌then◌else◌}
 use Rattle.nss_symbols.specs.declared.terminal.Terminal.{Terminal}
 use Rattle.nss_symbols.specs.declared.terminal.Terminal.TheVariants as terminal

@@ -1,5 +1,5 @@
--- How many variables, structs and bodies a unit has, whatever its expressions are. Variables are parameters, those
--- of prototypes too, and declared names, globals among them.
+-- How many variables, structs and bodies a unit has, whatever its expressions are. Variables are
+-- parameters, those of prototypes too, and declared names, globals among them.
 use Rattle.std.specs.Prelude.{ℕ, ◌+◌, List, [], ◌∷◌, Option, None, Some, length}
 use Rattle.nss_tree.specs.Statements.{PlainStmt, PlainStmts, block, empty, expression, if_only, if_else, while_loop, do_loop, for_loop, switch, break_off, continue_on, return_from, declaration, case_label, default_label, no_stmt, more_stmts}
 use Rattle.nss_tree.specs.Units.{PlainItem, structure, constant, global, function}

@@ -1,4 +1,5 @@
--- The plain tree of expressions: what `Expr` is, with no memory in it. The first number is the node's token.
+-- The plain tree of expressions: what `Expr` is, with no memory in it. The first number is the
+-- node's token.
 use Rattle.std.specs.Prelude.{ℕ, ℤ, List}
 use Rattle.nss_tree.specs.declared.operators.PrefixOperator.{PrefixOperator}
 use Rattle.nss_tree.specs.declared.operators.PostfixOperator.{PostfixOperator}

@@ -1,7 +1,8 @@
--- The nodes of a tree in preorder, a node before its parts and the parts as they stand in the source,
--- each by the number of its token. Nodes are: structs, field lines, fields, const lines and their names,
--- constants, declarations, declared names, functions, parameters, statements, labels and expressions.
--- No node are: types, the body of a function and the list of a switch's body, whose items are.
+-- The nodes of a tree in preorder, a node before its parts and the parts as they stand in the
+-- source, each by the number of its token. Nodes are: structs, field lines, fields, const lines and
+-- their names, constants, declarations, declared names, functions, parameters, statements, labels
+-- and expressions. No node are: types, the body of a function and the list of a switch's body,
+-- whose items are.
 use Rattle.std.specs.Prelude.{ℕ, List, [], ◌∷◌, ◌++◌}
 use Rattle.std.specs.Prelude.{Option, None, Some}
 use Rattle.nss_tree.specs.declared.constants.Constant.{Constant}

@@ -1,6 +1,7 @@
--- Laws of the reading: its equation for each variant as code makes it, with its boxes and vectors; the same for
--- a value that is known to be the variant, as an arm of a `match` knows it; and that of a list. Crates that make
--- or walk a tree cite them, by `plain_laws` where they make one, by `plain_cases` where they match on one.
+-- Laws of the reading: its equation for each variant as code makes it, with its boxes and vectors;
+-- the same for a value that is known to be the variant, as an arm of a `match` knows it; and that
+-- of a list. Crates that make or walk a tree cite them, by `plain_laws` where they make one, by
+-- `plain_cases` where they match on one.
 use Rattle.std.proofs.Common.{◌≡◌, ◌∙◌, option_map, ap, refl, ℕ, ℤ, List, [], ◌∷◌, ◌++◌, Vec, Box, Option, None, Some, Global}
 use Rattle.nss_tree.specs.declared.operators.PrefixOperator.{PrefixOperator}
 use Rattle.nss_tree.specs.declared.operators.PostfixOperator.{PostfixOperator}

@@ -1,4 +1,5 @@
--- Going over nodes to the one of a given number: how many are still to be passed, or the token found.
+-- Going over nodes to the one of a given number: how many are still to be passed, or the token
+-- found.
 use Rattle.std.specs.Prelude.{ℕ, zero, suc, List, [], ◌∷◌, Option, None, Some}
 use Rattle.nss_tree.specs.declared.places.Seek.{Seek}
 use Rattle.nss_tree.specs.declared.places.Seek.TheVariants.{Ahead, Found}

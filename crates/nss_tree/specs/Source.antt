@@ -1,4 +1,5 @@
--- The plain tree of a script's source: names are bytes, types and constants are as they are written.
+-- The plain tree of a script's source: names are bytes, types and constants are as they are
+-- written.
 use Rattle.std.specs.Prelude.{ℕ, List}
 use Rattle.nss_tree.specs.declared.constants.Constant.{Constant}
 use Rattle.nss_tree.specs.declared.constants.TypeName.{TypeName}

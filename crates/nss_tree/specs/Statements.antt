@@ -1,6 +1,7 @@
--- The plain tree of statements, over the types of their expressions E, constants C, types T and declared names N.
--- The first number is the node's token. What is said of all statements, whatever their expressions are, is said
--- of these types; a tree whose expressions are typed is the same type with other parts.
+-- The plain tree of statements, over the types of their expressions E, constants C, types T and
+-- declared names N. The first number is the node's token. What is said of all statements, whatever
+-- their expressions are, is said of these types; a tree whose expressions are typed is the same
+-- type with other parts.
 use Rattle.std.specs.Prelude.{ℕ, List, Option, map}
 use Rattle.std.specs.Option.{option_map}
 use Rattle.nss_tree.specs.declared.statements.DeclaredName.{DeclaredName}

@@ -1,5 +1,5 @@
--- The plain tree of a unit: its items, over the types of their expressions E, constants C, types T and declared
--- names N. The first number is the node's token.
+-- The plain tree of a unit: its items, over the types of their expressions E, constants C, types T
+-- and declared names N. The first number is the node's token.
 use Rattle.std.specs.Prelude.{ℕ, List, Option, map}
 use Rattle.std.specs.Option.{option_map}
 use Rattle.nss_tree.specs.declared.statements.DeclaredName.{DeclaredName}

@@ -3,7 +3,8 @@ use Rattle.std.proofs.Common.{◌≡◌, true, false, [], ◌∷◌, codes, refl
 use Rattle.nwq_text.specs.Lines.{lines_of}
 use Rattle.nwq_text.specs.Names.{is_script_name}
 
--- a carriage return before a newline goes, and one in the midst of a line or at the end of the text stays
+-- a carriage return before a newline goes, and one in the midst of a line or at the end of the text
+-- stays
 returns : lines_of (codes "a\r\nb\rc\n\nd\r") ≡ codes "a" ∷ codes "b\rc" ∷ [] ∷ codes "d\r" ∷ []
 unfolding lines_of
 returns = refl

@@ -8,7 +8,8 @@ use Rattle.std.specs.Str.Parse.{digits_value_after, digits_value}
 use Rattle.nwq_text.specs.Number.{number_of}
 use Rattle.std.proofs.Common.{◌⊎◌, cond, nat_lt, nat_le, add-one, lit<}
 
--- after i digits, which write n, the digits that are left decide whether all are digits, and give the value
+-- after i digits, which write n, the digits that are left decide whether all are digits, and give
+-- the value
 pub record ReadSoFar (digits : List ℕ) (i n : ℕ) : Type 0 where
   pub value : digits_value_after 10 n (drop i digits) ≡ digits_value 10 digits
   pub digital : all_ascii_digits (drop i digits) ≡ all_ascii_digits digits

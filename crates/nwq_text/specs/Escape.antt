@@ -2,7 +2,8 @@ use Rattle.std.specs.Prelude.{◌≡◌, ◌≢◌, ℕ, ◌+◌, ◌/◌, ◌%�
 use Rattle.std.specs.List.{flat_map, AllByRecursion}
 use Rattle.nwq_value.specs.Limits.{text_limit}
 
--- a byte that stands for itself: a printable ASCII character other than the backslash and, between quotes, the quote
+-- a byte that stands for itself: a printable ASCII character other than the backslash and, between
+-- quotes, the quote
 abbrev pub is_plain : Bool → ℕ → Bool
 is_plain in_quotes b = nat_le 32 b && nat_le b 126 && not (b == 92) && not (in_quotes && b == 34)
 
@@ -14,8 +15,8 @@ hex_digit d = if nat_lt d 10 then 48 + d else 87 + d
 abbrev pub hex_spelling : ℕ → List ℕ
 hex_spelling b = 92 ∷ 120 ∷ hex_digit (b / 16) ∷ hex_digit (b % 16) ∷ []
 
--- how a byte is spelled, in quotes or without: plain bytes as they are, `\\` for a backslash, `\n` for a newline, and
--- `\xhh` for each other byte
+-- how a byte is spelled, in quotes or without: plain bytes as they are, `\\` for a backslash, `\n`
+-- for a newline, and `\xhh` for each other byte
 unfoldable pub spelling : Bool → ℕ → List ℕ
 spelling in_quotes b =
     if b == 92 then 92 ∷ 92 ∷ [] else if b == 10 then 92 ∷ 110 ∷ [] else if is_plain in_quotes b then b ∷ [] else hex_spelling b
@@ -37,12 +38,14 @@ pub record IsTextual (bytes : List ℕ) : Type 0 where
   pub fits : length bytes ≤ text_limit
   pub each : AreBytes bytes
 
--- what is read is the text whose escaped text this is, and nothing exactly where this is the escaped text of none
+-- what is read is the text whose escaped text this is, and nothing exactly where this is the
+-- escaped text of none
 abbrev pub ReadsText : List ℕ → Option (List ℕ) → Type 0
 ReadsText text read =
     MatchOption read ((bytes : List ℕ) → IsTextual bytes → text ≢ escaped bytes) (λ bytes. IsTextual bytes × (text ≡ escaped bytes))
 
--- what is read is the bytes, however many, whose quoted text this is, and nothing exactly where this is the quoted text of none
+-- what is read is the bytes, however many, whose quoted text this is, and nothing exactly where
+-- this is the quoted text of none
 abbrev pub ReadsQuoted : List ℕ → Option (List ℕ) → Type 0
 ReadsQuoted text read =
     MatchOption read ((bytes : List ℕ) → AreBytes bytes → text ≢ quoted bytes) (λ bytes. AreBytes bytes × (text ≡ quoted bytes))

@@ -8,7 +8,8 @@ without_return [] = []
 without_return (b ∷ []) = if b == 13 then [] else b ∷ []
 without_return (b ∷ c ∷ bs) = b ∷ without_return (c ∷ bs)
 
--- the lines in the parts that newlines part: a part before a newline loses the carriage return at its end, and the last part is a line as it is, where it isn't empty
+-- the lines in the parts that newlines part: a part before a newline loses the carriage return at
+-- its end, and the last part is a line as it is, where it isn't empty
 abbrev pub lines_in : List (List ℕ) → List (List ℕ)
 lines_in [] = []
 lines_in ([] ∷ []) = []

@@ -1,4 +1,5 @@
--- The operators at their edges, by computing. The expected values are those of the profile, worked out by hand.
+-- The operators at their edges, by computing. The expected values are those of the profile, worked
+-- out by hand.
 use Rattle.std.proofs.Common.{◌≡◌, ℤ, pos, negsuc, [], ◌∷◌, true, false, codes, refl}
 use Rattle.nwq_value.specs.declared.value.Value.TheVariants.{Int, Text, Object}
 use Rattle.nwq_value.specs.Operators.{both, either, negation, bits_and, bits_or, bits_xor, complement, shift_left, shift_right, shift_right_unsigned, sum, difference, product, quotient, remainder, opposite, less, less_or_equal, greater, greater_or_equal, value_eq, values_eq, joined_texts}

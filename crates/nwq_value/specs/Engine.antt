@@ -91,7 +91,8 @@ pub record IsTable (t : EngineTable) : Type 0 where
   pub constant_names : IsDistinct bytes_eq (map (λ c. c.name) t.constants)
   pub apart : AreApart t.constants t.routines
 
--- the number of a name is that of a routine with this very name, and no number says that no routine has it
+-- the number of a name is that of a routine with this very name, and no number says that no routine
+-- has it
 abbrev pub NumberIsOfName : Type 0
 NumberIsOfName = (name : List ℕ) (routines : List Routine) (n : ℕ) → routine_named name routines ≡ Some n
     → (r : Routine) × (slice_get routines n ≡ Some r) × (r.name ≡ name)

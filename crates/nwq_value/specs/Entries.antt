@@ -1,4 +1,5 @@
--- A table's maps as code keeps them and as contracts see them, and what its index of names tells of them.
+-- A table's maps as code keeps them and as contracts see them, and what its index of names tells of
+-- them.
 use Rattle.std.specs.Prelude.{◌≡◌, ◌<◌, ◌≤◌, ◌+◌, ℕ, List, Option, None, Some, length, map, nat_eq, position}
 use Rattle.std.specs.Map.{keys_of, lookup, values_of}
 use Rattle.std.specs.Option.{option_and_then, option_map}
@@ -24,8 +25,8 @@ routine_under routines n = position (nat_eq n) (keys_of routines)
 abbrev pub constant_under : List (ℕ × Named) → ℕ → Option Const
 constant_under constants n = option_map (λ c. c.value) (lookup (nat_eq n) constants)
 
--- a name has a number where a routine or a constant has this name: it or its value stands under that number. The numbers of
--- names are those below their count
+-- a name has a number where a routine or a constant has this name: it or its value stands under
+-- that number. The numbers of names are those below their count
 pub record AreFound (names : List (List ℕ × ℕ)) (routines : List (ℕ × Routine)) (constants : List (ℕ × Named)) : Type 0 where
   pub routine : (x : List ℕ) → option_and_then (routine_under routines) (number_under x names) ≡ routine_named x (values_of routines)
   pub constant : (x : List ℕ) → option_and_then (constant_under constants) (number_under x names) ≡ constant_named x (constants_in constants)

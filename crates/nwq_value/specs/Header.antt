@@ -1,4 +1,5 @@
--- The built-in header: its types, constants and functions in order, stated once, and how they are written.
+-- The built-in header: its types, constants and functions in order, stated once, and how they are
+-- written.
 use Prim.Native.String.{String}
 use Rattle.std.specs.Prelude.{ℕ, List, [], ◌∷◌, ◌++◌, Option, None, Some, codes, pos}
 use Rattle.nwq_value.specs.declared.value.Ty.{Ty}
@@ -54,7 +55,8 @@ float = record { text = codes "float"; ty = Refused }
 abbrev pub routine : Word → String → List HeaderParam → Option Role → HeaderRoutine
 routine word name params role = record { word = word; name = codes name; params = params; role = role }
 
--- a parameter without default, an int with its default as written and as a number, and an object that is the caller where none is given
+-- a parameter without default, an int with its default as written and as a number, and an object
+-- that is the caller where none is given
 abbrev pub of : Word → String → HeaderParam
 of word name = record { word = word; name = codes name; default = None; written = [] }
 
@@ -64,8 +66,9 @@ int_or name written n = record { word = int; name = codes name; default = Some (
 abbrev pub self_or : String → HeaderParam
 self_or name = record { word = object; name = codes name; default = Some SelfObject; written = codes "OBJECT_SELF" }
 
--- the functions, numbered from 0. A row of the engine's table is Built with the function's own number, or Pure with the number
--- of the hook that answers; a function without a row is called as those of other headers are.
+-- the functions, numbered from 0. A row of the engine's table is Built with the function's own
+-- number, or Pure with the number of the hook that answers; a function without a row is called as
+-- those of other headers are.
 unfoldable pub header_routines : List HeaderRoutine
 header_routines =
     routine int "Random" (of int "nMaxInteger" ∷ []) (Some (Built 0)) ∷

@@ -1,5 +1,6 @@
--- The arithmetic of the profile: what the operators of the language give, and so the instructions that stand for them. Ints have 32 bits in
--- two's complement; sums, differences, products and negations wrap.
+-- The arithmetic of the profile: what the operators of the language give, and so the instructions
+-- that stand for them. Ints have 32 bits in two's complement; sums, differences, products and
+-- negations wrap.
 use Rattle.std.specs.Prelude.{ℕ, ℤ, pos, ◌%◌, ◌/◌, ◌^◌, List, [], ◌∷◌, ◌++◌, take, Bool, true, false, not, ◌&&◌, ◌||◌, ◌==◌, int_lt, int_rem}
 use Rattle.std.specs.Int.{w32, cast_signed, cast_unsigned, int_wrapping_add, int_wrapping_sub, int_wrapping_mul, int_wrapping_div, int_wrapping_neg, int_bit_and, int_bit_or, int_bit_xor, int_bit_not, int_shl, int_shr}
 use Rattle.std.specs.Ordering.{int_eq}
@@ -66,7 +67,8 @@ difference x y = int_wrapping_sub w32 x y
 abbrev pub product : ℤ → ℤ → ℤ
 product x y = int_wrapping_mul w32 x y
 
--- Division truncates towards zero, and a remainder has the sign of the dividend. The least int divided by -1 is the least int.
+-- Division truncates towards zero, and a remainder has the sign of the dividend. The least int
+-- divided by -1 is the least int.
 abbrev pub quotient : ℤ → ℤ → ℤ
 quotient x y = int_wrapping_div w32 x y
 

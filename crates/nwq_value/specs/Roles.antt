@@ -53,7 +53,8 @@ is_barred_type Refused = true
 is_barred_type Action = true
 is_barred_type _ = false
 
--- the role where the engine has no row: a function with a barred type can't be called, and each other is a world function
+-- the role where the engine has no row: a function with a barred type can't be called, and each
+-- other is a world function
 unfoldable pub role_without_row : Ty → List Ty → Role
 role_without_row gives takes = if is_barred_type gives || list_any is_barred_type takes then Uncallable else World
 
@@ -75,12 +76,14 @@ abbrev pub BuiltAsHeader : Type 0
 BuiltAsHeader = (name : List ℕ) (gives : Ty) (takes : List Ty) (n : ℕ) → engine_role name gives takes ≡ Built n
     → slice_get header_signatures n ≡ Some (record { name = name; gives = gives; takes = takes; role = Some (Built n) })
 
--- a Pure role is that of the function which stands as many places after `abs`, with its name and types
+-- a Pure role is that of the function which stands as many places after `abs`, with its name and
+-- types
 abbrev pub PureAsHeader : Type 0
 PureAsHeader = (name : List ℕ) (gives : Ty) (takes : List Ty) (k : ℕ) → engine_role name gives takes ≡ Pure k
     → slice_get header_signatures (28 + k) ≡ Some (record { name = name; gives = gives; takes = takes; role = Some (Pure k) })
 
--- a routine with the name and types of row n has that row's role, or where the row has none, the one that its types give
+-- a routine with the name and types of row n has that row's role, or where the row has none, the
+-- one that its types give
 abbrev pub HeaderAsRole : Type 0
 HeaderAsRole = (n : ℕ) (s : Signature) → slice_get header_signatures n ≡ Some s
     → engine_role s.name s.gives s.takes ≡ unwrap_or s.role (role_without_row s.gives s.takes)

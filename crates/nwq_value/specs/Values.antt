@@ -17,7 +17,8 @@ type_of (Event n) = EventTy
 abbrev pub no_routine : ℕ
 no_routine = 65535
 
--- the value that a variable of this type has before its first write, where the type has values of one cell
+-- the value that a variable of this type has before its first write, where the type has values of
+-- one cell
 abbrev pub start_value : Ty → Option Value
 start_value IntTy = Some (Int (pos 0))
 start_value TextTy = Some (Text [])

@@ -4,8 +4,9 @@
 //! Contracts see an [`Items`] as the list of its items, a [`Text`] as the list of its bytes, an
 //! [`Effect`] as a record, a [`Value`] as plain data, a [`NameIndex`] as names with numbers and a
 //! [`Table`] as a list of routines and a list of named constants, so no definition above speaks of
-//! vectors, maps or shared memory. Copies of texts, effects and values share. Every call that may allocate answers [`NoMemory`]
-//! and nothing else for want of memory, and leaves what it was given through `&mut` as it was.
+//! vectors, maps or shared memory. Copies of texts, effects and values share. Every call that may
+//! allocate answers [`NoMemory`] and nothing else for want of memory, and leaves what it was given
+//! through `&mut` as it was.
 //!
 //! What the clauses mean is written in `specs/`: types and starting values in `Values`, an effect's
 //! record in `Effect`, every limit by name in `Limits`, what stands under a name in `Index`, what a

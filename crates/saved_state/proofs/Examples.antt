@@ -1,4 +1,5 @@
--- The definitions at the stack of docs/STATE.md: two globals under the base cell, two locals over it.
+-- The definitions at the stack of docs/STATE.md: two globals under the base cell, two locals over
+-- it.
 use Rattle.std.proofs.Common.{◌≡◌, ℕ, [], ◌∷◌, Some, refl}
 use Rattle.std.specs.Prelude.{pos}
 use Rattle.nwq_value.specs.declared.value.Value.TheVariants.{Int}

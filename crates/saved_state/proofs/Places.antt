@@ -1,4 +1,5 @@
--- A stack's cells are kept from the bottom up: where the cells of a list stand once it is seen from the top.
+-- A stack's cells are kept from the bottom up: where the cells of a list stand once it is seen from
+-- the top.
 use Rattle.std.proofs.Common.{◌≡◌, ◌<◌, ◌≤◌, ◌+◌, ◌-◌, ◌++◌, ◌∷◌, [], ℕ, suc, List, length, take, drop, reverse, get_or, set, slice_get, Some, Bool, if◌then◌else◌, refl, sym, ap, ◌∙◌, arith}
 use Rattle.std.proofs.lemmas.Bool.{ne_eqb, eq-eqb}
 use Rattle.std.proofs.lemmas.List.{length-reverse, length-take-le, length-append, take-append-drop, drop_more, drop-take, set_split, drop_at}

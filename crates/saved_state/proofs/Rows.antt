@@ -53,7 +53,8 @@ stacked_take beneath ps zero stacked = tt
 stacked_take beneath [] (suc k) stacked = tt
 stacked_take beneath (p ∷ ps) (suc k) stacked = (stacked.0, stacked_take (beneath + length p.cells) ps k stacked.1)
 
--- where each piece keeps its number of cells, or is the last one, those above it stay where they are
+-- where each piece keeps its number of cells, or is the last one, those above it stay where they
+-- are
 stacked_same : (beneath : ℕ) (ps : List Part) (k : ℕ) (q : Part) → AreStacked beneath ps → k < length ps
     → q.start ≡ (get_or ps k q).start → length q.cells ≡ length (get_or ps k q).cells → AreStacked beneath (set ps k q)
 stacked_same beneath [] k q stacked less start size = absurd (omega arith)

@@ -23,7 +23,8 @@ with_cell (cell ∷ others) place new = if place == length others then new ∷ o
 abbrev pub cells_beneath : ℕ → List Cell → List Cell
 cells_beneath place cells = drop (length cells - place) cells
 
--- what is captured of a stack: so many cells right beneath BP and so many on top, each in the order of their places
+-- what is captured of a stack: so many cells right beneath BP and so many on top, each in the order
+-- of their places
 abbrev pub captured : ℕ → ℕ → ℕ → ℕ → StackView → Saved
 captured script place globals locals stack =
     record {
@@ -33,6 +34,7 @@ captured script place globals locals stack =
       locals = reverse (take locals stack.cells);
     }
 
--- the stack of a resumed state: the locals over a base cell over the globals, and BP at the base cell
+-- the stack of a resumed state: the locals over a base cell over the globals, and BP at the base
+-- cell
 abbrev pub resumed : Saved → StackView
 resumed saved = record { cells = reverse saved.locals ++ Base 0 ∷ reverse saved.globals; bp = length saved.globals }

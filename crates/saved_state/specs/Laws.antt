@@ -4,7 +4,8 @@ use Rattle.saved_state.specs.declared.cell.Cell.{Cell}
 use Rattle.saved_state.specs.declared.saved.Saved.{Saved}
 use Rattle.saved_state.specs.Cells.{StackView, cell_at, with_cell, cells_beneath, captured, resumed}
 
--- The captured globals are the cells whose places end at BP, and the captured locals those whose places end at the top.
+-- The captured globals are the cells whose places end at BP, and the captured locals those whose
+-- places end at the top.
 abbrev pub CapturedValues : Type 0
 CapturedValues =
     (stack : StackView) (script place globals locals i : ℕ)
@@ -23,7 +24,8 @@ ResumedValues =
 abbrev pub CapturesAgain : Type 0
 CapturesAgain = (saved : Saved) → captured saved.script saved.place (length saved.globals) (length saved.locals) (resumed saved) ≡ saved
 
--- The place of a cell is the number of cells beneath it, whatever stands over it: there it is read and written.
+-- The place of a cell is the number of cells beneath it, whatever stands over it: there it is read
+-- and written.
 abbrev pub PlacesSplit : Type 0
 PlacesSplit =
     (over : List Cell) (cell : Cell) (beneath : List Cell) →

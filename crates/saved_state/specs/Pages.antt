@@ -1,4 +1,5 @@
--- How lists of cells are kept: as pieces of pages, which several lists may share. No public clause speaks of it.
+-- How lists of cells are kept: as pieces of pages, which several lists may share. No public clause
+-- speaks of it.
 use Rattle.std.specs.Prelude.{◌≡◌, ℕ, ◌+◌, ◌<◌, ◌≤◌, List, [], ◌∷◌, ◌++◌, length, take, get_or}
 use Rattle.saved_state.specs.declared.cell.Cell.{Cell}
 

@@ -4,8 +4,8 @@
 //! evaluation has come to some point, `specs/Kept.antt` where values stand, `specs/Carries.antt`
 //! which captured states carry which commands. For expressions, calls and statements the promise is
 //! in `specs/Simulation.antt`, `specs/Calling.antt` and `specs/StatementsRun.antt`, for functions
-//! and scripts in `specs/FunctionsRun.antt` and `specs/Starts.antt`, for commands that were deferred
-//! in `specs/Resumes.antt`. `specs/Executing.antt` has scripts that other scripts run,
+//! and scripts in `specs/FunctionsRun.antt` and `specs/Starts.antt`, for commands that were
+//! deferred in `specs/Resumes.antt`. `specs/Executing.antt` has scripts that other scripts run,
 //! `specs/Entries.antt` whole entries, `specs/Listed.antt` the scripts of a play, and
 //! `specs/StayAlike.antt` what entries do beside the scripts that they run. The functions of this
 //! crate do nothing: each is a law, whose contract is proved of the definitions. The page on all of

@@ -198,8 +198,8 @@ pair_made = unit_of (
     ∷ function (t.Struct 0) [] (declare 0 (t.Struct 0) None ∷ s.return_from 0 (Some (pair 0)) ∷ [])
     ∷ function t.Void [] (does (function_call (t.Struct 0) 0 []) ∷ []) ∷ []) (Main 1)
 
--- the start, the result's two cells, the call that is begun, the variable's two cells, its value and
--- the `return`
+-- the start, the result's two cells, the call that is begun, the variable's two cells, its value
+-- and the `return`
 pair_made_steps : (area : PlainArea) → (alone pair_made 9 area).last.count ≡ 8
 unfolding bind spend engine header_table header_routines
 pair_made_steps area = refl
@@ -226,9 +226,9 @@ left_at_end_steps area = refl
 abbrev runs_t : TypedUnit
 runs_t = only_main (does (execute_here "t") ∷ [])
 
--- Where t is void main() { PrintInteger(1); }: the start, the name, the default, the start of t, the
--- literal, the printing and the call, which has its value when t has ended. Where t isn't listed, the
--- start, the name, the default and the call.
+-- Where t is void main() { PrintInteger(1); }: the start, the name, the default, the start of t,
+-- the literal, the printing and the call, which has its value when t has ended. Where t isn't
+-- listed, the start, the name, the default and the call.
 executed_steps : (area : PlainArea)
     → ((played (listed "s" runs_t ∷ listed "t" (only_main (does (print (int 1)) ∷ [])) ∷ []) area [] 0 "s" 9).last.count ≡ 7)
     × ((played (listed "s" runs_t ∷ []) area [] 0 "s" 9).last.count ≡ 4)

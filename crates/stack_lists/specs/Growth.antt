@@ -1,4 +1,5 @@
--- Lists and shapes stay as they were where nodes are only added. No contract speaks of these lemmas: they serve the proofs of the crates above.
+-- Lists and shapes stay as they were where nodes are only added. No contract speaks of these
+-- lemmas: they serve the proofs of the crates above.
 use Rattle.std.proofs.Common.{◌≡◌, ◌≤◌, ℕ, List, [], ◌∷◌, length, map, sym, subst, ◌∙◌, ap, refl, le_refl, le_trans}
 use Rattle.stack_shape.specs.declared.shape.Slot.{Slot}
 use Rattle.stack_shape.specs.Stored.{TopShape}

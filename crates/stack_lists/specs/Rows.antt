@@ -25,7 +25,8 @@ RowsAreNumbered = (rows : List Row) (trial place : ℕ) (held : Held) → row_in
 
 -- ---- where rows are found
 
--- The row with this number, of this trial and place, is found: it is the first of its place, or the index has it.
+-- The row with this number, of this trial and place, is found: it is the first of its place, or the
+-- index has it.
 abbrev pub IsKept : List ℕ → BTreeMap ℕ ℕ → ℕ → ℕ → ℕ → Type 0
 IsKept firsts index number trial place = (get_or firsts (place / 2) 0 ≡ suc number)
     ⊎ ((get_or firsts (place / 2) 0 ≢ 0) × (get nat_cmp index (row_key trial place) ≡ Some number))

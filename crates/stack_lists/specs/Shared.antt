@@ -1,4 +1,5 @@
--- Lists that share their lower parts, as numbers of nodes: 0 is the empty list, and k + 1 the list whose top is node k.
+-- Lists that share their lower parts, as numbers of nodes: 0 is the empty list, and k + 1 the list
+-- whose top is node k.
 use Rattle.std.specs.Prelude.{◌≡◌, ◌≤◌, ℕ, zero, suc, List, [], ◌∷◌, length, Option, None, Some, slice_get}
 use Rattle.stack_lists.specs.declared.lists.Node.{Node}
 

@@ -1,4 +1,5 @@
--- Lists of slots that share their lower parts, with their depths and lists that lie far down in them.
+-- Lists of slots that share their lower parts, with their depths and lists that lie far down in
+-- them.
 use Rattle.std.specs.Prelude.{◌≡◌, ◌≤◌, ◌<◌, ◌+◌, ◌^◌, ℕ, suc, List, ◌∷◌, ◌++◌, length, map, take, Some, slice_get}
 use Rattle.std.specs.Ordering.{nat_cmp}
 use Rattle.std.specs.BTreeMap.{BTreeMap, get}

@@ -9,7 +9,8 @@ pub record Worklist : Type 0 where
   pub first : List Spot
   -- and once there is nothing of that
   pub later : List Spot
-  -- the calls of all routines, as shared lists, and the number of each routine's list by the place at which it begins
+  -- the calls of all routines, as shared lists, and the number of each routine's list by the place
+  -- at which it begins
   pub calls : List (Node Spot)
   pub called : List ℕ
 
@@ -34,7 +35,8 @@ pub record CallKept (before after : Worklist) (target : ℕ) (spot : Spot) : Typ
       ⊎ ((calls_of after target ≡ calls_of before target) × ((rest : List Spot) × (calls_of before target ≡ spot ∷ rest)))
   pub others : (t : ℕ) → t ≢ target → calls_of after t ≡ calls_of before t
 
--- The calls of a routine are to be looked at, after all that is looked at first, and are no more kept.
+-- The calls of a routine are to be looked at, after all that is looked at first, and are no more
+-- kept.
 pub record CallersAdded (before after : Worklist) (target : ℕ) : Type 0 where
   pub first : after.first ≡ before.first
   pub later : after.later ≡ before.later ++ calls_of before target

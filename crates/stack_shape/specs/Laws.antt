@@ -28,7 +28,8 @@ offset_to depth = neg_ℤ (pos (4 * depth))
 abbrev pub DepthOfOffset : Type 0
 DepthOfOffset = (depth : ℕ) → depth_of (offset_to depth) ≡ Some depth
 
--- a positive number of cells that begins at a depth, and ends at or below the end from which the depth counts
+-- a positive number of cells that begins at a depth, and ends at or below the end from which the
+-- depth counts
 abbrev pub RangeOfNumbers : Type 0
 RangeOfNumbers = (depth count : ℕ) → 0 < count → count ≤ depth
     → range_at (offset_to depth) (4 * count) ≡ Some (record { above = depth - count; count = count })
@@ -57,7 +58,8 @@ ValuesAreThere = (n : ℕ) (cells : List Slot) (types : List Ty) → types_on n 
 
 -- ---- the rule looks from the top
 
--- what lies beneath the list beneath BP: that of the routine's caller, or once a list was saved, the routine's own cells go on
+-- what lies beneath the list beneath BP: that of the routine's caller, or once a list was saved,
+-- the routine's own cells go on
 abbrev pub beneath_under : List Slot → List Slot → List (List Slot) → List Slot
 beneath_under x y [] = y
 beneath_under x y (u ∷ us) = x
@@ -66,7 +68,8 @@ abbrev pub deeper_saved : List Slot → List Slot → List (List Slot) → List 
 deeper_saved x y [] = []
 deeper_saved x y (u ∷ us) = (u ++ beneath_under x y us) ∷ deeper_saved x y us
 
--- The same shape where more is known: the cells go on with x, and what was beneath BP as the routine began goes on with y.
+-- The same shape where more is known: the cells go on with x, and what was beneath BP as the
+-- routine began goes on with y.
 abbrev pub deeper : List Slot → List Slot → TopShape → TopShape
 deeper x y s = record { cells = s.cells ++ x; under = s.under ++ beneath_under x y s.saved; saved = deeper_saved x y s.saved; pending = s.pending }
 

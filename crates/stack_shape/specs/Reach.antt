@@ -1,4 +1,5 @@
--- How deep an instruction looks: so many of the topmost slots, of the cells and of the list beneath BP.
+-- How deep an instruction looks: so many of the topmost slots, of the cells and of the list beneath
+-- BP.
 use Rattle.std.specs.Prelude.{ℕ, ◌+◌, Option, None, Some, length, slice_get, ◌==◌, if◌then◌else◌}
 use Rattle.nwq_value.specs.declared.engine.Routine.{Routine}
 use Rattle.nwq_value.specs.Engine.{EngineTable}

@@ -1,4 +1,5 @@
--- The stack effect of an instruction: what it pops off the cells, and what it pushes. All lists of slots are seen top first.
+-- The stack effect of an instruction: what it pops off the cells, and what it pushes. All lists of
+-- slots are seen top first.
 use Rattle.std.specs.Prelude.{ℕ, ◌+◌, ◌-◌, List, [], ◌∷◌, ◌++◌, length, map, take, drop, Option, None, Some, ◌==◌, nat_le, if◌then◌else◌}
 use Rattle.std.specs.Option.{option_map, option_and_then}
 use Rattle.nwq_value.specs.declared.value.Ty.{Ty}
@@ -27,7 +28,8 @@ where_alike (Some a) (Some b) e = if tys_eq a b then Some e else None
 where_alike (Some a) None e = None
 where_alike None b e = None
 
--- These types are popped, the first from the top, and those are pushed, so that their first is on top.
+-- These types are popped, the first from the top, and those are pushed, so that their first is on
+-- top.
 unfoldable pub exchange : List Ty → List Ty → List Slot → Option StackEffect
 exchange pops pushes cells =
     where_alike (types_on (length pops) cells) (Some pops) (record { pops = length pops; pushes = pushes })
@@ -120,7 +122,8 @@ reckoned kind cells = if kind == 0x20 then two_ints cells else None
 unfoldable pub negated : ℕ → List Slot → Option StackEffect
 negated kind cells = if kind == 0x03 then one_int cells else None
 
--- The effect of each instruction that changes nothing but the cells, on the slots beneath BP and on the cells.
+-- The effect of each instruction that changes nothing but the cells, on the slots beneath BP and on
+-- the cells.
 unfoldable pub stack_effect : PlainOp → List Slot → List Slot → Option StackEffect
 stack_effect (ops.CpDownSp offset size) under cells = written (range_at offset size) cells cells
 stack_effect (ops.RsAdd kind) under cells = pushed (type_of_one kind)

@@ -14,7 +14,8 @@ pub record TopShape : Type 0 where
   pub saved : List (List Slot)
   pub pending : ℕ
 
--- The types of so many slots beneath BP and of so many on top: none where one of them isn't there or is a base.
+-- The types of so many slots beneath BP and of so many on top: none where one of them isn't there
+-- or is a base.
 abbrev pub found_types : ℕ → ℕ → List Slot → List Slot → Option StoredTypes
 found_types globals locals under cells =
     option_and_then (λ g. option_map (λ l. record { globals = g; locals = l }) (types_on locals cells)) (types_on globals under)
@@ -24,6 +25,7 @@ unfoldable pub stored_types : ℕ → ℕ → List Slot → List Slot → Option
 stored_types globals locals under cells =
     option_and_then (λ g. option_and_then (λ l. found_types g l under cells) (cell_count locals)) (cell_count globals)
 
--- the shape with which the stored state resumes: its locals over a base over its globals, which lie beneath BP
+-- the shape with which the stored state resumes: its locals over a base over its globals, which lie
+-- beneath BP
 abbrev pub stored_shape : StoredTypes → TopShape
 stored_shape t = record { cells = map Of t.locals ++ Base ∷ map Of t.globals; under = map Of t.globals; saved = []; pending = 0 }

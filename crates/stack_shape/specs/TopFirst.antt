@@ -6,7 +6,8 @@ use Rattle.stack_shape.specs.declared.range.CellRange.{CellRange}
 use Rattle.stack_shape.specs.declared.shape.Slot.{Slot}
 use Rattle.stack_shape.specs.declared.shape.Slot.TheVariants.{Of, Base}
 
--- The types of so many slots from the top, the top one first: none where the slots end before, or one is a base.
+-- The types of so many slots from the top, the top one first: none where the slots end before, or
+-- one is a base.
 abbrev pub types_on : ℕ → List Slot → Option (List Ty)
 types_on zero slots = Some []
 types_on (suc n) [] = None

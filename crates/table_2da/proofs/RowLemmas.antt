@@ -22,7 +22,8 @@ pub record Further (rest : List ℕ) (before : ℕ) (words : List PlainWord) : T
   pub are : Words rest further
   pub count : length words ≡ before + length further
 
--- Words further on are words of the whole line, behind those whose texts were read; and a line that is made of words is made of some further on.
+-- Words further on are words of the whole line, behind those whose texts were read; and a line that
+-- is made of words is made of some further on.
 pub record SaysSoFar (part : Part) (line rest : List ℕ) (texts : List (List ℕ)) : Type 0 where
   pub goes : (words : List PlainWord) → Words rest words → Says part line (texts ++ map (text_in part) words)
   pub back : (words : List PlainWord) → Words line words → Further rest (length texts) words
@@ -196,7 +197,8 @@ took_by : (width : ℕ) (rows new : List (List (List ℕ))) (line rest : List �
 took_by width rows new line rest word true begins took = row line rest word new begins took
 took_by width rows new line rest word false begins took = λ after adds. adds_none width rows after line rest word begins took adds
 
--- what could be done in each file in which the row's cells stand further on could be done in each in which its line stands
+-- what could be done in each file in which the row's cells stand further on could be done in each
+-- in which its line stands
 pub row_took : {E : Type 0} (width place further : ℕ) (rows new : List (List Range)) (line rest : List ℕ) (word : PlainWord) (r : Result Bool E)
     → BeginsWith line word rest → ((file : List ℕ) → StandsAt file place line → StandsAt file further rest)
     → IfOk r (λ took. (file : List ℕ) → StandsAt file further rest → Took (AddsCells width (rows_at file rows) rest) took (rows_at file new))

@@ -54,7 +54,8 @@ pub record AddsCells (width : ℕ) (rows : List (List (List ℕ))) (line : List 
   pub room : length rows < row_limit
   pub is : after ≡ rows ++ cells ∷ []
 
--- What a line adds to the rows. One without words adds nothing. A row's first word isn't used; the others are its cells.
+-- What a line adds to the rows. One without words adds nothing. A row's first word isn't used; the
+-- others are its cells.
 pub data Adds (width : ℕ) (rows : List (List (List ℕ))) : List ℕ → List (List (List ℕ)) → Type 0 where
   nothing : (line : List ℕ) → AreBlanks line → Adds width rows line rows
   row : (line rest : List ℕ) (first : PlainWord) (after : List (List (List ℕ))) → BeginsWith line first rest → AddsCells width rows rest after
@@ -83,7 +84,8 @@ abbrev pub with_columns : List (List ℕ) → Result (List (List (List ℕ))) �
 with_columns columns (Ok rows) = Ok (record { columns = columns; rows = rows })
 with_columns columns (Err n) = Err n
 
--- the lines give this table, or the line of this number is the first that breaks a rule, or that is missing
+-- the lines give this table, or the line of this number is the first that breaks a rule, or that is
+-- missing
 pub data Gives : List (List ℕ) → Result PlainTable ℕ → Type 0 where
   headless : (lines : List (List ℕ)) → (Begins IsHeading lines → ⊥) → Gives lines (Err 1)
   no_second : (heading : List ℕ) (lines : List (List ℕ)) → IsHeading heading → (Begins IsSecond lines → ⊥) → Gives (heading ∷ lines) (Err 2)

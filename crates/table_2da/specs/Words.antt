@@ -30,7 +30,8 @@ abbrev pub EndsWord : List ℕ → Type 0
 EndsWord [] = Unit {0}
 EndsWord (b ∷ bs) = is_blank b ≡ true
 
--- Blanks, this word and the rest make the line. Directly behind a quoted word the next one may begin.
+-- Blanks, this word and the rest make the line. Directly behind a quoted word the next one may
+-- begin.
 pub record IsBareBefore (line word rest : List ℕ) : Type 0 where
   pub blanks : List ℕ
   pub blank : AreBlanks blanks

@@ -128,8 +128,8 @@ fn is_parted(first: &[u8], rest: &[u8], text: &[u8]) -> bool {
     }
 }
 
-/// Whether a play over these files that is saved by one line and resumed by another puts this text in
-/// all, without the line of the save, and leaves this area.
+/// Whether a play over these files that is saved by one line and resumed by another puts this text
+/// in all, without the line of the save, and leaves this area.
 pub fn goes_on(
     alloc: Global,
     lines: [&str; 2],

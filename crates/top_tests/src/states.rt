@@ -11,9 +11,9 @@ use nwq_value::NoMemory;
 use std::alloc::Global;
 
 /// The state's bytes in front of the place at which its one stored action goes on: it begins, with
-/// the built-in header and the code of the script `p`; the area, and the plan's version; the limits,
-/// the clock of 0, one entry and 14 instructions; no random numbers and no objects; one entry for
-/// the time 1,000, which is an action of the object 0 and of the script 0.
+/// the built-in header and the code of the script `p`; the area, and the plan's version; the
+/// limits, the clock of 0, one entry and 14 instructions; no random numbers and no objects; one
+/// entry for the time 1,000, which is an action of the object 0 and of the script 0.
 const FRONT: &[u8] = b"\
     NWQSAVE1\0\x01\0\0\0\x01\0\0\0pn\0\0\0NCS V1.0B\0\0\0n\x1e\0\0\0\0\x08 \0\x04\x03\0\0\0\x01,\
     \x10\0\0\0\0\0\0\0\x04\x1d\0\0\0\0\x15\x03\x01\xff\xff\xff\xfc\0\x04\x05\0\0\x04\x01 \0\x04\

@@ -1,4 +1,5 @@
--- Small units, each with its first fault or none, as the definitions compute it. The unit stands above its tree.
+-- Small units, each with its first fault or none, as the definitions compute it. The unit stands
+-- above its tree.
 use Rattle.std.proofs.Common.{◌≡◌, refl, ℕ, pos, true, false, List, [], ◌∷◌, codes, Option, None, Some}
 use Rattle.std.specs.Prelude.{is_some}
 use Rattle.nss_tree.specs.declared.constants.Constant.{Constant}
@@ -105,7 +106,8 @@ unit_5 : IsFine (u ((unit.function 1 ty.Void (codes "main") [] (Some (more_stmts
 unfolding engine.routine_named engine.constant_named
 unit_5 = (refl, refl)
 
--- int g; void F() { g = g + 1; PrintInteger(g); } void main() { DelayCommand(10, F()); DelayCommand(20, F()); }
+-- int g; void F() { g = g + 1; PrintInteger(g); } void main() { DelayCommand(10, F());
+-- DelayCommand(20, F()); }
 unit_6 : IsFine (u ((unit.global 0 ty.Int ((d 1 (codes "g") None) ∷ [])) ∷ (unit.function 4 ty.Void (codes "F") [] (Some (more_stmts (s.expression 8 (e.assign 9 asg.Set (e.name 8 (codes "g")) (e.binary 11 bin.Add (e.name 10 (codes "g")) (e.int 12 (pos 1))))) (more_stmts (s.expression 14 (e.call 14 (codes "PrintInteger") (more_exprs (e.name 16 (codes "g")) no_expr))) no_stmt)))) ∷ (unit.function 21 ty.Void (codes "main") [] (Some (more_stmts (s.expression 25 (e.call 25 (codes "DelayCommand") (more_exprs (e.int 27 (pos 10)) (more_exprs (e.call 29 (codes "F") no_expr) no_expr)))) (more_stmts (s.expression 34 (e.call 34 (codes "DelayCommand") (more_exprs (e.int 36 (pos 20)) (more_exprs (e.call 38 (codes "F") no_expr) no_expr)))) no_stmt)))) ∷ []) 44)
 unfolding engine.routine_named engine.constant_named
 unit_6 = (refl, refl)
@@ -375,7 +377,8 @@ unit_59 : IsFine (u ((unit.structure 1 (codes "P") ((l 3 ty.Int ((i 4 (codes "x"
 unfolding engine.routine_named engine.constant_named
 unit_59 = (refl, refl)
 
--- struct P { int x; }; struct Q { struct P p; }; void main() { struct Q q; q.p.x = q.p.x + 1; q == q; }
+-- struct P { int x; }; struct Q { struct P p; }; void main() { struct Q q; q.p.x = q.p.x + 1; q ==
+-- q; }
 unit_60 : IsFine (u ((unit.structure 1 (codes "P") ((l 3 ty.Int ((i 4 (codes "x")) ∷ [])) ∷ [])) ∷ (unit.structure 9 (codes "Q") ((l 11 (ty.Struct (codes "P")) ((i 13 (codes "p")) ∷ [])) ∷ [])) ∷ (unit.function 18 ty.Void (codes "main") [] (Some (more_stmts (s.declaration 22 (ty.Struct (codes "Q")) ((d 24 (codes "q") None) ∷ [])) (more_stmts (s.expression 26 (e.assign 31 asg.Set (e.member 29 (e.member 27 (e.name 26 (codes "q")) (codes "p")) (codes "x")) (e.binary 37 bin.Add (e.member 35 (e.member 33 (e.name 32 (codes "q")) (codes "p")) (codes "x")) (e.int 38 (pos 1))))) (more_stmts (s.expression 40 (e.binary 41 bin.Equal (e.name 40 (codes "q")) (e.name 42 (codes "q")))) no_stmt))))) ∷ []) 45)
 unfolding engine.routine_named engine.constant_named
 unit_60 = (refl, refl)
@@ -385,7 +388,8 @@ unit_61 : IsAt Mismatch 30 (u ((unit.structure 1 (codes "P") ((l 3 ty.Int ((i 4 
 unfolding engine.routine_named engine.constant_named
 unit_61 = (refl, refl)
 
--- void main() { Custom(1) == Custom(2); Damage(1) != Damage(2); OBJECT_SELF == OBJECT_INVALID; "a" == HELLO; }
+-- void main() { Custom(1) == Custom(2); Damage(1) != Damage(2); OBJECT_SELF == OBJECT_INVALID; "a"
+-- == HELLO; }
 unit_62 : IsFine (u ((unit.function 1 ty.Void (codes "main") [] (Some (more_stmts (s.expression 5 (e.binary 9 bin.Equal (e.call 5 (codes "Custom") (more_exprs (e.int 7 (pos 1)) no_expr)) (e.call 10 (codes "Custom") (more_exprs (e.int 12 (pos 2)) no_expr)))) (more_stmts (s.expression 15 (e.binary 19 bin.NotEqual (e.call 15 (codes "Damage") (more_exprs (e.int 17 (pos 1)) no_expr)) (e.call 20 (codes "Damage") (more_exprs (e.int 22 (pos 2)) no_expr)))) (more_stmts (s.expression 25 (e.binary 26 bin.Equal (e.object_self 25) (e.object_invalid 27))) (more_stmts (s.expression 29 (e.binary 30 bin.Equal (e.text 29 (codes "a")) (e.name 31 (codes "HELLO")))) no_stmt)))))) ∷ []) 34)
 unfolding engine.routine_named engine.constant_named
 unit_62 = (refl, refl)
@@ -535,32 +539,50 @@ unit_91 : IsAt Redeclared 13 (u ((unit.function 1 ty.Void (codes "main") [] (Som
 unfolding engine.routine_named engine.constant_named
 unit_91 = (refl, refl)
 
--- struct A { int a, b, c, d, e, f, g, h; }; struct B { struct A a, b, c, d, e, f, g, h; }; void main() {}
+-- struct A { int a, b, c, d, e, f, g, h; }; struct B { struct A a, b, c, d, e, f, g, h; }; void
+-- main() {}
 unit_92 : IsFine (u ((unit.structure 1 (codes "A") ((l 3 ty.Int ((i 4 (codes "a")) ∷ (i 6 (codes "b")) ∷ (i 8 (codes "c")) ∷ (i 10 (codes "d")) ∷ (i 12 (codes "e")) ∷ (i 14 (codes "f")) ∷ (i 16 (codes "g")) ∷ (i 18 (codes "h")) ∷ [])) ∷ [])) ∷ (unit.structure 23 (codes "B") ((l 25 (ty.Struct (codes "A")) ((i 27 (codes "a")) ∷ (i 29 (codes "b")) ∷ (i 31 (codes "c")) ∷ (i 33 (codes "d")) ∷ (i 35 (codes "e")) ∷ (i 37 (codes "f")) ∷ (i 39 (codes "g")) ∷ (i 41 (codes "h")) ∷ [])) ∷ [])) ∷ (unit.function 46 ty.Void (codes "main") [] (Some no_stmt)) ∷ []) 51)
 unfolding engine.routine_named engine.constant_named
 unit_92 = (refl, refl)
 
--- struct A { int a, b, c, d, e, f, g, h; }; struct B { struct A a, b, c, d, e, f, g, h; int n; }; void main() {}
+-- struct A { int a, b, c, d, e, f, g, h; }; struct B { struct A a, b, c, d, e, f, g, h; int n; };
+-- void main() {}
 unit_93 : IsAt Cells 44 (u ((unit.structure 1 (codes "A") ((l 3 ty.Int ((i 4 (codes "a")) ∷ (i 6 (codes "b")) ∷ (i 8 (codes "c")) ∷ (i 10 (codes "d")) ∷ (i 12 (codes "e")) ∷ (i 14 (codes "f")) ∷ (i 16 (codes "g")) ∷ (i 18 (codes "h")) ∷ [])) ∷ [])) ∷ (unit.structure 23 (codes "B") ((l 25 (ty.Struct (codes "A")) ((i 27 (codes "a")) ∷ (i 29 (codes "b")) ∷ (i 31 (codes "c")) ∷ (i 33 (codes "d")) ∷ (i 35 (codes "e")) ∷ (i 37 (codes "f")) ∷ (i 39 (codes "g")) ∷ (i 41 (codes "h")) ∷ [])) ∷ (l 43 ty.Int ((i 44 (codes "n")) ∷ [])) ∷ [])) ∷ (unit.function 49 ty.Void (codes "main") [] (Some no_stmt)) ∷ []) 54)
 unfolding engine.routine_named engine.constant_named
 unit_93 = (refl, refl)
 
--- struct A { int a, b, c, d, e, f, g, h; }; struct B { struct A a, b, c, d, e, f, g, h; }; void main() { struct B v0, v1, v2, v3, v4, v5, v6, v7, v8, v9, v10, v11, v12, v13, v14, v15, v16, v17, v18, v19, v20, v21, v22, v23, v24, v25, v26, v27, v28, v29, v30, v31, v32, v33, v34, v35, v36, v37, v38, v39, v40, v41, v42, v43, v44, v45, v46, v47, v48, v49, v50, v51, v52, v53, v54, v55, v56, v57, v58, v59, v60, v61, v62; }
+-- struct A { int a, b, c, d, e, f, g, h; }; struct B { struct A a, b, c, d, e, f, g, h; }; void
+-- main() { struct B v0, v1, v2, v3, v4, v5, v6, v7, v8, v9, v10, v11, v12, v13, v14, v15, v16, v17,
+-- v18, v19, v20, v21, v22, v23, v24, v25, v26, v27, v28, v29, v30, v31, v32, v33, v34, v35, v36,
+-- v37, v38, v39, v40, v41, v42, v43, v44, v45, v46, v47, v48, v49, v50, v51, v52, v53, v54, v55,
+-- v56, v57, v58, v59, v60, v61, v62; }
 unit_94 : IsAt Cells 176 (u ((unit.structure 1 (codes "A") ((l 3 ty.Int ((i 4 (codes "a")) ∷ (i 6 (codes "b")) ∷ (i 8 (codes "c")) ∷ (i 10 (codes "d")) ∷ (i 12 (codes "e")) ∷ (i 14 (codes "f")) ∷ (i 16 (codes "g")) ∷ (i 18 (codes "h")) ∷ [])) ∷ [])) ∷ (unit.structure 23 (codes "B") ((l 25 (ty.Struct (codes "A")) ((i 27 (codes "a")) ∷ (i 29 (codes "b")) ∷ (i 31 (codes "c")) ∷ (i 33 (codes "d")) ∷ (i 35 (codes "e")) ∷ (i 37 (codes "f")) ∷ (i 39 (codes "g")) ∷ (i 41 (codes "h")) ∷ [])) ∷ [])) ∷ (unit.function 46 ty.Void (codes "main") [] (Some (more_stmts (s.declaration 50 (ty.Struct (codes "B")) ((d 52 (codes "v0") None) ∷ (d 54 (codes "v1") None) ∷ (d 56 (codes "v2") None) ∷ (d 58 (codes "v3") None) ∷ (d 60 (codes "v4") None) ∷ (d 62 (codes "v5") None) ∷ (d 64 (codes "v6") None) ∷ (d 66 (codes "v7") None) ∷ (d 68 (codes "v8") None) ∷ (d 70 (codes "v9") None) ∷ (d 72 (codes "v10") None) ∷ (d 74 (codes "v11") None) ∷ (d 76 (codes "v12") None) ∷ (d 78 (codes "v13") None) ∷ (d 80 (codes "v14") None) ∷ (d 82 (codes "v15") None) ∷ (d 84 (codes "v16") None) ∷ (d 86 (codes "v17") None) ∷ (d 88 (codes "v18") None) ∷ (d 90 (codes "v19") None) ∷ (d 92 (codes "v20") None) ∷ (d 94 (codes "v21") None) ∷ (d 96 (codes "v22") None) ∷ (d 98 (codes "v23") None) ∷ (d 100 (codes "v24") None) ∷ (d 102 (codes "v25") None) ∷ (d 104 (codes "v26") None) ∷ (d 106 (codes "v27") None) ∷ (d 108 (codes "v28") None) ∷ (d 110 (codes "v29") None) ∷ (d 112 (codes "v30") None) ∷ (d 114 (codes "v31") None) ∷ (d 116 (codes "v32") None) ∷ (d 118 (codes "v33") None) ∷ (d 120 (codes "v34") None) ∷ (d 122 (codes "v35") None) ∷ (d 124 (codes "v36") None) ∷ (d 126 (codes "v37") None) ∷ (d 128 (codes "v38") None) ∷ (d 130 (codes "v39") None) ∷ (d 132 (codes "v40") None) ∷ (d 134 (codes "v41") None) ∷ (d 136 (codes "v42") None) ∷ (d 138 (codes "v43") None) ∷ (d 140 (codes "v44") None) ∷ (d 142 (codes "v45") None) ∷ (d 144 (codes "v46") None) ∷ (d 146 (codes "v47") None) ∷ (d 148 (codes "v48") None) ∷ (d 150 (codes "v49") None) ∷ (d 152 (codes "v50") None) ∷ (d 154 (codes "v51") None) ∷ (d 156 (codes "v52") None) ∷ (d 158 (codes "v53") None) ∷ (d 160 (codes "v54") None) ∷ (d 162 (codes "v55") None) ∷ (d 164 (codes "v56") None) ∷ (d 166 (codes "v57") None) ∷ (d 168 (codes "v58") None) ∷ (d 170 (codes "v59") None) ∷ (d 172 (codes "v60") None) ∷ (d 174 (codes "v61") None) ∷ (d 176 (codes "v62") None) ∷ [])) no_stmt))) ∷ []) 179)
 unfolding engine.routine_named engine.constant_named
 unit_94 = (refl, refl)
 
--- struct A { int a, b, c, d, e, f, g, h; }; struct B { struct A a, b, c, d, e, f, g, h; }; void main() { struct B v0, v1, v2, v3, v4, v5, v6, v7, v8, v9, v10, v11, v12, v13, v14, v15, v16, v17, v18, v19, v20, v21, v22, v23, v24, v25, v26, v27, v28, v29, v30, v31, v32, v33, v34, v35, v36, v37, v38, v39, v40, v41, v42, v43, v44, v45, v46, v47, v48, v49, v50, v51, v52, v53, v54, v55, v56, v57, v58, v59, v60, v61; struct A w0, w1, w2, w3; { } }
+-- struct A { int a, b, c, d, e, f, g, h; }; struct B { struct A a, b, c, d, e, f, g, h; }; void
+-- main() { struct B v0, v1, v2, v3, v4, v5, v6, v7, v8, v9, v10, v11, v12, v13, v14, v15, v16, v17,
+-- v18, v19, v20, v21, v22, v23, v24, v25, v26, v27, v28, v29, v30, v31, v32, v33, v34, v35, v36,
+-- v37, v38, v39, v40, v41, v42, v43, v44, v45, v46, v47, v48, v49, v50, v51, v52, v53, v54, v55,
+-- v56, v57, v58, v59, v60, v61; struct A w0, w1, w2, w3; { } }
 unit_95 : IsFine (u ((unit.structure 1 (codes "A") ((l 3 ty.Int ((i 4 (codes "a")) ∷ (i 6 (codes "b")) ∷ (i 8 (codes "c")) ∷ (i 10 (codes "d")) ∷ (i 12 (codes "e")) ∷ (i 14 (codes "f")) ∷ (i 16 (codes "g")) ∷ (i 18 (codes "h")) ∷ [])) ∷ [])) ∷ (unit.structure 23 (codes "B") ((l 25 (ty.Struct (codes "A")) ((i 27 (codes "a")) ∷ (i 29 (codes "b")) ∷ (i 31 (codes "c")) ∷ (i 33 (codes "d")) ∷ (i 35 (codes "e")) ∷ (i 37 (codes "f")) ∷ (i 39 (codes "g")) ∷ (i 41 (codes "h")) ∷ [])) ∷ [])) ∷ (unit.function 46 ty.Void (codes "main") [] (Some (more_stmts (s.declaration 50 (ty.Struct (codes "B")) ((d 52 (codes "v0") None) ∷ (d 54 (codes "v1") None) ∷ (d 56 (codes "v2") None) ∷ (d 58 (codes "v3") None) ∷ (d 60 (codes "v4") None) ∷ (d 62 (codes "v5") None) ∷ (d 64 (codes "v6") None) ∷ (d 66 (codes "v7") None) ∷ (d 68 (codes "v8") None) ∷ (d 70 (codes "v9") None) ∷ (d 72 (codes "v10") None) ∷ (d 74 (codes "v11") None) ∷ (d 76 (codes "v12") None) ∷ (d 78 (codes "v13") None) ∷ (d 80 (codes "v14") None) ∷ (d 82 (codes "v15") None) ∷ (d 84 (codes "v16") None) ∷ (d 86 (codes "v17") None) ∷ (d 88 (codes "v18") None) ∷ (d 90 (codes "v19") None) ∷ (d 92 (codes "v20") None) ∷ (d 94 (codes "v21") None) ∷ (d 96 (codes "v22") None) ∷ (d 98 (codes "v23") None) ∷ (d 100 (codes "v24") None) ∷ (d 102 (codes "v25") None) ∷ (d 104 (codes "v26") None) ∷ (d 106 (codes "v27") None) ∷ (d 108 (codes "v28") None) ∷ (d 110 (codes "v29") None) ∷ (d 112 (codes "v30") None) ∷ (d 114 (codes "v31") None) ∷ (d 116 (codes "v32") None) ∷ (d 118 (codes "v33") None) ∷ (d 120 (codes "v34") None) ∷ (d 122 (codes "v35") None) ∷ (d 124 (codes "v36") None) ∷ (d 126 (codes "v37") None) ∷ (d 128 (codes "v38") None) ∷ (d 130 (codes "v39") None) ∷ (d 132 (codes "v40") None) ∷ (d 134 (codes "v41") None) ∷ (d 136 (codes "v42") None) ∷ (d 138 (codes "v43") None) ∷ (d 140 (codes "v44") None) ∷ (d 142 (codes "v45") None) ∷ (d 144 (codes "v46") None) ∷ (d 146 (codes "v47") None) ∷ (d 148 (codes "v48") None) ∷ (d 150 (codes "v49") None) ∷ (d 152 (codes "v50") None) ∷ (d 154 (codes "v51") None) ∷ (d 156 (codes "v52") None) ∷ (d 158 (codes "v53") None) ∷ (d 160 (codes "v54") None) ∷ (d 162 (codes "v55") None) ∷ (d 164 (codes "v56") None) ∷ (d 166 (codes "v57") None) ∷ (d 168 (codes "v58") None) ∷ (d 170 (codes "v59") None) ∷ (d 172 (codes "v60") None) ∷ (d 174 (codes "v61") None) ∷ [])) (more_stmts (s.declaration 176 (ty.Struct (codes "A")) ((d 178 (codes "w0") None) ∷ (d 180 (codes "w1") None) ∷ (d 182 (codes "w2") None) ∷ (d 184 (codes "w3") None) ∷ [])) (more_stmts (s.block 186 no_stmt) no_stmt))))) ∷ []) 189)
 unfolding engine.routine_named engine.constant_named
 unit_95 = (refl, refl)
 
--- struct A { int a, b, c, d, e, f, g, h; }; struct B { struct A a, b, c, d, e, f, g, h; }; void main() { struct B v0, v1, v2, v3, v4, v5, v6, v7, v8, v9, v10, v11, v12, v13, v14, v15, v16, v17, v18, v19, v20, v21, v22, v23, v24, v25, v26, v27, v28, v29, v30, v31, v32, v33, v34, v35, v36, v37, v38, v39, v40, v41, v42, v43, v44, v45, v46, v47, v48, v49, v50, v51, v52, v53, v54, v55, v56, v57, v58, v59, v60, v61; struct A w0, w1, w2, w3; switch (1) { } }
+-- struct A { int a, b, c, d, e, f, g, h; }; struct B { struct A a, b, c, d, e, f, g, h; }; void
+-- main() { struct B v0, v1, v2, v3, v4, v5, v6, v7, v8, v9, v10, v11, v12, v13, v14, v15, v16, v17,
+-- v18, v19, v20, v21, v22, v23, v24, v25, v26, v27, v28, v29, v30, v31, v32, v33, v34, v35, v36,
+-- v37, v38, v39, v40, v41, v42, v43, v44, v45, v46, v47, v48, v49, v50, v51, v52, v53, v54, v55,
+-- v56, v57, v58, v59, v60, v61; struct A w0, w1, w2, w3; switch (1) { } }
 unit_96 : IsAt Cells 186 (u ((unit.structure 1 (codes "A") ((l 3 ty.Int ((i 4 (codes "a")) ∷ (i 6 (codes "b")) ∷ (i 8 (codes "c")) ∷ (i 10 (codes "d")) ∷ (i 12 (codes "e")) ∷ (i 14 (codes "f")) ∷ (i 16 (codes "g")) ∷ (i 18 (codes "h")) ∷ [])) ∷ [])) ∷ (unit.structure 23 (codes "B") ((l 25 (ty.Struct (codes "A")) ((i 27 (codes "a")) ∷ (i 29 (codes "b")) ∷ (i 31 (codes "c")) ∷ (i 33 (codes "d")) ∷ (i 35 (codes "e")) ∷ (i 37 (codes "f")) ∷ (i 39 (codes "g")) ∷ (i 41 (codes "h")) ∷ [])) ∷ [])) ∷ (unit.function 46 ty.Void (codes "main") [] (Some (more_stmts (s.declaration 50 (ty.Struct (codes "B")) ((d 52 (codes "v0") None) ∷ (d 54 (codes "v1") None) ∷ (d 56 (codes "v2") None) ∷ (d 58 (codes "v3") None) ∷ (d 60 (codes "v4") None) ∷ (d 62 (codes "v5") None) ∷ (d 64 (codes "v6") None) ∷ (d 66 (codes "v7") None) ∷ (d 68 (codes "v8") None) ∷ (d 70 (codes "v9") None) ∷ (d 72 (codes "v10") None) ∷ (d 74 (codes "v11") None) ∷ (d 76 (codes "v12") None) ∷ (d 78 (codes "v13") None) ∷ (d 80 (codes "v14") None) ∷ (d 82 (codes "v15") None) ∷ (d 84 (codes "v16") None) ∷ (d 86 (codes "v17") None) ∷ (d 88 (codes "v18") None) ∷ (d 90 (codes "v19") None) ∷ (d 92 (codes "v20") None) ∷ (d 94 (codes "v21") None) ∷ (d 96 (codes "v22") None) ∷ (d 98 (codes "v23") None) ∷ (d 100 (codes "v24") None) ∷ (d 102 (codes "v25") None) ∷ (d 104 (codes "v26") None) ∷ (d 106 (codes "v27") None) ∷ (d 108 (codes "v28") None) ∷ (d 110 (codes "v29") None) ∷ (d 112 (codes "v30") None) ∷ (d 114 (codes "v31") None) ∷ (d 116 (codes "v32") None) ∷ (d 118 (codes "v33") None) ∷ (d 120 (codes "v34") None) ∷ (d 122 (codes "v35") None) ∷ (d 124 (codes "v36") None) ∷ (d 126 (codes "v37") None) ∷ (d 128 (codes "v38") None) ∷ (d 130 (codes "v39") None) ∷ (d 132 (codes "v40") None) ∷ (d 134 (codes "v41") None) ∷ (d 136 (codes "v42") None) ∷ (d 138 (codes "v43") None) ∷ (d 140 (codes "v44") None) ∷ (d 142 (codes "v45") None) ∷ (d 144 (codes "v46") None) ∷ (d 146 (codes "v47") None) ∷ (d 148 (codes "v48") None) ∷ (d 150 (codes "v49") None) ∷ (d 152 (codes "v50") None) ∷ (d 154 (codes "v51") None) ∷ (d 156 (codes "v52") None) ∷ (d 158 (codes "v53") None) ∷ (d 160 (codes "v54") None) ∷ (d 162 (codes "v55") None) ∷ (d 164 (codes "v56") None) ∷ (d 166 (codes "v57") None) ∷ (d 168 (codes "v58") None) ∷ (d 170 (codes "v59") None) ∷ (d 172 (codes "v60") None) ∷ (d 174 (codes "v61") None) ∷ [])) (more_stmts (s.declaration 176 (ty.Struct (codes "A")) ((d 178 (codes "w0") None) ∷ (d 180 (codes "w1") None) ∷ (d 182 (codes "w2") None) ∷ (d 184 (codes "w3") None) ∷ [])) (more_stmts (s.switch 186 (e.int 188 (pos 1)) no_stmt) no_stmt))))) ∷ []) 193)
 unfolding engine.routine_named engine.constant_named
 unit_96 = (refl, refl)
 
--- struct A { int a, b, c, d, e, f, g, h; }; struct B { struct A a, b, c, d, e, f, g, h; }; struct B v0, v1, v2, v3, v4, v5, v6, v7, v8, v9, v10, v11, v12, v13, v14, v15, v16, v17, v18, v19, v20, v21, v22, v23, v24, v25, v26, v27, v28, v29, v30, v31, v32, v33, v34, v35, v36, v37, v38, v39, v40, v41, v42, v43, v44, v45, v46, v47, v48, v49, v50, v51, v52, v53, v54, v55, v56, v57, v58, v59, v60, v61, v62; void main() {}
+-- struct A { int a, b, c, d, e, f, g, h; }; struct B { struct A a, b, c, d, e, f, g, h; }; struct B
+-- v0, v1, v2, v3, v4, v5, v6, v7, v8, v9, v10, v11, v12, v13, v14, v15, v16, v17, v18, v19, v20,
+-- v21, v22, v23, v24, v25, v26, v27, v28, v29, v30, v31, v32, v33, v34, v35, v36, v37, v38, v39,
+-- v40, v41, v42, v43, v44, v45, v46, v47, v48, v49, v50, v51, v52, v53, v54, v55, v56, v57, v58,
+-- v59, v60, v61, v62; void main() {}
 unit_97 : IsAt Cells 171 (u ((unit.structure 1 (codes "A") ((l 3 ty.Int ((i 4 (codes "a")) ∷ (i 6 (codes "b")) ∷ (i 8 (codes "c")) ∷ (i 10 (codes "d")) ∷ (i 12 (codes "e")) ∷ (i 14 (codes "f")) ∷ (i 16 (codes "g")) ∷ (i 18 (codes "h")) ∷ [])) ∷ [])) ∷ (unit.structure 23 (codes "B") ((l 25 (ty.Struct (codes "A")) ((i 27 (codes "a")) ∷ (i 29 (codes "b")) ∷ (i 31 (codes "c")) ∷ (i 33 (codes "d")) ∷ (i 35 (codes "e")) ∷ (i 37 (codes "f")) ∷ (i 39 (codes "g")) ∷ (i 41 (codes "h")) ∷ [])) ∷ [])) ∷ (unit.global 45 (ty.Struct (codes "B")) ((d 47 (codes "v0") None) ∷ (d 49 (codes "v1") None) ∷ (d 51 (codes "v2") None) ∷ (d 53 (codes "v3") None) ∷ (d 55 (codes "v4") None) ∷ (d 57 (codes "v5") None) ∷ (d 59 (codes "v6") None) ∷ (d 61 (codes "v7") None) ∷ (d 63 (codes "v8") None) ∷ (d 65 (codes "v9") None) ∷ (d 67 (codes "v10") None) ∷ (d 69 (codes "v11") None) ∷ (d 71 (codes "v12") None) ∷ (d 73 (codes "v13") None) ∷ (d 75 (codes "v14") None) ∷ (d 77 (codes "v15") None) ∷ (d 79 (codes "v16") None) ∷ (d 81 (codes "v17") None) ∷ (d 83 (codes "v18") None) ∷ (d 85 (codes "v19") None) ∷ (d 87 (codes "v20") None) ∷ (d 89 (codes "v21") None) ∷ (d 91 (codes "v22") None) ∷ (d 93 (codes "v23") None) ∷ (d 95 (codes "v24") None) ∷ (d 97 (codes "v25") None) ∷ (d 99 (codes "v26") None) ∷ (d 101 (codes "v27") None) ∷ (d 103 (codes "v28") None) ∷ (d 105 (codes "v29") None) ∷ (d 107 (codes "v30") None) ∷ (d 109 (codes "v31") None) ∷ (d 111 (codes "v32") None) ∷ (d 113 (codes "v33") None) ∷ (d 115 (codes "v34") None) ∷ (d 117 (codes "v35") None) ∷ (d 119 (codes "v36") None) ∷ (d 121 (codes "v37") None) ∷ (d 123 (codes "v38") None) ∷ (d 125 (codes "v39") None) ∷ (d 127 (codes "v40") None) ∷ (d 129 (codes "v41") None) ∷ (d 131 (codes "v42") None) ∷ (d 133 (codes "v43") None) ∷ (d 135 (codes "v44") None) ∷ (d 137 (codes "v45") None) ∷ (d 139 (codes "v46") None) ∷ (d 141 (codes "v47") None) ∷ (d 143 (codes "v48") None) ∷ (d 145 (codes "v49") None) ∷ (d 147 (codes "v50") None) ∷ (d 149 (codes "v51") None) ∷ (d 151 (codes "v52") None) ∷ (d 153 (codes "v53") None) ∷ (d 155 (codes "v54") None) ∷ (d 157 (codes "v55") None) ∷ (d 159 (codes "v56") None) ∷ (d 161 (codes "v57") None) ∷ (d 163 (codes "v58") None) ∷ (d 165 (codes "v59") None) ∷ (d 167 (codes "v60") None) ∷ (d 169 (codes "v61") None) ∷ (d 171 (codes "v62") None) ∷ [])) ∷ (unit.function 174 ty.Void (codes "main") [] (Some no_stmt)) ∷ []) 179)
 unfolding engine.routine_named engine.constant_named
 unit_97 = (refl, refl)

@@ -6,8 +6,8 @@ use Rattle.typing_rules.specs.declared.fault.FaultKind.{FaultKind}
 use Rattle.typing_rules.specs.Nodes.{Rows, rank, first_kind, Verdict, Fine, Wrong, Open, fine, ruled, asked, passed, two, three, four, no_parts, present_if, if_there, Fits, Own, There, absent, present, FaultThere, at, faults_there, Among}
 use Rattle.typing_rules.proofs.FirstKind.{first_is, only_first}
 
--- An answer, and a list of faults, that agree with a meaning: what is typed so, and what is at fault. T says that what is in sight
--- is typed.
+-- An answer, and a list of faults, that agree with a meaning: what is typed so, and what is at
+-- fault. T says that what is in sight is typed.
 pub record Right (T : Type 0) {A : Type 0} (P : A → Type 0) (o : Option A) (fs : List Fault) (Q : Fault → Type 0) : Type 0 where
   pub complete : (a : A) → P a → o ≡ Some a
   pub sound : (a : A) → o ≡ Some a → P a

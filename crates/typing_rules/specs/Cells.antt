@@ -1,4 +1,5 @@
--- What values are made of: the cells of a type, a struct's those of its fields. And which arguments have none: actions.
+-- What values are made of: the cells of a type, a struct's those of its fields. And which arguments
+-- have none: actions.
 use Rattle.std.specs.Prelude.{ℕ, List, [], ◌∷◌, ◌++◌, Bool, length, slice_index_or}
 use Rattle.std.specs.List.{flat_map}
 use Rattle.nss_tree.specs.Units.{structure}
@@ -13,7 +14,8 @@ use Rattle.typing_rules.specs.Typed.{TypedExpr, TypedLine, TypedItem, type_of}
 abbrev pub Structs : Type 0
 Structs = List (List Ty)
 
--- the types of the cells of a value, from the lowest: those of a struct are the cells of its fields in order
+-- the types of the cells of a value, from the lowest: those of a struct are the cells of its fields
+-- in order
 abbrev pub cell_types : Structs → Ty → List Ty
 cell_types structs Void = []
 cell_types structs (Struct n) = slice_index_or structs n []

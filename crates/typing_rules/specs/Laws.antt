@@ -1,4 +1,5 @@
--- What is promised of typing: a unit is typed in one way or at fault, never both, and the functions over the tree find which.
+-- What is promised of typing: a unit is typed in one way or at fault, never both, and the functions
+-- over the tree find which.
 use Rattle.std.specs.Prelude.{◌≡◌, ◌⊎◌, ◌↔◌, List, None, Some}
 use Rattle.nss_tree.specs.Source.{SourceItem, SourceTree}
 use Rattle.nwq_value.specs.Engine.{EngineTable}

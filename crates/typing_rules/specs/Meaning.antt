@@ -1,5 +1,6 @@
--- The typed tree of a unit by its rules, and which of its nodes are at fault. A node is at fault where its parts are typed and its
--- rule doesn't fit them: so one fault silences the nodes around it, and a declaration that isn't typed what uses it.
+-- The typed tree of a unit by its rules, and which of its nodes are at fault. A node is at fault
+-- where its parts are typed and its rule doesn't fit them: so one fault silences the nodes around
+-- it, and a declaration that isn't typed what uses it.
 use Rattle.std.specs.Prelude.{◌≡◌, ℕ, ℤ, Bool, false, List, [], ◌∷◌, Option, Some, is_some, ◌⊎◌}
 use Rattle.nss_tree.specs.declared.operators.PrefixOperator.{PrefixOperator}
 use Rattle.nss_tree.specs.declared.operators.PostfixOperator.{PostfixOperator}
@@ -258,7 +259,8 @@ FaultInParams c late (p ∷ ps) f =
     (FaultThere (FaultInConstant c) p.default f ⊎ Own p.token (ParameterParts c p) (parameter_rule c late p) (parameter_rows c late p) f)
     ⊎ FaultInParams (parameter_declared c p) (late_after late p) ps f
 
--- the parameters, the type of the result, and the first declaration of the same function, if one stands before
+-- the parameters, the type of the result, and the first declaration of the same function, if one
+-- stands before
 abbrev pub HeadParts : Sight → TypeName → List ℕ → List SourceParameter → List TypedParameter × Meant × Option Signature → Type 0
 HeadParts c t x ps p =
     TypesParams (in_function c t) false ps p.0 × (type_means c.structs t ≡ Some p.1) × (first_types x c.seen ≡ Some p.2)
@@ -318,7 +320,8 @@ pub record TypesUnit (table : EngineTable) (u : SourceTree) (t : TypedUnit) : Ty
   pub items : TypesItems (heads table u.items) (start table) u.items t.items
   pub entry : Fits NoParts (entry_rule (heads table u.items)) t.entry
 
--- A node of the unit is at fault. The function that a script begins with is a node behind the last token.
+-- A node of the unit is at fault. The function that a script begins with is a node behind the last
+-- token.
 abbrev pub FaultInUnit : EngineTable → SourceTree → Fault → Type 0
 FaultInUnit table u f =
     FaultInItems (heads table u.items) (start table) u.items f ⊎ Own u.count NoParts (entry_rule (heads table u.items)) entry_rows f

@@ -1,5 +1,5 @@
--- What a node's typing is made of, whatever the node is: its parts' answers, its rule, and the rows of the table of kinds
--- that may be true of it. And the least of some faults.
+-- What a node's typing is made of, whatever the node is: its parts' answers, its rule, and the rows
+-- of the table of kinds that may be true of it. And the least of some faults.
 use Rattle.std.specs.Prelude.{◌≡◌, ◌≤◌, ℕ, ◌==◌, nat_lt, Bool, true, false, List, [], ◌∷◌, Option, None, Some, if◌then◌else◌, ◌⊎◌}
 use Rattle.typing_rules.specs.declared.fault.Fault.{Fault}
 use Rattle.typing_rules.specs.declared.fault.FaultKind.{FaultKind}
@@ -114,7 +114,8 @@ pub record Fits {A B : Type 0} (Parts : A → Type 0) (rule : A → Option B) (b
   pub parts : Parts typed
   pub gives : rule typed ≡ Some b
 
--- A node is at fault where its parts are typed and its rule doesn't fit; the kind is that of the first row that is true of it.
+-- A node is at fault where its parts are typed and its rule doesn't fit; the kind is that of the
+-- first row that is true of it.
 pub record AtFault {A B : Type 0} (Parts : A → Type 0) (rule : A → Option B) (rows : A → Rows) (k : FaultKind) : Type 0 where
   pub typed : A
   pub parts : Parts typed

@@ -1,5 +1,6 @@
--- Laws of the reading of typed expressions: its equation for each variant as code makes it, with its boxes and vectors, and the same
--- for a value that is known to be the variant, as an arm of a `match` knows it.
+-- Laws of the reading of typed expressions: its equation for each variant as code makes it, with
+-- its boxes and vectors, and the same for a value that is known to be the variant, as an arm of a
+-- `match` knows it.
 use Rattle.std.proofs.Common.{◌≡◌, ◌∙◌, ap, refl, ℕ, List, [], ◌∷◌, Vec, Box, Global}
 use Rattle.nss_tree.specs.declared.operators.PrefixOperator.{PrefixOperator}
 use Rattle.nss_tree.specs.declared.operators.PostfixOperator.{PostfixOperator}

@@ -44,8 +44,9 @@ abbrev pub has_statement : {E C T N : Type 0} → PlainStmts E C T N → Bool
 has_statement no_stmt = false
 has_statement (more_stmts x xs) = is_statement x || has_statement xs
 
--- A statement returns where each way through it ends with a `return`, as far as these rules see: loops but for `do` are taken to be
--- passed over, and a `break` before a `return` in a `do` isn't looked at.
+-- A statement returns where each way through it ends with a `return`, as far as these rules see:
+-- loops but for `do` are taken to be passed over, and a `break` before a `return` in a `do` isn't
+-- looked at.
 abbrev mutual
   pub returns : {E C T N : Type 0} → PlainStmt E C T N → Bool
   returns (block n xs) = some_returns xs

@@ -40,7 +40,8 @@ when b a = if b then Some a else None
 
 -- ---- names
 
--- A variable of a function, or of any kind in a global's first value, is local: the globals are still being made there.
+-- A variable of a function, or of any kind in a global's first value, is local: the globals are
+-- still being made there.
 abbrev pub place_of : Bool → ℕ → Bool → Place
 place_of at_file n is_local = if at_file || is_local then Local n else Global n
 
@@ -67,7 +68,8 @@ abbrev pub defaults : List Param → Option (List Const)
 defaults [] = Some []
 defaults (p ∷ ps) = option_and_then (λ k. option_map (λ ks. k ∷ ks) (defaults ps)) p.default
 
--- the defaults of the parameters behind the arguments; None where there are too many arguments, or too few
+-- the defaults of the parameters behind the arguments; None where there are too many arguments, or
+-- too few
 abbrev pub filled : TypedExprs → List Param → Option (List Const)
 filled no_typed ps = defaults ps
 filled (more_typed x xs) [] = None
@@ -78,7 +80,8 @@ abbrev pub is_void_call : TypedExpr → Bool
 is_void_call (typed.call t f xs ks) = is_void t
 is_void_call _ = false
 
--- An action is taken as a call of a function without a result, a value by its type, and nothing is `void`.
+-- An action is taken as a call of a function without a result, a value by its type, and nothing is
+-- `void`.
 abbrev pub takes : Ty → TypedExpr → Bool
 takes t x = if is_action t then is_void_call x else not (is_void t) && same_type t (type_of x)
 
@@ -91,8 +94,8 @@ abbrev pub is_of_unit : Callee → Bool
 is_of_unit (InUnit n) = true
 is_of_unit (Engine n) = false
 
--- Such a call may not stand in a global's first value: of a function of the unit, or as an action. The flag says that the call
--- stands where an action is taken.
+-- Such a call may not stand in a global's first value: of a function of the unit, or as an action.
+-- The flag says that the call stands where an action is taken.
 abbrev pub is_barred : Bool → Called → Bool
 is_barred as_action d = is_of_unit d.callee || (as_action && is_void d.result)
 

@@ -4,7 +4,8 @@ use Rattle.nss_tree.specs.Source.{SourceStmts, SourceParameter}
 use Rattle.typing_rules.specs.Sight.{Entry, Sight}
 use Rattle.typing_rules.specs.Verdicts.{afters, after_params}
 
--- Names come to those before, variables are numbered and counted, labels are seen; nothing else changes.
+-- Names come to those before, variables are numbered and counted, labels are seen; nothing else
+-- changes.
 pub record OnlyAdds (c d : Sight) : Type 0 where
   pub more : List Entry
   pub names : d.names ≡ c.names ++ more

@@ -17,7 +17,8 @@ use Rattle.typing_rules.specs.declared.places.Callee.{Callee}
 use Rattle.typing_rules.specs.declared.places.Callee.TheVariants.{Unit as InUnit, Engine}
 use Rattle.typing_rules.specs.Types.{is_void}
 
--- ---- declarations. One that isn't typed stays in sight, without what it means: what uses it is then not typed either.
+-- ---- declarations. One that isn't typed stays in sight, without what it means: what uses it is
+-- then not typed either.
 
 pub data Meaning : Type 0 where
   -- its number, and whether it is a parameter or a variable of a function
@@ -117,7 +118,8 @@ find_from found x (e ∷ es) = find_from (if bytes_eq x e.called then Some e els
 abbrev pub find : List ℕ → List Entry → Option Entry
 find x es = find_from None x es
 
--- What a name means, maybe nothing; None where its declaration isn't typed. Names of the unit stand before the header's.
+-- What a name means, maybe nothing; None where its declaration isn't typed. Names of the unit stand
+-- before the header's.
 abbrev pub entry_means : EngineTable → List ℕ → Option Entry → Option (Option Meaning)
 entry_means table x None = Some (option_map constant (constant_named x table.constants))
 entry_means table x (Some e) = option_map Some e.means
@@ -153,7 +155,8 @@ body_number x [] = 0
 body_number x (h ∷ hs) =
     if h.has_body then (if bytes_eq x h.called then 0 else suc (body_number x hs)) else body_number x hs
 
--- A declared name stood before in its scope; at file level functions and the names of the header count too.
+-- A declared name stood before in its scope; at file level functions and the names of the header
+-- count too.
 abbrev pub is_taken : Sight → List ℕ → Bool
 is_taken c x =
     if c.at_file then (is_some (find x c.names) || (has_head x c.seen || is_of_header x c.table))
@@ -296,8 +299,8 @@ types_of_head (Some h) = option_map Some h.types
 abbrev pub first_types : List ℕ → List Head → Option (Option Signature)
 first_types x hs = types_of_head (find_head x hs)
 
--- What a call of this name calls, maybe nothing: a function of the unit with a body, by its first declaration, and else a routine
--- of the header. None where that declaration isn't typed.
+-- What a call of this name calls, maybe nothing: a function of the unit with a body, by its first
+-- declaration, and else a routine of the header. None where that declaration isn't typed.
 abbrev pub callee : List Head → EngineTable → List ℕ → Option (Option Called)
 callee hs table x =
     if has_body x hs then option_map (option_map (of_signature (body_number x hs))) (first_types x hs)

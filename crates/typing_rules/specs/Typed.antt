@@ -1,5 +1,5 @@
--- The typed tree: the tree of statements and items with typed expressions, values in place of constants, types in
--- place of their names, and variables in place of declared names.
+-- The typed tree: the tree of statements and items with typed expressions, values in place of
+-- constants, types in place of their names, and variables in place of declared names.
 use Rattle.std.specs.Prelude.{ℕ, Bool, false, List}
 use Rattle.nss_tree.specs.declared.operators.PrefixOperator.{PrefixOperator}
 use Rattle.nss_tree.specs.declared.operators.PostfixOperator.{PostfixOperator}

@@ -1,4 +1,5 @@
--- The verdict on each node of a unit, the typed tree, and the list of all faults, as functions over the tree.
+-- The verdict on each node of a unit, the typed tree, and the list of all faults, as functions over
+-- the tree.
 use Rattle.std.specs.Prelude.{ℕ, ◌+◌, Bool, false, ◌||◌, List, [], ◌∷◌, ◌++◌, Option, None, Some, is_some}
 use Rattle.std.specs.Option.{option_map}
 use Rattle.nss_tree.specs.declared.constants.Constant.{Constant}
@@ -36,8 +37,8 @@ longer_typed p = more_typed p.0 p.1
 abbrev pub one_more_typed : Option TypedExpr → Option TypedExprs → Option TypedExprs
 one_more_typed o rest = option_map longer_typed (two o rest)
 
--- ---- expressions. The declarations of the unit's functions are given; the flag says that the expression stands where an action
--- is taken.
+-- ---- expressions. The declarations of the unit's functions are given; the flag says that the
+-- expression stands where an action is taken.
 
 abbrev mutual
   pub verdict : List Head → Sight → Bool → PlainExpr → Verdict TypedExpr

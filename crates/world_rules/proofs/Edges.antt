@@ -1,4 +1,5 @@
--- Each routine at its edges: numbers without an object, negative counts and delays, what stands twice, and what isn't there.
+-- Each routine at its edges: numbers without an object, negative counts and delays, what stands
+-- twice, and what isn't there.
 use Rattle.std.proofs.Common.{◌≡◌, ℕ, ℤ, pos, negsuc, [], ◌∷◌, None, Some, true, false, refl}
 use Rattle.std.specs.Prelude.{codes}
 use Rattle.std.specs.Fmt.{digits}
@@ -88,7 +89,8 @@ speaks_no_more : (area : PlainArea) → queue_of 2 (turns 2 (begins (turns 2 (be
 unfolding engine header_table header_routines
 speaks_no_more area = refl
 
--- while a stored action of the queue runs, the object stays busy, and what the action appends posts no Turn
+-- while a stored action of the queue runs, the object stays busy, and what the action appends posts
+-- no Turn
 abbrev acts : World ℕ → World ℕ
 acts w = turns 2 (begins (does 10 2 [] (Some 9) w))
 
@@ -104,7 +106,8 @@ acts_and_turns : (area : PlainArea) → (turn_done 2 (speaks (acts (two area))))
 unfolding engine header_table header_routines
 acts_and_turns area = refl
 
--- an action that clears its own queue while it runs: the object stays busy until it is done, in both versions
+-- an action that clears its own queue while it runs: the object stays busy until it is done, in
+-- both versions
 acts_and_clears : (area : PlainArea) → queue_of 2 (does 9 2 (value.Int (pos 0) ∷ []) None (acts (newer area))) ≡ record { actions = []; busy = true }
 unfolding engine header_table header_routines
 acts_and_clears area = refl

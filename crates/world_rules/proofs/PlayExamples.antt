@@ -21,7 +21,8 @@ use Rattle.world_rules.specs.EndText.{world_text, end_text}
 abbrev printed : ℕ → ℕ → World ℕ → World ℕ
 printed o n w = told o (Print (Int (pos n))) w
 
--- a stored action prints its number, where that isn't 0: 0 divides by zero, and whoever stores 9 meets the limit
+-- a stored action prints its number, where that isn't 0: 0 divides by zero, and whoever stores 9
+-- meets the limit
 abbrev stored_run : ℕ → ℕ → World ℕ → Run ℕ
 stored_run x o w =
     if x == 0 then record { ending = Divided o; count = 3; world = w }

@@ -1,4 +1,5 @@
--- Worlds that differ in their stored actions alone, where a relation says which actions belong together.
+-- Worlds that differ in their stored actions alone, where a relation says which actions belong
+-- together.
 use Rattle.std.specs.Prelude.{◌≡◌, Option, None, Some}
 use Rattle.delay_agenda.specs.declared.entry.Entry.{Entry}
 use Rattle.delay_agenda.specs.declared.entry.Kind.{Kind}
@@ -20,8 +21,8 @@ left_of p = p.left
 abbrev pub right_of : {X Y : Type 0} {R : X → Y → Type 0} → Related R → Y
 right_of p = p.right
 
--- Two worlds are alike where one world has both in it: its stored actions are pairs, whose left sides make the first world, and
--- whose right sides the second.
+-- Two worlds are alike where one world has both in it: its stored actions are pairs, whose left
+-- sides make the first world, and whose right sides the second.
 pub record Alike {X Y : Type 0} (R : X → Y → Type 0) (w : World X) (v : World Y) : Type 0 where
   pub pairs : World (Related R)
   pub left : map_world left_of pairs ≡ w

@@ -18,7 +18,8 @@ abbrev pub NewIsAlike : {X Y : Type 0} → (X → Y → Type 0) → Type 0
 NewIsAlike R = (area : PlainArea) (random : List ℕ) (events : List Planned) (version : ℕ)
     → Alike R (new_world area random events version) (new_world area random events version)
 
--- One call in both worlds, whose actions belong together: the same value, and worlds that are alike.
+-- One call in both worlds, whose actions belong together: the same value, and worlds that are
+-- alike.
 abbrev pub EngineKeepsAlike : {X Y : Type 0} → (X → Y → Type 0) → Type 0
 EngineKeepsAlike {X = X} {Y = Y} R =
     (table : EngineTable) (cell : CellLookup) (n caller : ℕ) (values : List Value) (x : Option X) (y : Option Y) (w : World X) (v : World Y)

@@ -1,5 +1,5 @@
--- What a routine finds at a place of its arguments, counted from 0. A call has the arguments of its parameters' types; for one that
--- hadn't, the type's starting value stands in.
+-- What a routine finds at a place of its arguments, counted from 0. A call has the arguments of its
+-- parameters' types; for one that hadn't, the type's starting value stands in.
 use Rattle.std.specs.Prelude.{ℕ, ℤ, pos, negsuc, List, [], ◌∷◌, Option, Some, slice_get, take}
 use Rattle.nwq_value.specs.Limits.{text_limit}
 use Rattle.nwq_value.specs.Values.{no_routine}

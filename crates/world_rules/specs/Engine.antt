@@ -25,7 +25,8 @@ abbrev pub by_row : {X : Type 0} → Option (Row X) → Call X → World X → A
 by_row None c w = leaves w
 by_row (Some r) c w = r.does c w
 
--- what a world function gives: of an effect its number and the ints among its arguments, else the result type's starting value
+-- what a world function gives: of an effect its number and the ints among its arguments, else the
+-- result type's starting value
 abbrev pub world_value : ℕ → Ty → List Value → Option Value
 world_value routine ty.Effect values = Some (value.Effect (record { routine = routine; ints = ints_of values }))
 world_value routine ty.Void values = None
@@ -37,7 +38,8 @@ world_value routine ty.Action values = None
 world_value routine (ty.Struct n) values = None
 world_value routine ty.Refused values = None
 
--- A call of a routine by its role. A world function leaves its call in the trace. An uncallable one does nothing: it isn't called.
+-- A call of a routine by its role. A world function leaves its call in the trace. An uncallable one
+-- does nothing: it isn't called.
 abbrev pub by_role : {X : Type 0} → CellLookup → ℕ → Routine → Role → Call X → World X → Answered X
 by_role cell n r (role.Built own) c w = by_row (row_numbered own rows) c w
 by_role cell n r (role.Pure k) c w = record { value = pure cell k c.values; world = w }

@@ -9,8 +9,9 @@ use Rattle.world_rules.specs.Changes.{longest_delay}
 abbrev pub IsDueBy : {X : Type 0} → ℕ → World X → Type 0
 IsDueBy {X = X} time w = AllByRecursion (λ (e : Entry X). e.due ≤ time) w.agenda.entries
 
--- What becomes of a world till a time: the file of its area and its version stay, and no random number comes back. The clock doesn't pass
--- the time, and no delay reaches further than the longest one behind it.
+-- What becomes of a world till a time: the file of its area and its version stay, and no random
+-- number comes back. The clock doesn't pass the time, and no delay reaches further than the longest
+-- one behind it.
 pub record StaysInPlan {X : Type 0} (until : ℕ) (w v : World X) : Type 0 where
   pub tree : v.area.tree ≡ w.area.tree
   pub version : v.version ≡ w.version

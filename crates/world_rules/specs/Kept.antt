@@ -14,7 +14,8 @@ use Rattle.world_rules.specs.InPlan.{StaysInPlan}
 use Rattle.world_rules.specs.Engine.{engine, no_script, too_deep}
 use Rattle.world_rules.specs.Turns.{Planned, Begun, Turned, new_world, begin, turn, turn_done, unapply, fault, drained}
 
--- The object of an entry is one of so many. Events and stored code may be of no object; a Turn and the end of an effect are of one.
+-- The object of an entry is one of so many. Events and stored code may be of no object; a Turn and
+-- the end of an effect are of one.
 abbrev pub IsPlaced : {X : Type 0} → ℕ → Kind X → Type 0
 IsPlaced most (Event o script user) = o ≤ most
 IsPlaced most (Stored o x) = o ≤ most
@@ -36,18 +37,20 @@ pub record IsWorld {X : Type 0} (w : World X) : Type 0 where
   pub due : AllByRecursion (λ (e : Entry X). w.clock ≤ e.due) w.agenda.entries
   pub turns : (o : ℕ) → turn_count o w.agenda.entries ≤ turns_allowed (queue_of o w).busy
 
--- An object is acting: it is busy, and no Turn of it is on the agenda. So it is while a Turn of it is done, or its Do runs.
+-- An object is acting: it is busy, and no Turn of it is on the agenda. So it is while a Turn of it
+-- is done, or its Do runs.
 pub record IsActing {X : Type 0} (o : ℕ) (w : World X) : Type 0 where
   pub busy : IsTrue (queue_of o w).busy
   pub none : turn_count o w.agenda.entries ≡ 0
 
--- An object is settled: where it is busy it has one Turn on the agenda, else none, and one that isn't busy has nothing to do.
+-- An object is settled: where it is busy it has one Turn on the agenda, else none, and one that
+-- isn't busy has nothing to do.
 pub record IsSettled {X : Type 0} (o : ℕ) (w : World X) : Type 0 where
   pub turns : turn_count o w.agenda.entries ≡ turns_allowed (queue_of o w).busy
   pub idle : (queue_of o w).busy ≡ false → (queue_of o w).actions ≡ []
 
--- What a call makes of a world: it keeps what worlds keep, the objects and the clock, posts at most one entry, objects that act act on,
--- settled ones stay so, and the world stays in its plan.
+-- What a call makes of a world: it keeps what worlds keep, the objects and the clock, posts at most
+-- one entry, objects that act act on, settled ones stay so, and the world stays in its plan.
 pub record IsStep {X : Type 0} (w v : World X) : Type 0 where
   pub world : IsWorld v
   pub objects : count v ≡ count w
@@ -58,7 +61,8 @@ pub record IsStep {X : Type 0} (w v : World X) : Type 0 where
   pub settled : (o : ℕ) → IsSettled o w → IsSettled o v
   pub plan : (until : ℕ) → StaysInPlan until w v
 
--- An entry that was begun: it was due, the clock stands at its time, its object is there, and where it is a Turn its object acts.
+-- An entry that was begun: it was due, the clock stands at its time, its object is there, and where
+-- it is a Turn its object acts.
 pub record IsBegun {X : Type 0} (until : ℕ) (w : World X) (b : Begun X) : Type 0 where
   pub world : IsWorld b.world
   pub objects : count b.world ≡ count w
@@ -69,7 +73,8 @@ pub record IsBegun {X : Type 0} (until : ℕ) (w : World X) (b : Begun X) : Type
   pub acting : (o : ℕ) → b.entry.kind ≡ Turn o → IsActing o b.world
   pub plan : StaysInPlan until w b.world
 
--- A Turn of an acting object: where it comes to a stored action, the object acts on until that is done.
+-- A Turn of an acting object: where it comes to a stored action, the object acts on until that is
+-- done.
 pub record IsTurned {X : Type 0} (o : ℕ) (w : World X) (t : Turned X) : Type 0 where
   pub world : IsWorld t.world
   pub objects : count t.world ≡ count w

@@ -1,5 +1,6 @@
--- The play of a plan, entry by entry. It is generic in the stored actions of its worlds, and in how the scripts run that its entries
--- begin: the play of files and the play of source texts are this one.
+-- The play of a plan, entry by entry. It is generic in the stored actions of its worlds, and in how
+-- the scripts run that its entries begin: the play of files and the play of source texts are this
+-- one.
 use Rattle.std.specs.Prelude.{ℕ, zero, suc, ◌+◌, ◌-◌, Bool, true, false, ◌==◌, if◌then◌else◌, List, [], ◌∷◌, ◌++◌, Option, None, Some}
 use Rattle.delay_agenda.specs.declared.entry.Kind.{Kind}
 use Rattle.delay_agenda.specs.declared.entry.Kind.TheVariants.{Event, Stored, Turn, Unapply}
@@ -18,7 +19,8 @@ pub data Ending : Type 0 where
   -- the limit of an entry doesn't allow what would come next
   Stopped : Ending
 
--- What it comes to when an entry's scripts run: how they end, what was counted, and the world after it.
+-- What it comes to when an entry's scripts run: how they end, what was counted, and the world after
+-- it.
 pub record Run (X : Type 0) : Type 0 where
   pub ending : Ending
   pub count : ℕ
@@ -45,7 +47,8 @@ pub record Entered (X : Type 0) : Type 0 where
 abbrev pub quiet : {X : Type 0} → World X → Entered X
 quiet w = record { stopped = false; count = 0; world = w }
 
--- What is left of an entry is done once its scripts are over. A division leaves its line first; a stopped entry isn't finished.
+-- What is left of an entry is done once its scripts are over. A division leaves its line first; a
+-- stopped entry isn't finished.
 abbrev pub finished_as : {X : Type 0} → Ending → (World X → World X) → Run X → Entered X
 finished_as Over rest r = record { stopped = false; count = r.count; world = rest r.world }
 finished_as (Divided self) rest r = record { stopped = false; count = r.count; world = rest (fault self r.world) }
@@ -64,7 +67,8 @@ abbrev pub event_entry : {X : Type 0} → Runner X → ℕ → List ℕ → Worl
 event_entry runner o [] w = quiet w
 event_entry runner o (b ∷ name) w = named_entry runner o (b ∷ name) (runner.named (b ∷ name)) w
 
--- an object turned to the next action of its queue: a stored one is run, after which the Turn is done
+-- an object turned to the next action of its queue: a stored one is run, after which the Turn is
+-- done
 abbrev pub turn_entry : {X : Type 0} → Runner X → ℕ → Option X → World X → Entered X
 turn_entry runner o None w = quiet w
 turn_entry runner o (Some x) w = finished (turn_done o) (runner.stored x o w)
@@ -81,8 +85,8 @@ entered runner b = entered_as runner b.entry.kind b.entry.number b.world
 
 -- ---- entry after entry
 
--- A play between two entries: how many were taken, what was counted in all, the lines that were told, and the world, which keeps
--- no line.
+-- A play between two entries: how many were taken, what was counted in all, the lines that were
+-- told, and the world, which keeps no line.
 pub record Progress (X : Type 0) : Type 0 where
   pub entries : ℕ
   pub count : ℕ
@@ -113,7 +117,8 @@ pub record Played (X : Type 0) : Type 0 where
   pub ending : PlayEnd
   pub last : Progress X
 
--- How far a play goes: at most this many entries, those that are due by this time; and it is broken off once `stop` entries were taken.
+-- How far a play goes: at most this many entries, those that are due by this time; and it is broken
+-- off once `stop` entries were taken.
 pub record Bounds : Type 0 where
   pub entries : ℕ
   pub until : ℕ

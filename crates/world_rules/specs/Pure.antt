@@ -11,7 +11,8 @@ use Rattle.nwq_value.specs.declared.value.Value.TheVariants.{Int}
 use Rattle.nwq_text.specs.Escape.{hex_digit}
 use Rattle.world_rules.specs.Arguments.{int_at, text_at, at_least_zero, string_value}
 
--- Tables, as calls see them: the bytes of the cell in a table's column and row, or none where there is no such cell.
+-- Tables, as calls see them: the bytes of the cell in a table's column and row, or none where there
+-- is no such cell.
 abbrev pub CellLookup : Type 0
 CellLookup = List ℕ → List ℕ → ℤ → List ℕ
 
@@ -23,7 +24,8 @@ absolute n = if int_lt n (pos 0) then int_wrapping_neg w32 n else n
 abbrev pub leading_number : List ℕ → ℤ
 leading_number bytes = cast_signed w32 (digits_value 10 (take_while is_ascii_digit bytes) % 2 ^ 32)
 
--- the number that a string begins with, where a `-` may stand before the digits; 0 where it begins with none
+-- the number that a string begins with, where a `-` may stand before the digits; 0 where it begins
+-- with none
 abbrev pub string_number : List ℕ → ℤ
 string_number [] = pos 0
 string_number (b ∷ bytes) = if b == 45 then int_wrapping_neg w32 (leading_number bytes) else leading_number (b ∷ bytes)
@@ -49,7 +51,8 @@ abbrev pub middle_part : List ℕ → ℤ → ℤ → List ℕ
 middle_part bytes (pos start) count = take (at_least_zero count) (drop start bytes)
 middle_part bytes (negsuc start) count = []
 
--- a string with another one put in at a place: a negative place is the beginning, and one past the end the end
+-- a string with another one put in at a place: a negative place is the beginning, and one past the
+-- end the end
 abbrev pub inserted : List ℕ → List ℕ → ℤ → List ℕ
 inserted bytes piece place = take (at_least_zero place) bytes ++ piece ++ drop (at_least_zero place) bytes
 

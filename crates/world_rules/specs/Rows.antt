@@ -16,7 +16,8 @@ use Rattle.world_rules.specs.Arguments.{int_at, text_at, object_at, effect_at, e
 use Rattle.world_rules.specs.World.{World, is_valid, queue_of, effects_of}
 use Rattle.world_rules.specs.Changes.{told, post, later, with_action, with_actions, with_busy, with_effect, with_effects, with_variables, has_turn, without_turn, without_first, is_effect}
 
--- A call: who calls, the arguments that are values, first to last, and the action, where the routine takes one.
+-- A call: who calls, the arguments that are values, first to last, and the action, where the
+-- routine takes one.
 pub record Call (X : Type 0) : Type 0 where
   pub caller : ℕ
   pub values : List Value
@@ -73,11 +74,13 @@ abbrev pub appended_do : {X : Type 0} → ℕ → Option X → World X → World
 appended_do o None w = w
 appended_do o (Some x) w = appended o (Do x) w
 
--- A Turn of the object that is on the agenda goes, and the busy mark with it. While a Do of the object runs there is none, and the mark stays.
+-- A Turn of the object that is on the agenda goes, and the busy mark with it. While a Do of the
+-- object runs there is none, and the mark stays.
 abbrev pub at_rest : {X : Type 0} → ℕ → World X → World X
 at_rest o w = if has_turn o w then with_busy o false (without_turn o w) else w
 
--- The caller's queue is emptied. In version 1 a Turn that is on the agenda stays there, in version 2 it goes. What was delayed stays in both.
+-- The caller's queue is emptied. In version 1 a Turn that is on the agenda stays there, in version
+-- 2 it goes. What was delayed stays in both.
 abbrev pub cleared : {X : Type 0} → ℕ → World X → World X
 cleared o w = if w.version == 2 then at_rest o (with_actions o [] w) else with_actions o [] w
 
@@ -98,7 +101,8 @@ changed_variables o change w = if is_valid o w then with_variables o change w el
 
 -- ---- effects
 
--- The effect is told. One for a time stands until the agenda ends it, and a lasting one without end.
+-- The effect is told. One for a time stands until the agenda ends it, and a lasting one without
+-- end.
 abbrev pub applied : {X : Type 0} → ℤ → ℕ → Effect → ℤ → World X → World X
 applied (pos zero) o e ms w = told o (line.Apply (pos 0) e) w
 applied (pos (suc zero)) o e ms w =

@@ -9,14 +9,14 @@ use Rattle.world_rules.specs.Kept.{IsWorld, IsActing, IsSettled, IsStep}
 use Rattle.world_rules.specs.Turns.{Planned, new_world, begin}
 use Rattle.world_rules.specs.Plays.{Runner, Entered, Bounds, Progress, Played, StoppedInside, entered, plays}
 
--- A world between two entries: each object is busy exactly where it has a Turn on the agenda, which is then its only one, and an object
--- that isn't busy has nothing to do.
+-- A world between two entries: each object is busy exactly where it has a Turn on the agenda, which
+-- is then its only one, and an object that isn't busy has nothing to do.
 pub record IsBetween {X : Type 0} (w : World X) : Type 0 where
   pub world : IsWorld w
   pub settled : (o : ℕ) → IsSettled o w
 
--- What scripts make of a world by their calls, however many: it keeps what worlds keep and the objects, objects that act act on, settled
--- ones stay so, and the world stays in its plan.
+-- What scripts make of a world by their calls, however many: it keeps what worlds keep and the
+-- objects, objects that act act on, settled ones stay so, and the world stays in its plan.
 pub record IsLed {X : Type 0} (w v : World X) : Type 0 where
   pub world : IsWorld v
   pub objects : count v ≡ count w
@@ -50,8 +50,8 @@ led_on w v u l s = record {
   plan = λ until. stays_on until w v u (l.plan until) (s.plan until);
 }
 
--- How scripts run keeps to the engine: a script, or a stored action, that runs as one of the objects, or as none, leads a world on by
--- calls.
+-- How scripts run keeps to the engine: a script, or a stored action, that runs as one of the
+-- objects, or as none, leads a world on by calls.
 pub record KeepsToEngine {X : Type 0} (runner : Runner X) : Type 0 where
   pub script : (script self : ℕ) (w : World X) → IsWorld w → self ≤ count w → IsLed w (runner.script script self w).world
   pub stored : (x : X) (self : ℕ) (w : World X) → IsWorld w → self ≤ count w → IsLed w (runner.stored x self w).world
@@ -63,8 +63,8 @@ abbrev pub NewIsBetween : Type 0 → Type 0
 NewIsBetween X = (area : PlainArea) (random : List ℕ) (events : List Planned) (version : ℕ)
     → AllByRecursion (λ (p : Planned). p.object ≤ length area.objects) events → IsBetween (new_world {X = X} area random events version)
 
--- What a plan gives a world before its play: the clock at 0, the file of its area, version and random numbers, so many entries, and all
--- of them due by a time.
+-- What a plan gives a world before its play: the clock at 0, the file of its area, version and
+-- random numbers, so many entries, and all of them due by a time.
 pub record IsPlanned {X : Type 0} (area : PlainArea) (plan_random : List ℕ) (plan_version time events : ℕ) (w : World X) : Type 0 where
   pub clock : w.clock ≡ 0
   pub tree : w.area.tree ≡ area.tree
@@ -78,8 +78,8 @@ NewIsPlanned X = (area : PlainArea) (random : List ℕ) (events : List Planned) 
     → AllByRecursion (λ (p : Planned). p.due ≤ time) events
     → IsPlanned area random version time (length events) (new_world {X = X} area random events version)
 
--- An entry that is due by a time leaves what every world keeps, and the world in its plan. Unless it is stopped, the world is between
--- entries again.
+-- An entry that is due by a time leaves what every world keeps, and the world in its plan. Unless
+-- it is stopped, the world is between entries again.
 pub record IsEntered {X : Type 0} (until : ℕ) (w : World X) (e : Entered X) : Type 0 where
   pub world : IsWorld e.world
   pub plan : StaysInPlan until w e.world
@@ -89,8 +89,8 @@ abbrev pub EntriesSettle : Type 0 → Type 0
 EntriesSettle X = (runner : Runner X) (until : ℕ) (w : World X) → KeepsToEngine runner → IsBetween w
     → IfSome (begin until w) (λ b. IsEntered until w (entered runner b))
 
--- The same of a play from a world on that is between entries: it stays in its plan, takes no more entries than it may, and none more than
--- it was to take.
+-- The same of a play from a world on that is between entries: it stays in its plan, takes no more
+-- entries than it may, and none more than it was to take.
 pub record HasSettled {X : Type 0} (bounds : Bounds) (left : ℕ) (p : Progress X) (q : Played X) : Type 0 where
   pub world : IsWorld q.last.world
   pub between : q.ending ≢ StoppedInside → IsBetween q.last.world

@@ -1,4 +1,5 @@
--- Worlds that are alike stay so, whatever relation says which stored actions belong together: every change is the same whatever these are.
+-- Worlds that are alike stay so, whatever relation says which stored actions belong together: every
+-- change is the same whatever these are.
 use Rattle.std.proofs.Common.{◌≡◌, Option, None, Some, refl, sym, ap, ap₂, subst, ◌∙◌}
 use Rattle.std.specs.Option.{option_map}
 use Rattle.delay_agenda.specs.declared.entry.Entry.{Entry}

@@ -74,7 +74,8 @@ begin until w = begun until w.agenda.entries w
 
 -- ---- a Turn
 
--- after an action was done the object turns to the next one at once; where it has none, it isn't busy any more
+-- after an action was done the object turns to the next one at once; where it has none, it isn't
+-- busy any more
 abbrev pub next_turn : {X : Type 0} → ℕ → List (Item X) → World X → World X
 next_turn o [] w = with_busy o false w
 next_turn o (item ∷ rest) w = post w.clock (Turn o) w

@@ -11,10 +11,10 @@
 //! and `specs/Settled.antt` what holds of the worlds between entries.
 //!
 //! The types below are the parts of a world that are plain data. Beside their calls, the functions
-//! of this crate do nothing: each is a law, whose contract is proved of the definitions, for whoever
-//! calls it. `specs/StayAlike.antt` proves that worlds which differ in their stored actions alone
-//! stay so. docs/ENGINE.md tells the rows in words, docs/WORLD.md the
-//! world, docs/PLAYS.md plays.
+//! of this crate do nothing: each is a law, whose contract is proved of the definitions, for
+//! whoever calls it. `specs/StayAlike.antt` proves that worlds which differ in their stored actions
+//! alone stay so. docs/ENGINE.md tells the rows in words, docs/WORLD.md the world, docs/PLAYS.md
+//! plays.
 #![tactic(auto)]
 
 mod data;
