@@ -122,7 +122,7 @@ impl Piece {
             }
             None => {}
         }
-        let mut page = copies(alloc, self.page.len(), self.page.as_slice())?;
+        let mut page = copies(alloc, self.page.as_slice())?;
         replace(&mut page, at, cell);
         self.page = Rc::new(alloc, page)?;
         Ok(())
@@ -148,7 +148,7 @@ impl Piece {
                 None => {}
             }
         }
-        let mut page = copies(alloc, self.count, &self.page[self.first..end])?;
+        let mut page = copies(alloc, &self.page[self.first..end])?;
         page.push(cell)?;
         self.page = Rc::new(alloc, page)?;
         self.first = 0;
@@ -157,11 +157,11 @@ impl Piece {
     }
 }
 
-/// Equal cells, in the same order, with room for so many cells at once.
-pub(crate) fn copies(alloc: Global, room: usize, cells: &[Cell]) -> Result<Vec<Cell>, NoMemory>
+/// Equal cells, in the same order.
+pub(crate) fn copies(alloc: Global, cells: &[Cell]) -> Result<Vec<Cell>, NoMemory>
     ensures same { IfOk result (λ all. all.items ≡ cells.now) }
 {
-    let mut all = Vec::with_capacity(alloc, room)?;
+    let mut all = Vec::with_capacity(alloc, cells.len())?;
     for cell in cells {
         all.push(cell.copy(alloc)?)?;
     }

@@ -50,12 +50,12 @@ impl Pile {
         }
     }
 
-    /// These cells.
+    /// These cells, with room for a few more on top.
     pub fn of(cells: Cells) -> Result<Pile, NoMemory>
         ensures cells { IfOk result (λ pile. pile ≡ cells) }
     {
         match cells.kept {
-            Kept::Own(cells) => Ok(Pile::of_own(cells)),
+            Kept::Own(cells) => Pile::of_own(cells),
             Kept::Shared(low) => {
                 let len = low.len();
                 let top = Vec::with_capacity(low.allocator(), FEW)?;
@@ -64,16 +64,16 @@ impl Pile {
         }
     }
 
-    fn of_own(cells: Vec<Cell>) -> Pile
-        ensures cells { result ≡ cells.items }
+    /// The cells are moved, since a list that grows costs more than a new one.
+    fn of_own(cells: Vec<Cell>) -> Result<Pile, NoMemory>
+        ensures cells { IfOk result (λ pile. pile ≡ cells.items) }
     {
-        let low = Pages::new(*cells.allocator());
-        let len = cells.len();
-        Pile {
-            low,
-            top: cells,
-            len,
-        }
+        let mut cells = cells;
+        let mut top = Vec::with_capacity(*cells.allocator(), FEW)?;
+        top.append(&mut cells)?;
+        let low = Pages::new(*top.allocator());
+        let len = top.len();
+        Ok(Pile { low, top, len })
     }
 
     /// How many cells there are.
@@ -197,7 +197,7 @@ impl Pile {
         }
         if low <= from && to - from <= FEW {
             let alloc = self.low.allocator();
-            return Ok(Cells::own(copies(alloc, FEW, &self.top[from - low..to - low])?));
+            return Ok(Cells::own(copies(alloc, &self.top[from - low..to - low])?));
         }
         settle(&mut self.low, &mut self.top)?;
         Ok(Cells::shared(self.low.part(from, to)?))
@@ -205,8 +205,7 @@ impl Pile {
 }
 
 /// The most cells that are copied where their pages could be shared: to make pages of so few, and
-/// copies of these once they are written, takes longer. A copy has room for so many, since a stack
-/// that begins with it puts more on top.
+/// copies of these once they are written, takes longer.
 const FEW: usize = 16;
 
 /// Drops a cell that may own memory: a call of its own, so that the way of ints stays short.
