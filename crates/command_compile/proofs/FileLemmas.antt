@@ -1,5 +1,5 @@
 -- What comes of a typed unit's code does the work of its file.
-use Rattle.std.proofs.Common.{◌≡◌, ◌≤◌, ◌<◌, ℕ, Bool, true, false, inl, List, length, None, Result, Ok, Err, refl, subst, sym}
+use Rattle.std.proofs.Common.{◌≡◌, ◌≤◌, ◌<◌, ℕ, Bool, true, false, List, length, None, Result, Ok, Err, refl, subst, sym}
 use Rattle.std.specs.Prelude.{IfOk, nat_lt}
 use Rattle.std.proofs.lemmas.Bool.{lt-ltb, le-ltb}
 use Rattle.nwq_value.specs.Limits.{file_limit}
@@ -20,11 +20,12 @@ use Rattle.emission_rules.specs.Units.{unit_code, unit_file}
 use Rattle.command_work.specs.declared.cause.Cause.TheVariants as cause
 use Rattle.command_work.specs.declared.status.Status.{Status}
 use Rattle.command_work.specs.declared.status.Status.TheVariants.{Memory}
-use Rattle.command_work.specs.Work.{Does}
-use Rattle.command_work.specs.Parts.{Refuses, cut_here, refused, then_ok}
+use Rattle.command_work.specs.Work.{Does, MayBeCut, writes}
+use Rattle.command_work.specs.Parts.{Refuses, cut_here, makes_does, refused, then_ok}
 use Rattle.command_sources.specs.Units.{PlainScript, at_spot, grammar_symbols, spot_of}
 use Rattle.command_sources.specs.Reading.{HasTree}
 use Rattle.command_files.specs.Checks.{IsStackedFile}
+use Rattle.command_files.specs.Commands.{writes_and_puts}
 use Rattle.command_compile.specs.Made.{IsUnitFile, IsTreeFile}
 use Rattle.command_compile.specs.Typings.{typed_in}
 use Rattle.command_compile.specs.Files.{IsTooLarge, compiled_in, file_by, file_in}
@@ -51,7 +52,7 @@ module _ (files : List Source) (unit : TypedUnit) (c : Contents) where
   unfolding file_in
   file_does bytes t same small =
       subst (λ b. Does (file_by files b (unit_file unit)) c t (Ok bytes) c t) (sym (le-ltb file_limit (length (unit_file unit)) (subst (λ x. length x ≤ file_limit) same small)))
-      (subst (λ x. Does (file_by files false (unit_file unit)) c t (Ok x) c t) (sym same) (inl refl, (refl, refl)))
+      (makes_does (unit_file unit) bytes c c t t same refl refl)
 
   pub large_does : (answer : Status) (t t' : List ℕ) → file_limit < length (unit_file unit)
       → Refuses (at_spot cause.Large (spot_of files None)) t answer t' → Does (file_in files unit) c t (Err answer) c t'
@@ -60,8 +61,19 @@ module _ (files : List Source) (unit : TypedUnit) (c : Contents) where
       subst (λ b. Does (file_by files b (unit_file unit)) c t (Err answer) c t') (sym (lt-ltb file_limit (length (unit_file unit)) large))
       (refused (at_spot cause.Large (spot_of files None)) answer c t t' h)
 
+  may_file : (large : Bool) (file : List ℕ) → MayBeCut (file_by files large file)
+  may_file true file = tt
+  may_file false file = tt
+
   pub file_cut : (t : List ℕ) → Does (file_in files unit) c t (Err Memory) c t
-  file_cut t = cut_here (file_in files unit) Memory c c t t tt refl refl
+  unfolding file_in
+  file_cut t =
+      cut_here (file_in files unit) Memory c c t t (may_file (nat_lt file_limit (length (unit_file unit))) (unit_file unit)) tt refl refl
+
+-- the name of the file is still to be made
+pub name_wanted : (name file line : List ℕ) (c : Contents) (t : List ℕ) → Does (writes_and_puts name file line) c t (Err Memory) c t
+unfolding writes_and_puts writes
+name_wanted name file line c t = cut_here (writes_and_puts name file line) Memory c c t t tt tt refl refl
 
 -- a script that was typed goes on to its file
 pub typed_then : (header : EngineTable) (script : PlainScript) (unit : TypedUnit) (files : List Source) (r : Result (List ℕ) Status) (c : Contents) (t t' t'' : List ℕ)

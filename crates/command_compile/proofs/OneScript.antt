@@ -12,7 +12,7 @@ use Rattle.typing_rules.specs.Verdicts.{unit_faults}
 use Rattle.typing_rules.specs.Laws.{OneTyped, TypedIsFaultless, LeastIsKept}
 use Rattle.nss_include.specs.declared.file.Source.{Source}
 use Rattle.emission_rules.specs.Units.{unit_file}
-use Rattle.command_work.specs.Outcomes.{IsSure, sure_then, sure_puts, sure_writes}
+use Rattle.command_work.specs.Outcomes.{IsSure, sure_makes, sure_then, sure_puts, sure_writes}
 use Rattle.command_sources.specs.Headers.{table_of}
 use Rattle.command_sources.specs.Units.{PlainScript, unit_of}
 use Rattle.command_sources.specs.Laws.{SureTables, SureUnits}
@@ -49,7 +49,7 @@ sure_typed one faultless least header script = (λ c a b p q. one_fate one fault
 
 sure_size : (files : List Source) (large : Bool) (file : List ℕ) → IsSure (file_by files large file)
 sure_size files true file = tt
-sure_size files false file = tt
+sure_size files false file = sure_makes file
 
 sure_file : (files : List Source) (unit : TypedUnit) → IsSure (file_in files unit)
 unfolding file_in

@@ -1,5 +1,5 @@
 -- What comes of a script's tree does the work of its typed unit.
-use Rattle.std.proofs.Common.{◌≡◌, ℕ, inl, List, Result, Ok, Err, refl, subst}
+use Rattle.std.proofs.Common.{◌≡◌, ℕ, List, Result, Ok, Err, refl, subst}
 use Rattle.std.specs.Prelude.{◌≤◌, IfOk}
 use Rattle.nwq_value.specs.Engine.{EngineTable, IsTable}
 use Rattle.nwq_value.specs.Limits.{token_limit}
@@ -35,7 +35,7 @@ module _ (header : EngineTable) (script : PlainScript) (c : Contents) where
   goes fate r t t' is does = finds_one (λ (d : Contents) (f : TypingFate). IsTypingFate header script.tree f) (typing_by script) fate c c t t' r is does
 
   pub typed_does : (unit : TypedUnit) (t : List ℕ) → TypesUnit header script.tree unit → Does (typed_in header script) c t (Ok unit) c t
-  typed_does unit t typed = goes (Whole unit) (Ok unit) t t (whole unit typed) (inl refl, (refl, refl))
+  typed_does unit t typed = goes (Whole unit) (Ok unit) t t (whole unit typed) (refl, (refl, refl))
 
   pub fault_does : (fault : Fault) (why : Cause) (answer : Status) (t t' : List ℕ) → IsKeptFault header script.tree fault → why ≡ cause_of fault.kind
       → Refuses (at_token script fault.token why) t answer t' → Does (typed_in header script) c t (Err answer) c t'
@@ -45,6 +45,7 @@ module _ (header : EngineTable) (script : PlainScript) (c : Contents) where
       (refused (at_token script fault.token why) answer c t t' h))
 
   pub typing_cut : (t : List ℕ) → Does (typed_in header script) c t (Err Memory) c t
-  typing_cut t = cut_here (typed_in header script) Memory c c t t tt refl refl
+  unfolding typed_in
+  typing_cut t = cut_here (typed_in header script) Memory c c t t tt tt refl refl
 
 pub ruleset typings = (typed_does, fault_does, typing_cut)

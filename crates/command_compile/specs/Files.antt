@@ -8,7 +8,7 @@ use Rattle.emission_rules.specs.Units.{unit_file}
 use Rattle.ncs_emit.specs.declared.fault.EmitFault.{EmitFault}
 use Rattle.ncs_emit.specs.declared.fault.EmitFault.TheVariants.{Large, NoMemory}
 use Rattle.command_work.specs.declared.cause.Cause.TheVariants as cause
-use Rattle.command_work.specs.Work.{Work, Gives, Refused, then, Finished}
+use Rattle.command_work.specs.Work.{Work, Refused, then, makes, Finished}
 use Rattle.command_sources.specs.Headers.{table_of}
 use Rattle.command_sources.specs.Units.{PlainScript, at_spot, spot_of, unit_of}
 use Rattle.command_files.specs.Commands.{writes_and_puts}
@@ -23,7 +23,7 @@ IsTooLarge file NoMemory = Unit {0}
 -- a unit whose file would be too large is refused at the end of the script's own file
 abbrev pub file_by : List Source → Bool → List ℕ → Work (List ℕ)
 file_by files true file = Refused (at_spot cause.Large (spot_of files None))
-file_by files false file = Gives file
+file_by files false file = makes file
 
 -- the file of a typed unit, whose tokens stand in these files
 unfoldable pub file_in : List Source → TypedUnit → Work (List ℕ)

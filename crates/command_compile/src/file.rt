@@ -115,7 +115,7 @@ pub fn code_name(alloc: Global, script: &str) -> Result<String, NoMemory>
 }
 
 /// Writes the file of a script, and puts the line that tells its size.
-#[tactic(auto, using(command_work::specs::Parts::cut_here))]
+#[tactic(auto, using(crate::proofs::FileLemmas::name_wanted))]
 fn write_code<F: Files, S: Sink>(
     alloc: Global,
     script: &str,

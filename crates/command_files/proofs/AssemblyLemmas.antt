@@ -1,5 +1,5 @@
 -- What comes of an assembler text does the work of its file.
-use Rattle.std.proofs.Common.{◌≡◌, ℕ, inl, List, Some, Result, Ok, Err, refl, sym}
+use Rattle.std.proofs.Common.{◌≡◌, ℕ, List, Some, Result, Ok, Err, refl, sym}
 use Rattle.nwq_outside.specs.Outside.{Contents}
 use Rattle.ncs_text.specs.declared.fault.AsmFault.{AsmFault}
 use Rattle.ncs_text.specs.Assembly.{IsAssembled, Fails}
@@ -18,7 +18,7 @@ module _ (name text : List ℕ) (c : Contents) where
   goes fate r t t' is does = finds_one (λ (d : Contents) (f : AssemblyFate). IsAssemblyFate text f) (assembly_by name) fate c c t t' r is does
 
   pub assembly_does : (file : List ℕ) (t : List ℕ) → IsAssembled text file → Does (assembly_in name text) c t (Ok file) c t
-  assembly_does file t is = goes (Whole file) (Ok file) t t (whole file is) (inl refl, (refl, refl))
+  assembly_does file t is = goes (Whole file) (Ok file) t t (whole file is) (refl, (refl, refl))
 
   pub assembly_broken : (fails : AsmFault) (why : CodeFlaw) (answer : Status) (t t' : List ℕ) → Fails fails text → Some why ≡ asm_flaw fails
       → Refuses (BadCode name why) t answer t' → Does (assembly_in name text) c t (Err answer) c t'
@@ -26,6 +26,7 @@ module _ (name text : List ℕ) (c : Contents) where
       goes (Faulty why) (Err answer) t t' (broken fails why h (sym is)) (refused (BadCode name why) answer c t t' refuses)
 
   pub assembly_cut : (t : List ℕ) → Does (assembly_in name text) c t (Err Memory) c t
-  assembly_cut t = cut_here (assembly_in name text) Memory c c t t tt refl refl
+  unfolding assembly_in
+  assembly_cut t = cut_here (assembly_in name text) Memory c c t t tt tt refl refl
 
 pub ruleset assemblies = (assembly_does, assembly_broken, assembly_cut)

@@ -1,5 +1,5 @@
 -- What comes of a check does its work.
-use Rattle.std.proofs.Common.{◌≡◌, ℕ, inl, List, Result, Ok, Err, refl, subst}
+use Rattle.std.proofs.Common.{◌≡◌, ℕ, List, Result, Ok, Err, refl, subst}
 use Rattle.nwq_value.specs.Engine.{EngineTable}
 use Rattle.nwq_outside.specs.Outside.{Contents}
 use Rattle.ncs_code.specs.Plain.{PlainOp}
@@ -26,7 +26,7 @@ module _ (header : EngineTable) (name : List ℕ) (ops : List PlainOp) (c : Cont
   pub passes_does : (checked : CheckedCode) (t : List ℕ) → checked.code ≡ ops → MeetsRules header ops (kept_table checked)
       → Does (checked_in header name ops) c t (Ok checked.code) c t
   passes_does checked t same meets =
-      goes Passes (Ok checked.code) t t (passes (kept_table checked, meets)) (inl (subst (λ x. IsValue (Ok checked.code) x) same refl), (refl, refl))
+      goes Passes (Ok checked.code) t t (passes (kept_table checked, meets)) (subst (λ x. IsValue (Ok checked.code) x) same refl, (refl, refl))
 
   pub unstacked_does : (answer : Status) (t t' : List ℕ) → (WellStacked header ops → ⊥) → Refuses (BadCode name flaw.Unstacked) t answer t'
       → Does (checked_in header name ops) c t (Err answer) c t'
@@ -34,7 +34,8 @@ module _ (header : EngineTable) (name : List ℕ) (ops : List PlainOp) (c : Cont
       goes Unstacked (Err answer) t t' (unstacked none) (refused (BadCode name flaw.Unstacked) answer c t t' h)
 
   pub check_cut : (t : List ℕ) → Does (checked_in header name ops) c t (Err Memory) c t
-  check_cut t = cut_here (checked_in header name ops) Memory c c t t tt refl refl
+  unfolding checked_in
+  check_cut t = cut_here (checked_in header name ops) Memory c c t t tt tt refl refl
 
 pub source_stops : (status : Status) → StopsSource status → StopsCheck status
 source_stops Done h = h

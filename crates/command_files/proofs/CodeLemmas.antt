@@ -1,5 +1,5 @@
 -- What comes of the bytes of a file of bytecode does the work of its instructions.
-use Rattle.std.proofs.Common.{◌≡◌, ℕ, inl, List, Some, Result, Ok, Err, refl, sym}
+use Rattle.std.proofs.Common.{◌≡◌, ℕ, List, Some, Result, Ok, Err, refl, sym}
 use Rattle.nwq_outside.specs.Outside.{Contents}
 use Rattle.ncs_code.specs.Plain.{PlainOp}
 use Rattle.ncs_code.specs.File.{IsCode, file_bytes}
@@ -20,7 +20,7 @@ module _ (name bytes : List ℕ) (c : Contents) where
   goes fate r t t' is does = finds_one (λ (d : Contents) (f : CodeFate). IsCodeFate bytes f) (code_by name) fate c c t t' r is does
 
   pub code_does : (ops : List PlainOp) (t : List ℕ) → IsCode ops × (bytes ≡ file_bytes ops) → Does (code_in name bytes) c t (Ok ops) c t
-  code_does ops t loaded = goes (Whole ops) (Ok ops) t t (whole ops loaded.0 loaded.1) (inl refl, (refl, refl))
+  code_does ops t loaded = goes (Whole ops) (Ok ops) t t (whole ops loaded.0 loaded.1) (refl, (refl, refl))
 
   pub code_broken : (fails : LoadFault) (why : CodeFlaw) (answer : Status) (t t' : List ℕ) → Fails fails bytes → Some why ≡ load_flaw fails
       → Refuses (BadCode name why) t answer t' → Does (code_in name bytes) c t (Err answer) c t'
@@ -28,6 +28,7 @@ module _ (name bytes : List ℕ) (c : Contents) where
       goes (Faulty why) (Err answer) t t' (broken fails why h (sym is)) (refused (BadCode name why) answer c t t' refuses)
 
   pub code_cut : (t : List ℕ) → Does (code_in name bytes) c t (Err Memory) c t
-  code_cut t = cut_here (code_in name bytes) Memory c c t t tt refl refl
+  unfolding code_in
+  code_cut t = cut_here (code_in name bytes) Memory c c t t tt tt refl refl
 
 pub ruleset codes = (code_does, code_broken, code_cut)

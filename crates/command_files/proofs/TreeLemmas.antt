@@ -1,5 +1,5 @@
 -- What comes of a GFF file's bytes does the work of its tree.
-use Rattle.std.proofs.Common.{◌≡◌, ℕ, inl, List, Some, None, Result, Ok, Err, refl, sym}
+use Rattle.std.proofs.Common.{◌≡◌, ℕ, List, Some, None, Result, Ok, Err, refl, sym}
 use Rattle.nwq_outside.specs.Outside.{Contents}
 use Rattle.gff_bytes.specs.declared.rows.OpenFault.{OpenFault}
 use Rattle.gff_bytes.specs.File.{open_fault}
@@ -39,7 +39,7 @@ module _ (name bytes : List ℕ) (c : Contents) where
   goes fate r t t' is does = finds_one (λ (d : Contents) (f : TreeFate). IsTreeFate bytes f) (tree_by name) fate c c t t' r is does
 
   pub tree_does : (tree : PlainGff) (t : List ℕ) → Stands bytes tree → Does (tree_in name bytes) c t (Ok tree) c t
-  tree_does tree t stands = goes (Whole tree) (Ok tree) t t (whole tree stands) (inl refl, (refl, refl))
+  tree_does tree t stands = goes (Whole tree) (Ok tree) t t (whole tree stands) (refl, (refl, refl))
 
   pub unopened_does : (fails : OpenFault) (answer : Status) (t t' : List ℕ) → open_fault bytes ≡ Some fails → Refuses (BadArea name (open_flaw fails)) t answer t'
       → Does (tree_in name bytes) c t (Err answer) c t'
@@ -60,6 +60,7 @@ module _ (name bytes : List ℕ) (c : Contents) where
       goes (Faulty why) (Err answer) t t' (broken why fault) (refused (BadArea name why) answer c t t' h)
 
   pub tree_cut : (t : List ℕ) → Does (tree_in name bytes) c t (Err Memory) c t
-  tree_cut t = cut_here (tree_in name bytes) Memory c c t t tt refl refl
+  unfolding tree_in
+  tree_cut t = cut_here (tree_in name bytes) Memory c c t t tt tt refl refl
 
 pub ruleset trees = (tree_does, broken_does, tree_cut)

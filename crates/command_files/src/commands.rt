@@ -79,7 +79,7 @@ pub fn write_and_put<F: Files, S: Sink>(
 }
 
 /// Writes the text of instructions.
-#[tactic(auto, using(command_work::specs::Parts::cut_here))]
+#[tactic(auto, using(crate::proofs::CommandLemmas::bytes_wanted))]
 fn write_listing<F: Files, S: Sink>(
     alloc: Global,
     to: &str,

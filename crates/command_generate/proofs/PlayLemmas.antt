@@ -18,23 +18,29 @@ use Rattle.command_work.specs.Parts.{cut_here}
 use Rattle.play_worlds.specs.Worlds.{plan_world}
 use Rattle.command_plays.specs.Plays.{played}
 use Rattle.command_plays.specs.Scripts.{listed}
-use Rattle.command_generate.specs.Generated.{plan_of, made_area, tells, plays_made}
+use Rattle.command_generate.specs.Generated.{plan_of, made_area, tells, plays_made, source_compiled, generates}
 
 -- ---- a play that is cut
 
 pub play_cut : (n : ℕ) (p : Played Saved) (s : Status) (c : Contents) (t : List ℕ) → CutsShort s → Does (tells n p) c t (Err s) c t
-play_cut n p s c t cut = cut_here (tells n p) s c c t t cut refl refl
+play_cut n p s c t cut = cut_here (tells n p) s c c t t tt cut refl refl
 
 pub cut_limits : (s : Status) → CutsShort s → Refusing Limit s
 cut_limits s cut = inr cut
 
 pub ruleset plays = (play_cut, cut_limits)
 
+-- the header, the play of the number or its code is still to be made
+pub play_wanted : (cell : CellLookup) (n : ℕ) (c : Contents) (t : List ℕ) → Does (generates cell n) c t (Err Memory) c t
+unfolding generates source_compiled
+play_wanted cell n c t = cut_here (generates cell n) Memory c c t t tt tt refl refl
+
 -- ---- the play of a number
 
 module _ (cell : CellLookup) (n : ℕ) (ops : List PlainOp) (c : Contents) where
   pub made_cut : (t : List ℕ) → Does (plays_made cell n ops) c t (Err Memory) c t
-  made_cut t = cut_here (plays_made cell n ops) Memory c c t t tt refl refl
+  unfolding plays_made
+  made_cut t = cut_here (plays_made cell n ops) Memory c c t t tt tt refl refl
 
   pub made_does : (header : EngineTable) (area : PlainArea) (plan : Plan) (scripts : List Script) (r : Result Finished Status) (t t' : List ℕ)
       → header ≡ header_table → area ≡ made_area n → plan ≡ plan_of n → scripts ≡ listed (codes "beat") ops

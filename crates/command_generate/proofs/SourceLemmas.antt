@@ -16,6 +16,7 @@ use Rattle.command_work.specs.declared.status.Status.{Status}
 use Rattle.command_work.specs.declared.status.Status.TheVariants.{Done, Words, Script, Code, Area, Limit, Missing, Fault, Memory, Long}
 use Rattle.command_work.specs.Work.{Does, CutsShort}
 use Rattle.command_work.specs.Counts.{Counted, TalliesEnd}
+use Rattle.command_work.specs.Parts.{makes_does}
 use Rattle.command_work.specs.Outcomes.{agree}
 use Rattle.command_sources.specs.Units.{Whole as IsScript, unit_of}
 use Rattle.command_compile.specs.Typings.{Whole as IsTyped, whole as typed, typed_in}
@@ -29,7 +30,7 @@ use Rattle.command_generate.specs.Generated.{files_with, faultless, Compiles, Is
 module _ (c : Contents) (h : BeatCompiles c) where
   file_does : (files : List Source) (b : Bool) → b ≡ false → Does (file_by files b (unit_file h.unit)) c [] (Ok (unit_file h.unit)) c []
   file_does files true e = absurd cc
-  file_does files false e = (inl refl, (refl, refl))
+  file_does files false e = makes_does (unit_file h.unit) (unit_file h.unit) c c [] [] refl refl refl
 
   beat_does : Does (compiled_named header_table (codes "beat")) c [] (Ok (unit_file h.unit)) c []
   unfolding compiled_named unit_of compiled_in typed_in file_in
@@ -123,6 +124,6 @@ module _ (header : EngineTable) (built_in : header ≡ header_table) (source : L
 
 pub found_does : (source file : List ℕ) (c : Contents) (t : List ℕ) → IsFileOf source file → Does (source_compiled source) c t (Ok file) c t
 unfolding source_compiled
-found_does source file c t is = inr (record { found = file; is = is; goes = (inl refl, (refl, refl)) })
+found_does source file c t is = inr (record { found = file; is = is; goes = (refl, (refl, refl)) })
 
 pub ruleset compiles = (file_of, want_alone)

@@ -53,7 +53,7 @@ fn play_file<S: Sink>(
 }
 
 /// Compiles, checks and plays a made play under the built-in header.
-#[tactic(auto, using(command_work::specs::Parts::cut_here, crate::proofs::StopLemmas::limit_stops))]
+#[tactic(auto, using(crate::proofs::PlayLemmas::play_wanted, crate::proofs::StopLemmas::limit_stops))]
 fn play_made<S: Sink>(
     alloc: Global,
     table: &Table,
@@ -80,7 +80,7 @@ fn play_made<S: Sink>(
 }
 
 /// Makes the play of a number, plays it and puts its summary. Scripts that it plays call the hooks.
-#[tactic(auto, using(command_work::specs::Parts::cut_here))]
+#[tactic(auto, using(crate::proofs::PlayLemmas::play_wanted))]
 pub fn generate<S: Sink>(
     alloc: Global,
     number: u32,

@@ -1,5 +1,5 @@
 -- A script that is compiled has a typed unit, of which its file is.
-use Rattle.std.proofs.Common.{◌≡◌, ◌≤◌, ◌⊎◌, inl, inr, ℕ, List, length, Bool, true, false, nat_lt, Result, Ok, None, subst, ap, refl, arith}
+use Rattle.std.proofs.Common.{◌≡◌, ◌≤◌, ◌⊎◌, inl, inr, ℕ, List, length, Bool, true, false, nat_lt, Result, Ok, None, subst, ap, ◌∙◌, refl, arith}
 use Rattle.std.proofs.lemmas.Bool.Decides.{nat_tests}
 use Rattle.std.specs.FinMap as fin_map
 use Rattle.nwq_value.specs.Limits.{file_limit}
@@ -50,9 +50,16 @@ module _ (header : EngineTable) (c : Contents) (name bytes : List ℕ) (t : List
       → (b : Bool) → nat_lt file_limit (length (unit_file u)) ≡ b → Does (file_by files b (unit_file u)) c t (Ok bytes) c' t' → Makes
   made_small files u script is types true large (inl refused, s) = absurd cc
   made_small files u script is types true large (inr cut, s) = absurd cut.0
-  made_small files u script is types false small (inl gives, s) =
-      (record { unit = u; is = record { script = script; is = is; types = types }; bytes_are = ap (value_or bytes) gives; small = grind (arith, nat_tests) }, s)
-  made_small files u script is types false small (inr cut, s) = absurd cut
+  made_small files u script is types false small (inl cut) = absurd cut.0
+  made_small files u script is types false small (inr h) = (
+    record {
+      unit = u;
+      is = record { script = script; is = is; types = types };
+      bytes_are = ap (value_or bytes) h.goes.0 ∙ h.is;
+      small = grind (arith, nat_tests);
+    },
+    h.goes.1,
+  )
 
   made_file : (files : List Source) (u : TypedUnit) (script : PlainScript) → IsUnitFate (fin_map.get c) name (Whole script) → TypesUnit header script.tree u
       → Does (file_in files u) c t (Ok bytes) c' t' → Makes

@@ -9,7 +9,7 @@ use Rattle.typing_laws.specs.Laws.{EachTypedUnitHasCode}
 use Rattle.command_files.specs.Codes.{Whole, whole, code_by, code_in}
 use Rattle.command_files.specs.Checks.{CheckFate, Passes as PassesCheck, Unstacked, IsCheckFate, passes, unstacked, check_by, checked_in, loaded_in}
 use Rattle.command_work.specs.declared.status.Status.{Status}
-use Rattle.command_work.specs.Work.{Work, then, Stays, IsCut, Does, Finished}
+use Rattle.command_work.specs.Work.{Work, then, Stays, IsCut, Does, MayBeCut, Finished}
 use Rattle.command_work.specs.Parts.{cut_here}
 use Rattle.command_work.specs.Outcomes.{IsSure}
 use Rattle.command_plays.specs.Scripts.{plays_code, plays_file}
@@ -31,12 +31,16 @@ units_pass pass bounds header u table unit small =
 
 -- ---- its play
 
-stays_cut : {A : Type 0} (w : Work A) (r : Result A Status) (c c' : Contents) (t t' : List ℕ) → IsCut r → Stays c c' t t' → Does w c t r c' t'
-stays_cut w (Ok a) c c' t t' cut s = absurd cut
-stays_cut w (Err e) c c' t t' cut s = cut_here w e c c' t t' cut s.0 s.1
+stays_cut : {A : Type 0} (w : Work A) (r : Result A Status) (c c' : Contents) (t t' : List ℕ) → MayBeCut w → IsCut r → Stays c c' t t' → Does w c t r c' t'
+stays_cut w (Ok a) c c' t t' may cut s = absurd cut
+stays_cut w (Err e) c c' t t' may cut s = cut_here w e c c' t t' may cut s.0 s.1
 
 module _ (sure : SurePlays) (cell : CellLookup) (header : EngineTable) (name file : List ℕ) (u : TypedUnit) (pass : Passes header u)
     (c : Contents) (t : List ℕ) (r : Result Finished Status) (c' : Contents) (t' : List ℕ) where
+  may_play : MayBeCut (plays_code cell header name (code_of u))
+  unfolding plays_code
+  may_play = tt
+
   by_check : (fate : CheckFate) → IsCheckFate header (code_of u) fate → Does (then (check_by file (code_of u) fate) (plays_code cell header name)) c t r c' t'
       → Does (plays_code cell header name (code_of u)) c t r c' t'
   by_check PassesCheck (passes stacked) goes = goes
@@ -44,12 +48,12 @@ module _ (sure : SurePlays) (cell : CellLookup) (header : EngineTable) (name fil
 
   checked_plays : Does (then (checked_in header file (code_of u)) (plays_code cell header name)) c t r c' t' → Does (plays_code cell header name (code_of u)) c t r c' t'
   unfolding checked_in
-  checked_plays (inl cut) = stays_cut (plays_code cell header name (code_of u)) r c c' t t' cut.0 cut.1
+  checked_plays (inl cut) = stays_cut (plays_code cell header name (code_of u)) r c c' t t' may_play cut.0 cut.1
   checked_plays (inr h) = by_check h.found h.is h.goes
 
   pub file_plays : Does (plays_file cell header name file (unit_file u)) c t r c' t' → Does (plays_code cell header name (code_of u)) c t r c' t'
   unfolding plays_file loaded_in code_in
-  file_plays (inl cut) = stays_cut (plays_code cell header name (code_of u)) r c c' t t' cut.0 cut.1
+  file_plays (inl cut) = stays_cut (plays_code cell header name (code_of u)) r c c' t t' may_play cut.0 cut.1
   file_plays (inr h) =
       let one : IsSure (plays_file cell header name file (unit_file u)) = sure cell header name file (unit_file u) in
       let is : h.found ≡ Whole (code_of u) = one.0 c h.found (Whole (code_of u)) h.is (whole (code_of u) pass.loads refl) in

@@ -13,14 +13,10 @@ use Rattle.command_plays.specs.Scripts.{tells}
 use Rattle.command_meaning.specs.Runs.{answer_by, EndsAreAnswered}
 
 pub ends_are_answered : EndsAreAnswered
-ends_are_answered Done c t r c' t' whole (inl is, s) = (is, s)
-ends_are_answered OutOfEntries c t r c' t' whole (inl is, s) = (is, s)
-ends_are_answered StoppedInside c t r c' t' whole (inl is, s) = (is, s)
-ends_are_answered Paused c t r c' t' whole (inl is, s) = (is, s)
-ends_are_answered Done c t r c' t' whole (inr cut, s) = absurd (whole cut)
-ends_are_answered OutOfEntries c t r c' t' whole (inr cut, s) = absurd (whole cut)
-ends_are_answered StoppedInside c t r c' t' whole (inr cut, s) = absurd (whole cut)
-ends_are_answered Paused c t r c' t' whole (inr cut, s) = absurd (whole cut)
+ends_are_answered Done c t r c' t' does = does
+ends_are_answered OutOfEntries c t r c' t' does = does
+ends_are_answered StoppedInside c t r c' t' does = does
+ends_are_answered Paused c t r c' t' does = does
 
 -- its trace and the text of its end were put, and its answer is as it ends
 pub record Told (scripts : List Script) (p : Played Saved) (c : Contents) (t : List ℕ) (r : Result Finished Status) (c' : Contents) (t' : List ℕ) : Type 0 where
@@ -33,7 +29,7 @@ pub told : (scripts : List Script) (p : Played Saved) (c : Contents) (t : List �
 told scripts p c t r c' t' whole (inl cut) = absurd (whole cut.0)
 told scripts p c t r c' t' whole (inr (inl cut)) = absurd (whole cut.0)
 told scripts p c t r c' t' whole (inr (inr goes)) =
-    let e = ends_are_answered p.ending c ((t ++ trace_text p.last.trace) ++ code_end_text scripts p) r c' t' whole goes in
+    let e = ends_are_answered p.ending c ((t ++ trace_text p.last.trace) ++ code_end_text scripts p) r c' t' goes in
     record { taken = e.1.1 ∙ append_assoc t (trace_text p.last.trace) (code_end_text scripts p); answer = e.0; contents = e.1.0 }
 
 -- no play ends with the status of refused code

@@ -58,10 +58,10 @@ answer_by OutOfEntries = Err Limit
 answer_by StoppedInside = Err Limit
 answer_by Paused = Ok tt
 
--- so each end of a play is answered that isn't cut
+-- so each end of a play is answered
 abbrev pub EndsAreAnswered : Type 0
 EndsAreAnswered =
-    (e : PlayEnd) (c : Contents) (t : List ℕ) (r : Result Finished Status) (c' : Contents) (t' : List ℕ) → (IsCut r → ⊥) → Does (ends_by e) c t r c' t'
+    (e : PlayEnd) (c : Contents) (t : List ℕ) (r : Result Finished Status) (c' : Contents) (t' : List ℕ) → Does (ends_by e) c t r c' t'
     → (r ≡ answer_by e) × Stays c c' t t'
 
 -- The lines that a play of source tells were put, and then the text of its end, with the number of

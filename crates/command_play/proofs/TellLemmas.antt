@@ -7,6 +7,7 @@ use Rattle.area_back.specs.Back.{tree_back}
 use Rattle.saved_state.specs.declared.saved.Saved.{Saved}
 use Rattle.world_rules.specs.World.{World}
 use Rattle.machine_rules.specs.Machine.{Script}
+use Rattle.world_rules.specs.Plays as plays
 use Rattle.world_rules.specs.Plays.{PlayEnd, Played}
 use Rattle.module_player.specs.Answers.{EndsAs}
 use Rattle.module_player.specs.CodePlays.{code_end_text}
@@ -17,14 +18,15 @@ use Rattle.command_work.specs.declared.status.Status.{Status}
 use Rattle.command_work.specs.declared.status.Status.TheVariants as status
 use Rattle.command_work.specs.Work.{Does, CutsShort, Finished, Puts, Ends, then, puts}
 use Rattle.command_work.specs.Counts.{Counts, Tallies, Refusing}
-use Rattle.command_work.specs.Parts.{PutsWhole, cut_here, puts_does, then_ok, then_err}
+use Rattle.command_work.specs.Parts.{PutsWhole, cut_here, may_put, puts_does, then_ok, then_err}
 use Rattle.play_inputs.specs.Finals.{final_written}
+use Rattle.play_inputs.specs.Wanted.{final_cut}
 use Rattle.command_play.specs.Games.{ends_by, tells_end}
 
 -- ---- a limit
 
 pub limit_does : (text : List ℕ) (c : Contents) (t t' : List ℕ) → t' ≡ t ++ text → Does {A = Finished} (Puts text (Ends status.Limit)) c t (Err status.Limit) c t'
-limit_does text c t t' taken = inr (inl refl, (refl, taken))
+limit_does text c t t' taken = inr (refl, (refl, taken))
 
 pub limit_cut : (text : List ℕ) (e : Status) (c : Contents) (t t' : List ℕ) → CutsShort e × TookPrefix text t t'
     → Does {A = Finished} (Puts text (Ends status.Limit)) c t (Err e) c t'
@@ -69,6 +71,15 @@ module _ (to : List ℕ) (area : PlainArea) (text : List ℕ) (ending : PlayEnd)
 
 pub ruleset endings = (done_does, stopped_does, full_does)
 
+-- ---- its text is still to be made
+
+module _ (to : List ℕ) (area : PlainArea) (text : List ℕ) (c : Contents) (t : List ℕ) where
+  by_ending : (ending : PlayEnd) → Does (ends_by ending to area text) c t (Err status.Memory) c t
+  by_ending plays.Done = then_err (final_written to (tree_back area)) (λ done. puts text) status.Memory c c t t (final_cut to c t (tree_back area))
+  by_ending plays.OutOfEntries = cut_here {A = Finished} (Puts text (Ends status.Limit)) status.Memory c c t t tt tt refl refl
+  by_ending plays.StoppedInside = cut_here {A = Finished} (Puts text (Ends status.Limit)) status.Memory c c t t tt tt refl refl
+  by_ending plays.Paused = cut_here (puts text) status.Memory c c t t (may_put text) tt refl refl
+
 -- ---- in the last world
 
 module _ (to : List ℕ) (scripts : List Script) (p : Played Saved) where
@@ -84,6 +95,6 @@ module _ (to : List ℕ) (scripts : List Script) (p : Played Saved) where
       same_area e s = s ∙ ap (λ (v : World Saved). v.area) e.world
 
   pub end_cut : (c : Contents) (t : List ℕ) → Does (tells_end to scripts p) c t (Err status.Memory) c t
-  end_cut c t = cut_here (tells_end to scripts p) status.Memory c c t t tt refl refl
+  end_cut c t = by_ending to p.last.world.area (code_end_text scripts p) c t p.ending
 
 pub ruleset ends = (end_does, end_cut)

@@ -104,12 +104,12 @@ ending_is answer p w told ending entries count world = record {
 -- ---- the end
 
 pub ends_done : (ending : PlayEnd) (c : Contents) (t : List ℕ) → EndsAs Done ending → Does (ends_by ending) c t (Ok tt) c t
-ends_done ending c t is = subst (λ e. Does (ends_by e) c t (Ok tt) c t) (sym is) (inl refl, (refl, refl))
+ends_done ending c t is = subst (λ e. Does (ends_by e) c t (Ok tt) c t) (sym is) (refl, (refl, refl))
 
 pub ends_stopped : (ending : PlayEnd) (c : Contents) (t : List ℕ) → EndsAs InstrStop ending → Does (ends_by ending) c t (Err status.Limit) c t
-ends_stopped ending c t is = subst (λ e. Does (ends_by e) c t (Err status.Limit) c t) (sym is) (inl refl, (refl, refl))
+ends_stopped ending c t is = subst (λ e. Does (ends_by e) c t (Err status.Limit) c t) (sym is) (refl, (refl, refl))
 
 pub ends_full : (ending : PlayEnd) (c : Contents) (t : List ℕ) → EndsAs EntryStop ending → Does (ends_by ending) c t (Err status.Limit) c t
-ends_full ending c t is = subst (λ e. Does (ends_by e) c t (Err status.Limit) c t) (sym is) (inl refl, (refl, refl))
+ends_full ending c t is = subst (λ e. Does (ends_by e) c t (Err status.Limit) c t) (sym is) (refl, (refl, refl))
 
 pub ruleset endings = (ends_done, ends_stopped, ends_full)

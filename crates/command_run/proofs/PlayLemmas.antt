@@ -20,7 +20,8 @@ use Rattle.command_run.proofs.WorldLemmas.{first_fits, first_quiet, first_next}
 
 module _ (cell : CellLookup) (header : EngineTable) (name : List ℕ) (ops : List PlainOp) (c : Contents) where
   pub code_cut : (t : List ℕ) → Does (plays_code cell header name ops) c t (Err Memory) c t
-  code_cut t = cut_here (plays_code cell header name ops) Memory c c t t tt refl refl
+  unfolding plays_code
+  code_cut t = cut_here (plays_code cell header name ops) Memory c c t t tt tt refl refl
 
   pub code_does : (scripts : List Script) (w : World Saved) (r : Result Finished Status) (t t' : List ℕ) → scripts ≡ listed name ops → w ≡ first_world name
       → Does (tells scripts (played cell header scripts w)) c t r c t' → Does (plays_code cell header name ops) c t r c t'

@@ -18,7 +18,7 @@ use nwq_value::{Items, NoMemory, Table};
 use std::alloc::Global;
 
 /// Plays the bytes of a script's file, which isn't written.
-#[tactic(auto, using(command_work::specs::Parts::cut_here))]
+#[tactic(auto, using(crate::proofs::RunLemmas::file_wanted))]
 fn play_compiled<S: Sink>(
     alloc: Global,
     table: &Table,

@@ -1,5 +1,5 @@
 -- What comes of the bytes of a state does the work of finding it.
-use Rattle.std.proofs.Common.{ℕ, inl, List, Result, Ok, Err, refl}
+use Rattle.std.proofs.Common.{ℕ, List, Result, Ok, Err, refl}
 use Rattle.nwq_outside.specs.Outside.{Contents}
 use Rattle.state_format.specs.declared.parts.Parts.{Parts}
 use Rattle.state_format.specs.Place.{StateOf, StopsAt}
@@ -21,7 +21,7 @@ module _ (name bytes : List ℕ) (c : Contents) where
   goes fate r t t' is does = finds_one (λ (d : Contents) (f : StateFate). IsStateFate bytes f) (state_by name) fate c c t t' r is does
 
   pub state_does : (s : Parts) (t : List ℕ) → StateOf bytes s → IsAccepted s → Does (state_in name bytes) c t (Ok s) c t
-  state_does s t of accepted = goes (Whole s) (Ok s) t t (whole s of accepted) (inl refl, (refl, refl))
+  state_does s t of accepted = goes (Whole s) (Ok s) t t (whole s of accepted) (refl, (refl, refl))
 
   pub state_stops : (place : ℕ) (answer : Status) (t t' : List ℕ) → RefusesState bytes (fault.Place place) → Refuses (BadArea name (flaw.State place)) t answer t'
       → Does (state_in name bytes) c t (Err answer) c t'
@@ -34,6 +34,7 @@ module _ (name bytes : List ℕ) (c : Contents) where
       goes (Unfit rule) (Err answer) t t' (unfit is.0 rule is.1 is.2) (refused (BadArea name (flaw.Unfit rule)) answer c t t' h)
 
   pub state_cut : (t : List ℕ) → Does (state_in name bytes) c t (Err Memory) c t
-  state_cut t = cut_here (state_in name bytes) Memory c c t t tt refl refl
+  unfolding state_in
+  state_cut t = cut_here (state_in name bytes) Memory c c t t tt tt refl refl
 
 pub ruleset fates = (state_does, state_stops, state_unfit, state_cut)

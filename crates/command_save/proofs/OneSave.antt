@@ -14,7 +14,7 @@ use Rattle.module_player.specs.CodePlays.{code_end_text}
 use Rattle.state_format.specs.declared.parts.Parts.{Parts}
 use Rattle.state_format.specs.Fields.{parts_bytes}
 use Rattle.command_work.specs.Work.{Work, then, by_size, bytes_of, file_named, puts, writes}
-use Rattle.command_work.specs.Outcomes.{IsSure, sure_then, sure_puts}
+use Rattle.command_work.specs.Outcomes.{IsSure, sure_then, sure_makes, sure_puts}
 use Rattle.command_sources.specs.Headers.{table_in, table_named, table_unless, table_of}
 use Rattle.command_sources.specs.Laws.{SureTables}
 use Rattle.command_files.specs.Trees.{tree_in, tree_named}
@@ -28,7 +28,7 @@ use Rattle.play_inputs.specs.ListingLaws.{SureListed}
 use Rattle.command_play.specs.Games.{ends_by, tells}
 use Rattle.command_save.specs.declared.inputs.HeaderFile.{HeaderFile}
 use Rattle.command_save.specs.declared.inputs.AreaFile.{AreaFile}
-use Rattle.command_save.specs.Inputs.{header_file, header_in, header_named, header_unless, header_of, area_file, area_in, area_named}
+use Rattle.command_save.specs.Inputs.{built_in, header_file, header_in, header_named, header_unless, header_of, area_file, area_in, area_named}
 use Rattle.command_save.specs.Saves.{saved_line, state_by as written_by, state_told, state_written, saves_at, saves_by, saves_plan, saves_area, saves_scripts, saves_under, saves}
 use Rattle.command_save.specs.Resumes.{StateFate, Whole, Stops, Unfit, state_by, state_in, state_named, Going, played_rest, resumes_from, resumes_state, resumes}
 use Rattle.command_save.specs.Laws.{SureSaves, SureResumes}
@@ -62,7 +62,7 @@ sure_text name text sure = sure_then (table_in name text) _ sure (λ table. tt)
 
 sure_word : (word : List ℕ) (dash : Bool) → IsSure (table_unless dash word) → IsSure (header_unless dash word)
 unfolding table_named header_named
-sure_word word true sure = tt
+sure_word word true sure = sure_makes built_in
 sure_word word false sure = sure_small word (header_in word) (λ text small. sure_text word text (small_sure word (table_in word) sure text small))
 
 pub sure_header : SureTables → (word : List ℕ) → IsSure (header_of word)

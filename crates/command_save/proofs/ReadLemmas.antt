@@ -20,8 +20,8 @@ use Rattle.play_save.specs.Rules.{IsHeaderOf}
 use Rattle.command_work.specs.declared.status.Status.{Status}
 use Rattle.command_work.specs.declared.cause.Cause.TheVariants as cause
 use Rattle.command_work.specs.Refusal.{Refusal, At, status_of}
-use Rattle.command_work.specs.Work.{Work, Gives, Refused, then, IsCut, Does, file_named}
-use Rattle.command_work.specs.Parts.{value_or, ok_not_err, then_ok}
+use Rattle.command_work.specs.Work.{Work, Gives, Refused, then, makes, IsCut, Does, file_named}
+use Rattle.command_work.specs.Parts.{value_or, ok_not_err, makes_does, then_ok}
 use Rattle.command_work.specs.Sequences.{Parts, EndsFirst, GoesOn, ends_first, goes_on, parts}
 use Rattle.command_work.specs.Reading.{IsRead, IsUnread}
 use Rattle.command_work.specs.Comes.{Came, gave, stopped, cut, file_comes}
@@ -51,8 +51,12 @@ pub record IsGiven {A : Type 0} (a b : A) (c c' : Contents) (t t' : List ℕ) : 
   pub taken : t' ≡ t
 
 pub given : {A : Type 0} (a b : A) (c c' : Contents) (t t' : List ℕ) → Does (Gives a) c t (Ok b) c' t' → IsGiven a b c c' t t'
-given a b c c' t t' (inl is, s) = record { value = ap (value_or a) is; contents = s.0; taken = s.1 }
-given a b c c' t t' (inr x, s) = absurd x
+given a b c c' t t' (is, s) = record { value = ap (value_or a) is; contents = s.0; taken = s.1 }
+
+pub made : {A : Type 0} (a b : A) (c c' : Contents) (t t' : List ℕ) → Does (makes a) c t (Ok b) c' t' → IsGiven a b c c' t t'
+made a b c c' t t' (inl x) = absurd x.0
+made a b c c' t t' (inr h) =
+    let is = given h.found b c c' t t' h.goes in record { value = is.value ∙ h.is; contents = is.contents; taken = is.taken }
 
 -- the file that was read is there
 pub was_read : (c c' : Contents) (t t' : List ℕ) (name bytes : List ℕ) → Does (file_named name) c t (Ok bytes) c' t' → IsRead c name bytes
@@ -114,8 +118,8 @@ file_found name h c c' t t' does =
 word_found : (word : List ℕ) (dash : Bool) (h : HeaderFile) (c c' : Contents) (t t' : List ℕ) → Does (header_unless dash word) c t (Ok h) c' t'
     → Does (table_unless dash word) c t (Ok h.table) c' t' × IsHeaderOf h.text h.table
 word_found word true h c c' t t' does =
-    let is = given built_in h c c' t t' does in
-    ((inl (ap (λ (x : HeaderFile). Ok x.table) is.value), (is.contents, is.taken)), subst (λ (x : HeaderFile). IsHeaderOf x.text x.table) (sym is.value) refl)
+    let is = made built_in h c c' t t' does in
+    (makes_does header_table h.table c c' t t' (ap (λ (x : HeaderFile). x.table) is.value) is.contents is.taken, subst (λ (x : HeaderFile). IsHeaderOf x.text x.table) (sym is.value) refl)
 word_found word false h c c' t t' does = file_found word h c c' t t' does
 
 pub header_found : (word : List ℕ) (h : HeaderFile) (c c' : Contents) (t t' : List ℕ) → Does (header_of word) c t (Ok h) c' t' → FoundHeader word h c c' t t'

@@ -136,8 +136,7 @@ both to answer put content c2 c3 t t2 u u3 r s a b = record {
 limit_ended : (to text : List ℕ) (c c' : Contents) (t t' : List ℕ) (r : Result Finished Status) → (IsCut r → ⊥) → Does {A = Finished} (Puts text (Ends Limit)) c t r c' t'
     → Ended to (Err Limit) text None t r c' t'
 limit_ended to text c c' t t' r whole (inl x) = absurd (whole x.0)
-limit_ended to text c c' t t' r whole (inr (inl is, s)) = record { is = is; taken = s.1; left = λ ok. let no : false ≡ true = ok in absurd cc }
-limit_ended to text c c' t t' r whole (inr (inr x, s)) = absurd (whole x)
+limit_ended to text c c' t t' r whole (inr (is, s)) = record { is = is; taken = s.1; left = λ ok. let no : false ≡ true = ok in absurd cc }
 
 refusal_ended : (to : List ℕ) (why : Refusal) (c c' : Contents) (t t' : List ℕ) (r : Result Finished Status) → (IsCut r → ⊥) → Does {A = Finished} (Refused why) c t r c' t'
     → Ended to (Err (status_of why)) (line_of why) None t r c' t'
@@ -149,8 +148,7 @@ write_ended : (to bytes text : List ℕ) (c c' : Contents) (t t' : List ℕ) (r 
 unfolding puts
 write_ended to bytes text c c' t t' r whole (inl x) = absurd (whole x.0)
 write_ended to bytes text c c' t t' r whole (inr (inl x)) = absurd (whole x.0)
-write_ended to bytes text c c' t t' r whole (inr (inr (inl is, s))) = record { is = is; taken = s.1; left = λ ok. held_here c c' to bytes s.0 }
-write_ended to bytes text c c' t t' r whole (inr (inr (inr x, s))) = absurd (whole x)
+write_ended to bytes text c c' t t' r whole (inr (inr (is, s))) = record { is = is; taken = s.1; left = λ ok. held_here c c' to bytes s.0 }
 
 module _ (to text : List ℕ) (c d c2 c3 : Contents) (t t2 u u3 : List ℕ) (r s : Result Finished Status) (whole : IsCut r → ⊥) (whole_too : IsCut s → ⊥) where
   large_alike : (why : Refusal) → Does {A = Finished} (Refused why) c t r c2 t2 → Does {A = Finished} (Refused why) d u s c3 u3 → EndAlike to c2 c3 t t2 u u3 r s
@@ -162,8 +160,7 @@ module _ (to text : List ℕ) (c d c2 c3 : Contents) (t t2 u u3 : List ℕ) (r s
   final_alike (Ok bytes) a b =
       both to (Ok tt) text (Some bytes) c2 c3 t t2 u u3 r s (write_ended to bytes text c c2 t t2 r whole a) (write_ended to bytes text d c3 u u3 s whole_too b)
   final_alike (Err (write_fault.Large size)) a b = large_alike (BadArea to (flaw.Large size)) a b
-  final_alike (Err write_fault.NoMemory) (inl is, p) b = absurd (whole (subst IsCut (sym is) tt))
-  final_alike (Err write_fault.NoMemory) (inr x, p) b = absurd (whole x)
+  final_alike (Err write_fault.NoMemory) (is, p) b = absurd (whole (subst IsCut (sym is) tt))
 
   limit_alike : Does {A = Finished} (Puts text (Ends Limit)) c t r c2 t2 → Does {A = Finished} (Puts text (Ends Limit)) d u s c3 u3 → EndAlike to c2 c3 t t2 u u3 r s
   limit_alike a b = both to (Err Limit) text None c2 c3 t t2 u u3 r s (limit_ended to text c c2 t t2 r whole a) (limit_ended to text d c3 u u3 s whole_too b)

@@ -112,6 +112,7 @@ module _ (cell : CellLookup) (to : List ℕ) (s : Parts) (o : Opened) (play : Is
       (subst (λ (p : Played Saved). Does (tells to (scripts_of o.scripts) p) c t r c' t') same_rest does)
 
 pub states_cut : (cell : CellLookup) (to : List ℕ) (s : Parts) (c : Contents) (t : List ℕ) → Does (resumes_state cell to s) c t (Err Memory) c t
-states_cut cell to s c t = cut_here (resumes_state cell to s) Memory c c t t tt refl refl
+unfolding resumes_state
+states_cut cell to s c t = cut_here (resumes_state cell to s) Memory c c t t tt tt refl refl
 
 pub ruleset states = (states_cut)

@@ -82,8 +82,7 @@ module _ (header : HeaderFile) (file : List ℕ) (plan : Plan) (scripts : List S
   was_saved plays.OutOfEntries p does = (λ e. absurd cc, saved_at p.last does)
   was_saved plays.Paused p does = (λ e. absurd cc, saved_at p.last does)
   was_saved plays.StoppedInside p (inl x) = absurd x.0
-  was_saved plays.StoppedInside p (inr (inl is, k)) = absurd (ok_not_err done _ is)
-  was_saved plays.StoppedInside p (inr (inr x, k)) = absurd x
+  was_saved plays.StoppedInside p (inr (is, k)) = absurd (ok_not_err done _ is)
 
 -- ---- what is resumed from it
 

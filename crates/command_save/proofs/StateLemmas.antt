@@ -77,7 +77,8 @@ module _ (header : HeaderFile) (file : List ℕ) (plan : Plan) (scripts : List S
   at_does s r c c' t t' is does = finds_one (λ (d : Contents) (x : Parts). IsStateAt header file plan scripts p x) (state_written name) s c c' t t' r is does
 
   pub at_cut : (c : Contents) (t : List ℕ) → Does (saves_at header file plan scripts name p) c t (Err status.Memory) c t
-  at_cut c t = cut_here (saves_at header file plan scripts name p) status.Memory c c t t tt refl refl
+  unfolding saves_at
+  at_cut c t = cut_here (saves_at header file plan scripts name p) status.Memory c c t t tt tt refl refl
 
 pub memory_refuses : Refusing status.Area status.Memory
 memory_refuses = inr tt
@@ -112,7 +113,7 @@ pub end_told : (scripts : List Script) (p : Played Saved) (text : List ℕ) (r :
 end_told scripts p text r c t t' is does = subst (λ (x : List ℕ). Does {A = Finished} (Puts x (Ends status.Limit)) c t r c t') is does
 
 pub end_cut : (text : List ℕ) (c : Contents) (t : List ℕ) → Does {A = Finished} (Puts text (Ends status.Limit)) c t (Err status.Memory) c t
-end_cut text c t = cut_here (Puts text (Ends status.Limit)) status.Memory c c t t tt refl refl
+end_cut text c t = cut_here (Puts text (Ends status.Limit)) status.Memory c c t t tt tt refl refl
 
 pub memory_limits : Refusing status.Limit status.Memory
 memory_limits = inr tt

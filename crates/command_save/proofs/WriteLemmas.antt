@@ -10,7 +10,7 @@ use Rattle.command_work.specs.declared.flaw.AreaFlaw.TheVariants as flaw
 use Rattle.command_work.specs.declared.status.Status.{Status}
 use Rattle.command_work.specs.declared.status.Status.TheVariants.{Area, Memory}
 use Rattle.command_work.specs.Refusal.{BadArea}
-use Rattle.command_work.specs.Work.{Does, CutsShort, Finished}
+use Rattle.command_work.specs.Work.{Does, CutsShort, MayBeCut, Finished, writes as write_work}
 use Rattle.command_work.specs.Counts.{Refusing}
 use Rattle.command_work.specs.Parts.{Refuses, cut_here, refused}
 use Rattle.command_save.specs.Saves.{state_by, state_told, state_written}
@@ -31,8 +31,16 @@ module _ (name : List ℕ) (s : Parts) where
       subst (λ (long : Bool). Does (state_by long name (parts_bytes s) s.taken) c t (Err answer) c t') (sym (lt-ltb file_limit (length (parts_bytes s)) is.0))
       (refused (BadArea name (flaw.Large (length (parts_bytes s)))) answer c t t' (subst (λ (n : ℕ). Refuses (BadArea name (flaw.Large n)) t answer t') is.1 h))
 
+  may_state : (long : Bool) (bytes : List ℕ) (entries : ℕ) → MayBeCut (state_by long name bytes entries)
+  unfolding state_told write_work
+  may_state true bytes entries = tt
+  may_state false bytes entries = tt
+
+  -- its bytes are still to be made
   pub state_cut : (c : Contents) (t : List ℕ) → Does (state_written name s) c t (Err Memory) c t
-  state_cut c t = cut_here (state_written name s) Memory c c t t tt refl refl
+  unfolding state_written
+  state_cut c t =
+      cut_here (state_written name s) Memory c c t t (may_state (nat_lt file_limit (length (parts_bytes s))) (parts_bytes s) s.taken) tt refl refl
 
 pub cut_refuses : (status : Status) → CutsShort status → Refusing Area status
 cut_refuses status cut = inr cut

@@ -4,7 +4,7 @@ use Rattle.std.specs.Prelude.{ℕ, Bool, true, false, List, codes, bytes_eq, Non
 use Rattle.nwq_value.specs.Engine.{EngineTable}
 use Rattle.nwq_value.specs.HeaderTable.{header_table}
 use Rattle.area_rules.specs.Area.{PlainArea}
-use Rattle.command_work.specs.Work.{Work, Gives, then, file_named}
+use Rattle.command_work.specs.Work.{Work, Gives, then, makes, file_named}
 use Rattle.command_sources.specs.Headers.{table_in}
 use Rattle.play_inputs.specs.Areas.{area_of_bytes}
 use Rattle.command_save.specs.declared.inputs.HeaderFile.{HeaderFile}
@@ -26,7 +26,7 @@ unfoldable pub header_named : List ℕ → Work HeaderFile
 header_named name = then (file_named name) (header_in name)
 
 abbrev pub header_unless : Bool → List ℕ → Work HeaderFile
-header_unless true name = Gives built_in
+header_unless true name = makes built_in
 header_unless false name = header_named name
 
 -- the header that a word names: `-` is the built-in one, every other word a file

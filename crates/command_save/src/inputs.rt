@@ -79,7 +79,7 @@ fn header_of_file<F: Files, S: Sink>(
 }
 
 /// The header that a word names: `-` is the built-in one, every other word a file.
-#[tactic(auto, using(command_work::specs::Parts::cut_here), unfolding(crate::specs::Inputs::header_of))]
+#[tactic(auto, using(crate::proofs::StepLemmas::built), unfolding(crate::specs::Inputs::header_of))]
 pub(crate) fn read_header<F: Files, S: Sink>(
     alloc: Global,
     word: &str,

@@ -1,5 +1,5 @@
 -- What comes of a header's text does the work of its table.
-use Rattle.std.proofs.Common.{ℕ, inl, List, Result, Ok, Err, refl}
+use Rattle.std.proofs.Common.{ℕ, List, Result, Ok, Err, refl}
 use Rattle.nwq_value.specs.Engine.{EngineTable}
 use Rattle.nwq_text.specs.Line.{line_number}
 use Rattle.nwq_outside.specs.Outside.{Contents}
@@ -11,7 +11,7 @@ use Rattle.command_work.specs.declared.status.Status.{Status}
 use Rattle.command_work.specs.declared.status.Status.TheVariants.{Memory}
 use Rattle.command_work.specs.Refusal.{At}
 use Rattle.command_work.specs.Work.{Does}
-use Rattle.command_work.specs.Parts.{Refuses, cut_here, finds_one, refused}
+use Rattle.command_work.specs.Parts.{Refuses, cut_here, finds_one, makes_does, refused}
 use Rattle.command_sources.specs.Headers.{HeaderFate, Whole, Faulty, IsHeaderFate, whole, bad, header, twice, many, table_by, table_in}
 
 module _ (name bytes : List ℕ) (c : Contents) where
@@ -21,7 +21,7 @@ module _ (name bytes : List ℕ) (c : Contents) where
   goes fate r t t' is does = finds_one (λ (d : Contents) (f : HeaderFate). IsHeaderFate bytes f) (table_by name bytes) fate c c t t' r is does
 
   pub table_does : (table : EngineTable) (t : List ℕ) → HasTable bytes table → Does (table_in name bytes) c t (Ok table) c t
-  table_does table t has = goes (Whole table) (Ok table) t t (whole table has) (inl refl, (refl, refl))
+  table_does table t has = goes (Whole table) (Ok table) t t (whole table has) (refl, (refl, refl))
 
   module _ (place : ℕ) (answer : Status) (t t' : List ℕ) where
     faulty : (why : Cause) → IsHeaderFate bytes (Faulty why place) → Refuses (At name (line_number bytes place) place why) t answer t'
@@ -45,6 +45,10 @@ module _ (name bytes : List ℕ) (c : Contents) where
     many_does is h = faulty cause.Many (many place is) h
 
   pub cut_does : (t : List ℕ) → Does (table_in name bytes) c t (Err Memory) c t
-  cut_does t = cut_here (table_in name bytes) Memory c c t t tt refl refl
+  unfolding table_in
+  cut_does t = cut_here (table_in name bytes) Memory c c t t tt tt refl refl
+
+-- the built-in header
+pub ruleset built = (cut_here, makes_does)
 
 pub ruleset fates = (bad_does, header_does, twice_does, many_does, cut_does)

@@ -1,11 +1,12 @@
 -- One thing comes of a header.
 use Rattle.std.proofs.Common.{◌≡◌, ◌≢◌, ℕ, Bool, true, false, List, codes, bytes_eq, ap}
 use Rattle.nwq_value.specs.Engine.{EngineTable}
+use Rattle.nwq_value.specs.HeaderTable.{header_table}
 use Rattle.engine_table.specs.declared.fault.HeaderFault.{HeaderFault}
 use Rattle.engine_table.specs.declared.fault.HeaderFault.TheVariants as fault
 use Rattle.engine_table.specs.Headers.{HasTable, IsRefused, OneHeader}
 use Rattle.command_work.specs.declared.cause.Cause.TheVariants as cause
-use Rattle.command_work.specs.Outcomes.{IsSure, sure_then, sure_file}
+use Rattle.command_work.specs.Outcomes.{IsSure, sure_then, sure_file, sure_makes}
 use Rattle.command_work.specs.Work.{file_named}
 use Rattle.command_sources.specs.Headers.{HeaderFate, Whole, Faulty, IsHeaderFate, whole, bad, header, twice, many, table_by, table_in, table_named, table_unless, table_of}
 use Rattle.command_sources.specs.Laws.{SureTables}
@@ -62,7 +63,7 @@ module _ (one : OneHeader) where
   sure_named name = sure_then (file_named name) (table_in name) (sure_file name) (sure_in name)
 
   sure_unless : (built_in : Bool) (name : List ℕ) → IsSure (table_unless built_in name)
-  sure_unless true name = tt
+  sure_unless true name = sure_makes header_table
   sure_unless false name = sure_named name
 
   pub sure_tables : SureTables

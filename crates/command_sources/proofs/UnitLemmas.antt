@@ -1,5 +1,5 @@
 -- What comes of a script does the work of its unit.
-use Rattle.std.proofs.Common.{ℕ, ◌<◌, inl, inr, List, [], ◌∷◌, length, arith, None, Result, Ok, Err, refl}
+use Rattle.std.proofs.Common.{ℕ, ◌<◌, inr, List, [], ◌∷◌, length, arith, None, Result, Ok, Err, refl}
 use Rattle.std.specs.FinMap as fin_map
 use Rattle.nwq_outside.specs.Outside.{Contents}
 use Rattle.nss_include.specs.declared.fault.GatherFault.TheVariants as fault
@@ -31,11 +31,12 @@ module _ (c : Contents) (name : List ℕ) where
   goes fate r t t' is does = finds_one (λ (d : Contents) (f : UnitFate). IsUnitFate (fin_map.get d) name f) unit_by fate c c t t' r is does
 
   pub cut_does : (cut : Status) (t : List ℕ) → CutsShort cut → Does (unit_of name) c t (Err cut) c t
-  cut_does cut t cuts = cut_here (unit_of name) cut c c t t cuts refl refl
+  unfolding unit_of
+  cut_does cut t cuts = cut_here (unit_of name) cut c c t t tt cuts refl refl
 
   pub whole_does : (script : PlainScript) (t : List ℕ) → IsUnit (fin_map.get c) name script.tokens script.files None
       → HasTree (record { files = script.files; tokens = script.tokens }) script.tree → Does (unit_of name) c t (Ok script) c t
-  whole_does script t is has = goes (Whole script) (Ok script) t t (whole script is has.nest has.parses) (inl refl, (refl, refl))
+  whole_does script t is has = goes (Whole script) (Ok script) t t (whole script is has.nest has.parses) (refl, (refl, refl))
 
   module _ (answer : Status) (t t' : List ℕ) where
     pub lacks_does : (file : List ℕ) → Gathers (fin_map.get c) name (Err (fault.Missing file)) → Refuses (Absent file) t answer t'

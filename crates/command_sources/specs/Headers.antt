@@ -9,7 +9,7 @@ use Rattle.engine_table.specs.Headers.{HasTable, IsRefused}
 use Rattle.command_work.specs.declared.cause.Cause.{Cause}
 use Rattle.command_work.specs.declared.cause.Cause.TheVariants as cause
 use Rattle.command_work.specs.Refusal.{At}
-use Rattle.command_work.specs.Work.{Work, Gives, Refused, Finds, then, file_named}
+use Rattle.command_work.specs.Work.{Work, Gives, Refused, Finds, then, makes, file_named}
 
 -- what comes of a header's text: its table, or why it is refused and at which byte
 pub data HeaderFate : Type 0 where
@@ -35,7 +35,7 @@ unfoldable pub table_named : List ℕ → Work EngineTable
 table_named name = then (file_named name) (table_in name)
 
 abbrev pub table_unless : Bool → List ℕ → Work EngineTable
-table_unless true name = Gives header_table
+table_unless true name = makes header_table
 table_unless false name = table_named name
 
 -- the table of the header that a word names: `-` is the built-in one, every other word a file

@@ -92,7 +92,7 @@ pub fn is_dash(word: &str) -> bool
 }
 
 /// The table of the header that a word names: `-` is the built-in one, every other word a file.
-#[tactic(auto, using(command_work::specs::Parts::cut_here), unfolding(crate::specs::Headers::table_of))]
+#[tactic(auto, using(crate::proofs::HeaderLemmas::built), unfolding(crate::specs::Headers::table_of))]
 pub fn read_table<F: Files, S: Sink>(
     alloc: Global,
     header: &str,

@@ -105,7 +105,7 @@ module _ (list bytes : List ℕ) (c : Contents) where
   goes fate r t t' is does = finds_one (λ (d : Contents) (f : ListFate). IsListFate bytes f) (names_by list) fate c c t t' r is does
 
   pub list_does : (names : List (List ℕ)) (t : List ℕ) → HasNames bytes names → Does (names_in list bytes) c t (Ok names) c t
-  list_does names t has = goes (Whole names) (Ok names) t t (whole names has) (inl refl, (refl, refl))
+  list_does names t has = goes (Whole names) (Ok names) t t (whole names has) (refl, (refl, refl))
 
   pub list_faulty : (number : ℕ) (answer : Status) (t t' : List ℕ) → IsFaulty bytes (fault.Line number)
       → Refuses (BadArea list (flaw.Line number)) t answer t' → Does (names_in list bytes) c t (Err answer) c t'
@@ -113,6 +113,7 @@ module _ (list bytes : List ℕ) (c : Contents) where
       goes (Faulty number) (Err answer) t t' (faulty number is) (refused (BadArea list (flaw.Line number)) answer c t t' h)
 
   pub list_cut : (t : List ℕ) → Does (names_in list bytes) c t (Err Memory) c t
-  list_cut t = cut_here (names_in list bytes) Memory c c t t tt refl refl
+  unfolding names_in
+  list_cut t = cut_here (names_in list bytes) Memory c c t t tt tt refl refl
 
 pub ruleset lists = (list_does, list_faulty, list_cut)

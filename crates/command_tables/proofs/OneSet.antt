@@ -2,8 +2,8 @@
 use Rattle.std.proofs.Common.{◌≡◌, ℕ, suc, ◌+◌, ◌⊎◌, inl, inr, false, true≢false, List, [], ◌∷◌, ◌++◌, length, None, Some, refl, sym, ap, ◌∙◌}
 use Rattle.table_2da.specs.Grammar.{OneTable}
 use Rattle.table_2da.specs.declared.tables.Named.{Named}
-use Rattle.command_work.specs.Work.{Gives, file_named}
-use Rattle.command_work.specs.Outcomes.{IsSure, sure_then, sure_file}
+use Rattle.command_work.specs.Work.{makes, file_named}
+use Rattle.command_work.specs.Outcomes.{IsSure, sure_then, sure_file, sure_makes}
 use Rattle.command_tables.specs.Lists as list
 use Rattle.command_tables.specs.Lists.{may_follow, AreNames, HasNames, HasBadLine, ListFate, IsListFate, names_by, names_in, names_listed}
 use Rattle.command_tables.specs.Tables as table
@@ -101,7 +101,8 @@ module _ (one : OneTable) where
 
   sure_more : (tables : List Named) (name : List ℕ) → IsSure (one_more tables name)
   unfolding one_more
-  sure_more tables name = sure_then (table_of (table_file name)) (λ t. Gives (with_table tables name t)) (sure_table (table_file name)) (λ t. tt)
+  sure_more tables name = sure_then (table_of (table_file name)) (λ t. makes (with_table tables name t)) (sure_table (table_file name))
+      (λ t. sure_makes (with_table tables name t))
 
   sure_all : (names : List (List ℕ)) (tables : List Named) → IsSure (all_behind tables names)
   unfolding all_behind

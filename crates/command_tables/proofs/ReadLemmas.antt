@@ -1,13 +1,14 @@
 -- Tables that are read one after another.
-use Rattle.std.proofs.Common.{◌≡◌, ℕ, Bool, IsTrue, inl, List, [], ◌∷◌, ◌++◌, map, length, Result, Ok, Err, refl, sym, ap, subst, ◌∙◌, arith, append_assoc}
+use Rattle.std.proofs.Common.{◌≡◌, ℕ, Bool, IsTrue, List, [], ◌∷◌, ◌++◌, map, length, Result, Ok, Err, refl, sym, ap, subst, ◌∙◌, arith, append_assoc}
 use Rattle.std.proofs.lemmas.List.{map-append}
 use Rattle.nwq_outside.specs.Outside.{Contents}
 use Rattle.table_2da.specs.declared.tables.Named.{Named}
 use Rattle.table_2da.specs.Table.{PlainTable}
 use Rattle.command_work.specs.declared.status.Status.{Status}
-use Rattle.command_work.specs.Work.{Does, then}
-use Rattle.command_work.specs.Parts.{then_ok, then_err, cut_here}
-use Rattle.command_tables.specs.Tables.{with_table, one_more, all_behind}
+use Rattle.command_work.specs.declared.status.Status.TheVariants.{Memory}
+use Rattle.command_work.specs.Work.{Does, then, file_named}
+use Rattle.command_work.specs.Parts.{then_ok, then_err, cut_here, makes_does}
+use Rattle.command_tables.specs.Tables.{with_table, table_of, one_more, all_behind}
 
 -- ---- one table more
 
@@ -15,7 +16,12 @@ pub names_more : (tables more : List Named) (name : List ℕ) (table : PlainTabl
     → map (λ t. t.name) more ≡ map (λ t. t.name) tables ++ name ∷ []
 names_more tables more name table e = ap (map (λ t. t.name)) e ∙ map-append (λ t. t.name) tables (record { name = name; table = table } ∷ [])
 
-pub ruleset more_tables = (names_more, cut_here)
+-- the name of the file is still to be made
+pub table_wanted : (file : List ℕ) (c : Contents) (t : List ℕ) → Does (table_of file) c t (Err Memory) c t
+unfolding table_of file_named
+table_wanted file c t = cut_here (table_of file) Memory c c t t tt tt refl refl
+
+pub ruleset more_tables = (names_more, cut_here, makes_does)
 
 -- ---- all tables
 
@@ -65,5 +71,5 @@ module _ (files_tell sink_tells : Bool) (c0 : Contents) (t0 : List ℕ) where
       → SoFar files_tell sink_tells names rest tables c0 c t0 t → length rest ≡ 0
       → IsTrue files_tell → IsTrue sink_tells → Does (all_behind [] names) c0 t0 (Ok tables) c t
   unfolding all_behind
-  tables_done names [] tables c t so e told also = so.by told also (Ok tables) c t (inl refl, (refl, refl))
+  tables_done names [] tables c t so e told also = so.by told also (Ok tables) c t (refl, (refl, refl))
   tables_done names (name ∷ rest) tables c t so e told also = absurd (omega arith)

@@ -1,5 +1,5 @@
 -- What comes of the bytes of a table's file does its work.
-use Rattle.std.proofs.Common.{ℕ, inl, List, Result, Ok, Err, refl}
+use Rattle.std.proofs.Common.{ℕ, List, Result, Ok, Err, refl}
 use Rattle.nwq_outside.specs.Outside.{Contents}
 use Rattle.table_2da.specs.declared.fault.TableFault.TheVariants as fault
 use Rattle.table_2da.specs.Grammar.{HasTable, IsFaulty}
@@ -19,7 +19,7 @@ module _ (file bytes : List ℕ) (c : Contents) where
   goes fate r t t' is does = finds_one (λ (d : Contents) (f : TableFate). IsTableFate bytes f) (table_by file) fate c c t t' r is does
 
   pub table_does : (table : PlainTable) (t : List ℕ) → HasTable bytes table → Does (table_in file bytes) c t (Ok table) c t
-  table_does table t has = goes (Whole table) (Ok table) t t (whole table has) (inl refl, (refl, refl))
+  table_does table t has = goes (Whole table) (Ok table) t t (whole table has) (refl, (refl, refl))
 
   pub table_faulty : (line : ℕ) (answer : Status) (t t' : List ℕ) → IsFaulty bytes (fault.Line line) → Refuses (BadArea file (flaw.Line line)) t answer t'
       → Does (table_in file bytes) c t (Err answer) c t'
@@ -27,6 +27,7 @@ module _ (file bytes : List ℕ) (c : Contents) where
       goes (Faulty line) (Err answer) t t' (faulty line is) (refused (BadArea file (flaw.Line line)) answer c t t' h)
 
   pub table_cut : (t : List ℕ) → Does (table_in file bytes) c t (Err Memory) c t
-  table_cut t = cut_here (table_in file bytes) Memory c c t t tt refl refl
+  unfolding table_in
+  table_cut t = cut_here (table_in file bytes) Memory c c t t tt tt refl refl
 
 pub ruleset tables = (table_does, table_faulty, table_cut)

@@ -7,7 +7,7 @@ use Rattle.table_2da.specs.Grammar.{HasTable, IsFaulty}
 use Rattle.table_2da.specs.Table.{PlainTable}
 use Rattle.command_work.specs.declared.flaw.AreaFlaw.TheVariants as flaw
 use Rattle.command_work.specs.Refusal.{BadArea}
-use Rattle.command_work.specs.Work.{Work, Gives, Refused, Finds, then, file_named}
+use Rattle.command_work.specs.Work.{Work, Gives, Refused, Finds, then, makes, file_named}
 use Rattle.command_tables.specs.Lists.{names_listed}
 
 -- ---- one table
@@ -44,7 +44,7 @@ with_table tables name table = tables ++ record { name = name; table = table } �
 
 -- the table of this name is read and put behind these
 unfoldable pub one_more : List Named → List ℕ → Work (List Named)
-one_more tables name = then (table_of (table_file name)) (λ table. Gives (with_table tables name table))
+one_more tables name = then (table_of (table_file name)) (λ table. makes (with_table tables name table))
 
 -- the tables of these names are read in order and put behind these
 unfoldable pub all_behind : List Named → List (List ℕ) → Work (List Named)

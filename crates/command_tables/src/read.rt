@@ -19,7 +19,7 @@ use std::alloc::Global;
 use table_2da::{Table2, Tables};
 
 /// The table of this name.
-#[tactic(auto, using(command_work::specs::Parts::cut_here))]
+#[tactic(auto, using(crate::proofs::ReadLemmas::table_wanted))]
 fn read_one<F: Files, S: Sink>(
     alloc: Global,
     name: &[u8],

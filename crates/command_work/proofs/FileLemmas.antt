@@ -6,14 +6,14 @@ use Rattle.nwq_outside.specs.Outside.{Contents, KeepsOthers}
 use Rattle.command_work.specs.declared.status.Status.{Status}
 use Rattle.command_work.specs.Refusal.{Absent, TooLong}
 use Rattle.command_work.specs.Work.{CutsShort, Does, file_named, writes}
-use Rattle.command_work.specs.Parts.{Refuses, cut_here}
+use Rattle.command_work.specs.Parts.{Refuses, cut_here, may_read}
 use Rattle.command_work.specs.Reading.{IsUnread, absent, long}
 use Rattle.command_work.specs.Comes.{read_does, unread_refuses}
 
 module _ (name : List ℕ) where
   pub wrote : (bytes : List ℕ) (c c' : Contents) (t : List ℕ) → c' ≡ map.insert c name bytes → Does (writes name bytes) c t (Ok tt) c' t
   unfolding writes
-  wrote bytes c c' t left = inr (inl refl, (left, refl))
+  wrote bytes c c' t left = inr (refl, (left, refl))
 
   pub write_cut : (bytes : List ℕ) (e : Status) (c c' : Contents) (t : List ℕ) → CutsShort e → KeepsOthers name c c'
       → Does (writes name bytes) c t (Err e) c' t
@@ -41,4 +41,7 @@ module _ (name : List ℕ) where
       subst (λ d. Does (file_named name) c t (Err answer) d t') (sym same)
       (unread_refuses c t name (TooLong name) answer t' (long_held c (map.get c name) refl more) h)
 
-pub ruleset reads = (read_bytes, read_absent, read_long, cut_here)
+  pub read_cut : (e : Status) (c c' : Contents) (t t' : List ℕ) → CutsShort e → c' ≡ c → t' ≡ t → Does (file_named name) c t (Err e) c' t'
+  read_cut e c c' t t' cut p q = cut_here (file_named name) e c c' t t' (may_read name) cut p q
+
+pub ruleset reads = (read_bytes, read_absent, read_long, read_cut)

@@ -10,7 +10,7 @@ use Rattle.nwq_value.specs.Limits.{file_limit}
 use Rattle.nwq_outside.specs.Outside.{Contents}
 use Rattle.command_work.specs.declared.status.Status.{Status}
 use Rattle.command_work.specs.Refusal.{Refusal, NoForm, Absent, TooLong, At, BadCode, BadArea, line_of, status_of}
-use Rattle.command_work.specs.Work.{Work, Gives, Refused, then, CutsShort, IsCut, Does, by_size, bytes_of, file_named}
+use Rattle.command_work.specs.Work.{Work, Gives, Refused, then, CutsShort, IsCut, Does, by_size, bytes_of, file_named, makes}
 use Rattle.command_work.specs.Parts.{Refuses, value_or, status_or, ok_not_err, err_not_ok, refused}
 use Rattle.command_work.specs.Sequences.{Parts, ends_first, goes_on, parts}
 use Rattle.command_work.specs.Reading.{IsRead, IsUnread, absent, long}
@@ -33,15 +33,19 @@ refusal_not_cut (BadCode name flaw) x = x
 refusal_not_cut (BadArea name flaw) x = x
 
 pub gives_does : {A : Type 0} (a : A) (c : Contents) (t : List ℕ) → Does (Gives a) c t (Ok a) c t
-gives_does a c t = (inl refl, (refl, refl))
+gives_does a c t = (refl, (refl, refl))
 
 pub refused_does : {A : Type 0} (why : Refusal) (c : Contents) (t : List ℕ) → Does {A = A} (Refused why) c t (Err (status_of why)) c (t ++ line_of why)
 refused_does why c t = (inl (refl, refl), refl)
 
 module _ {A : Type 0} (Has : A → Type 0) (Lacks : Refusal → Type 0) (c : Contents) (t : List ℕ) (r : Result A Status) (c' : Contents) (t' : List ℕ) where
   pub given_comes : (a : A) → Has a → Does (Gives a) c t r c' t' → Came Has Lacks c t r c' t'
-  given_comes a has (inl is, s) = gave a has is s.0 s.1
-  given_comes a has (inr x, s) = cut x
+  given_comes a has (is, s) = gave a has is s.0 s.1
+
+  pub made_comes : (a : A) → Has a → Does (makes a) c t r c' t' → Came Has Lacks c t r c' t'
+  made_comes a has (inl x) = cut x.0
+  made_comes a has (inr h) =
+      given_comes a has (subst (λ b. Does (Gives b) c t r c' t') h.is h.goes)
 
   pub refusal_comes : (why : Refusal) → Lacks why → Does {A = A} (Refused why) c t r c' t' → Came Has Lacks c t r c' t'
   refusal_comes why lacks (inl i, s) = stopped why lacks i.0 s i.1

@@ -4,12 +4,12 @@
 use mathlib.Core.Path.{sym, ap, ◌∙◌, subst}
 use mathlib.Core.Logic.{inl, inr}
 use mathlib.Core.List.{append_assoc, append-nil}
-use Rattle.std.specs.Prelude.{◌≡◌, ℕ, ◌⊎◌, Bool, true, false, List, [], ◌++◌, Result, Ok, Err, Option, Some, None}
+use Rattle.std.specs.Prelude.{◌≡◌, ℕ, Bool, true, false, List, [], ◌++◌, Result, Ok, Err, Option, Some, None}
 use Rattle.std.specs.FinMap as map
 use Rattle.nwq_outside.specs.Outside.{Contents, TookPrefix}
 use Rattle.command_work.specs.declared.status.Status.{Status}
 use Rattle.command_work.specs.Refusal.{line_of}
-use Rattle.command_work.specs.Work.{Work, Gives, Refused, Ends, Writes, Puts, Finds, then, IsCut, Does, by_size, bytes_of, file_named, puts, writes}
+use Rattle.command_work.specs.Work.{Work, Gives, Refused, Ends, Writes, Puts, Finds, then, IsCut, Does, by_size, bytes_of, file_named, makes, puts, writes}
 
 -- the work has one outcome: at each find at most one value is found
 abbrev pub IsSure : {A : Type 0} → Work A → Type 0
@@ -32,22 +32,19 @@ IsPrefix xs ys = (rest : List ℕ) × (ys ≡ xs ++ rest)
 
 -- ---- one outcome
 
-stays_agree : {A : Type 0} (end : Result A Status) (r s : Result A Status) (c d e : Contents) (t u v : List ℕ) → (IsCut r → ⊥) → (IsCut s → ⊥)
-    → ((r ≡ end) ⊎ IsCut r) × ((d ≡ c) × (u ≡ t)) → ((s ≡ end) ⊎ IsCut s) × ((e ≡ c) × (v ≡ t)) → Agrees r s d e u v
-stays_agree end r s c d e t u v whole whole_too (inr cut, p) (q, k) = absurd (whole cut)
-stays_agree end r s c d e t u v whole whole_too (inl i, p) (inr cut, k) = absurd (whole_too cut)
-stays_agree end r s c d e t u v whole whole_too (inl i, p) (inl j, k) =
-    record { answer = i ∙ sym j; contents = p.0 ∙ sym k.0; taken = p.1 ∙ sym k.1 }
+stays_agree : {A : Type 0} (end : Result A Status) (r s : Result A Status) (c d e : Contents) (t u v : List ℕ)
+    → (r ≡ end) × ((d ≡ c) × (u ≡ t)) → (s ≡ end) × ((e ≡ c) × (v ≡ t)) → Agrees r s d e u v
+stays_agree end r s c d e t u v (i, p) (j, k) = record { answer = i ∙ sym j; contents = p.0 ∙ sym k.0; taken = p.1 ∙ sym k.1 }
 
 -- two works that were not cut agree
 pub agree : {A : Type 0} (w : Work A) → IsSure w → (r s : Result A Status) (c d e : Contents) (t u v : List ℕ) → (IsCut r → ⊥) → (IsCut s → ⊥)
     → Does w c t r d u → Does w c t s e v → Agrees r s d e u v
-agree (Gives a) sure r s c d e t u v whole whole_too x y = stays_agree (Ok a) r s c d e t u v whole whole_too x y
+agree (Gives a) sure r s c d e t u v whole whole_too x y = stays_agree (Ok a) r s c d e t u v x y
 agree (Refused refusal) sure r s c d e t u v whole whole_too (inr cut, p) y = absurd (whole cut.0)
 agree (Refused refusal) sure r s c d e t u v whole whole_too (inl i, p) (inr cut, k) = absurd (whole_too cut.0)
 agree (Refused refusal) sure r s c d e t u v whole whole_too (inl i, p) (inl j, k) =
     record { answer = i.0 ∙ sym j.0; contents = p ∙ sym k; taken = i.1 ∙ sym j.1 }
-agree (Ends status) sure r s c d e t u v whole whole_too x y = stays_agree (Err status) r s c d e t u v whole whole_too x y
+agree (Ends status) sure r s c d e t u v whole whole_too x y = stays_agree (Err status) r s c d e t u v x y
 agree (Writes name bytes rest) sure r s c d e t u v whole whole_too (inl cut) y = absurd (whole cut.0)
 agree (Writes name bytes rest) sure r s c d e t u v whole whole_too (inr x) (inl cut) = absurd (whole_too cut.0)
 agree (Writes name bytes rest) sure r s c d e t u v whole whole_too (inr x) (inr y) =
@@ -142,6 +139,9 @@ sure_bytes name (Some bytes) = sure_size name bytes _
 pub sure_file : (name : List ℕ) → IsSure (file_named name)
 unfolding file_named
 sure_file name = (λ c a b p q. p ∙ sym q, sure_bytes name)
+
+pub sure_makes : {A : Type 0} (a : A) → IsSure (makes a)
+sure_makes a = (λ c b d p q. p ∙ sym q, λ b. tt)
 
 pub sure_puts : (text : List ℕ) → IsSure (puts text)
 unfolding puts

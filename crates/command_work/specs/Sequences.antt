@@ -7,8 +7,8 @@ use Rattle.std.specs.FinMap as map
 use Rattle.nwq_outside.specs.Outside.{Contents}
 use Rattle.command_work.specs.declared.status.Status.{Status}
 use Rattle.command_work.specs.Refusal.{status_of}
-use Rattle.command_work.specs.Work.{Work, Gives, Refused, Ends, Writes, Puts, Finds, then, IsCut, Does}
-use Rattle.command_work.specs.Parts.{value_or, ok_not_err}
+use Rattle.command_work.specs.Work.{Work, Gives, Refused, Ends, Writes, Puts, Finds, then, CutsShort, IsCut, Does, makes}
+use Rattle.command_work.specs.Parts.{value_or, ok_not_err, then_ok}
 use Rattle.command_work.specs.Outcomes.{IsSure, agree}
 
 -- the first part ended, or it gave a value and the second part was done
@@ -29,13 +29,11 @@ pub data Parts {A B : Type 0} (w : Work A) (f : A → Work B) (c : Contents) (t 
   goes_on : GoesOn w f c t r c' t' → Parts w f c t r c' t'
 
 pub parts : {A B : Type 0} (w : Work A) (f : A → Work B) (c c' : Contents) (t t' : List ℕ) (r : Result B Status) → Does (then w f) c t r c' t' → Parts w f c t r c' t'
-parts (Gives a) f c c' t t' r does = goes_on (record { value = a; between = c; taken = t; first = (inl refl, (refl, refl)); second = does })
+parts (Gives a) f c c' t t' r does = goes_on (record { value = a; between = c; taken = t; first = (refl, (refl, refl)); second = does })
 parts (Refused refusal) f c c' t t' r (inl i, s) = ends_first (record { status = status_of refusal; is = i.0; does = (inl (refl, i.1), s) })
 parts (Refused refusal) f c c' t t' (Ok b) (inr cut, s) = absurd cut.0
 parts (Refused refusal) f c c' t t' (Err e) (inr cut, s) = ends_first (record { status = e; is = refl; does = (inr cut, s) })
-parts (Ends status) f c c' t t' r (inl i, s) = ends_first (record { status = status; is = i; does = (inl refl, s) })
-parts (Ends status) f c c' t t' (Ok b) (inr cut, s) = absurd cut
-parts (Ends status) f c c' t t' (Err e) (inr cut, s) = ends_first (record { status = e; is = refl; does = (inr cut, s) })
+parts (Ends status) f c c' t t' r (i, s) = ends_first (record { status = status; is = i; does = (refl, s) })
 parts (Writes name bytes rest) f c c' t t' (Ok b) (inl cut) = absurd cut.0
 parts (Writes name bytes rest) f c c' t t' (Err e) (inl cut) = ends_first (record { status = e; is = refl; does = inl cut })
 parts (Writes name bytes rest) f c c' t t' r (inr does) = written (parts rest f (map.insert c name bytes) c' t t' r does)
@@ -63,6 +61,22 @@ parts (Finds P next) f c c' t t' r (inr h) = found (parts (next h.found) f c c' 
       first = inr (record { found = h.found; is = h.is; goes = k.first });
       second = k.second;
     })
+
+-- ---- a part that ends with a value that has to be made may be cut there
+
+unmade_here : {A : Type 0} (a b : A) (e : Status) (c c' : Contents) (t t' : List ℕ) → CutsShort e → Does (makes a) c t (Ok b) c' t' → Does (makes a) c t (Err e) c' t'
+unmade_here a b e c c' t t' cut (inl x) = absurd x.0
+unmade_here a b e c c' t t' cut (inr h) = inl (cut, h.goes.1)
+
+pub unmade : {A B : Type 0} (w : Work A) (f : A → B) (b : B) (e : Status) (c c' : Contents) (t t' : List ℕ) → CutsShort e
+    → Does (then w (λ a. makes (f a))) c t (Ok b) c' t' → Does (then w (λ a. makes (f a))) c t (Err e) c' t'
+unmade w f b e c c' t t' cut does = by_parts (parts w (λ a. makes (f a)) c c' t t' (Ok b) does)
+  where
+    by_parts : Parts w (λ a. makes (f a)) c t (Ok b) c' t' → Does (then w (λ a. makes (f a))) c t (Err e) c' t'
+    by_parts (ends_first h) = absurd (ok_not_err b h.status h.is)
+    by_parts (goes_on h) =
+        then_ok w (λ a. makes (f a)) h.value c h.between c' t h.taken t' (Err e) h.first
+        (unmade_here (f h.value) b e h.between c' h.taken t' cut h.second)
 
 -- ---- what a first part gives is what it is known to give
 

@@ -27,7 +27,7 @@ then (Writes name bytes rest) f = Writes name bytes (then rest f)
 then (Puts text rest) f = Puts text (then rest f)
 then (Finds P next) f = Finds P (λ b. then (next b) f)
 
--- the two statuses that may come at any point: a call outside failed, or memory was wanted
+-- the two statuses that cut a work short: a call outside failed, or memory was wanted
 abbrev pub CutsShort : Status → Type 0
 CutsShort Fault = Unit {0}
 CutsShort Memory = Unit {0}
@@ -47,19 +47,29 @@ pub record Found {B : Type 0} (P : B → Type 0) (Goes : B → Type 0) : Type 0 
   pub is : P found
   pub goes : Goes found
 
--- From contents c and taken bytes t the work answers r and leaves c' and t'. Every work may be cut
--- as it begins.
+-- From contents c and taken bytes t the work answers r and leaves c' and t'. It may be cut where it
+-- still has something to find, to write or to put; where nothing is left to do, it ends as it says.
 abbrev pub Does : {A : Type 0} → Work A → Contents → List ℕ → Result A Status → Contents → List ℕ → Type 0
-Does (Gives a) c t r c' t' = ((r ≡ Ok a) ⊎ IsCut r) × Stays c c' t t'
+Does (Gives a) c t r c' t' = (r ≡ Ok a) × Stays c c' t t'
 Does (Refused refusal) c t r c' t' =
     (((r ≡ Err (status_of refusal)) × (t' ≡ t ++ line_of refusal)) ⊎ (IsCut r × TookPrefix (line_of refusal) t t')) × (c' ≡ c)
-Does (Ends status) c t r c' t' = ((r ≡ Err status) ⊎ IsCut r) × Stays c c' t t'
+Does (Ends status) c t r c' t' = (r ≡ Err status) × Stays c c' t t'
 Does (Writes name bytes rest) c t r c' t' =
     (IsCut r × KeepsOthers name c c' × (t' ≡ t)) ⊎ Does rest (map.insert c name bytes) t r c' t'
 Does (Puts text rest) c t r c' t' = (IsCut r × (c' ≡ c) × TookPrefix text t t') ⊎ Does rest c (t ++ text) r c' t'
 Does (Finds P next) c t r c' t' = (IsCut r × Stays c c' t t') ⊎ Found (P c) (λ b. Does (next b) c t r c' t')
 
+-- something is still to be found, written or put as the work begins, so it may be cut there
+abbrev pub MayBeCut : {A : Type 0} → Work A → Type 0
+MayBeCut (Gives a) = ⊥
+MayBeCut (Ends status) = ⊥
+MayBeCut work = Unit {0}
+
 -- ---- the parts that every command has
+
+-- A value that has to be made: memory may be wanted for it. Where it is made, it is found.
+abbrev pub makes : {A : Type 0} → A → Work A
+makes a = Finds (λ c made. made ≡ a) Gives
 
 -- a whole command gives nothing but that it is done
 abbrev pub Finished : Type 0

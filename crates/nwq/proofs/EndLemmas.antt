@@ -7,12 +7,13 @@ use Rattle.command_work.specs.declared.status.Status.TheVariants.{Done, Words, S
 use Rattle.hook_table.specs.declared.hook.Known.{Known}
 use Rattle.world_core.specs.Calls.{cells_of, tables_of}
 use Rattle.nwq_outside.specs.Outside.{Contents}
-use Rattle.command_work.specs.Work.{Does, Finished, ending}
+use Rattle.command_work.specs.Work.{Does, CutsShort, Finished, ending}
 use Rattle.command_work.specs.Counts.{StopsArea, Counts, Tallies, TalliesEnd}
-use Rattle.command_work.specs.Parts.{then_ok, then_err}
+use Rattle.command_work.specs.Parts.{cut_here, then_ok, then_err}
 use Rattle.command_tables.specs.Tables.{tables_given}
 use Rattle.table_2da.specs.Look.{cell_of}
 use Rattle.command_words.specs.Words.{Form, Run, Compile, Tree, Check, Disassemble, Assemble, Play, Generate, Save, Resume, NoForm, list_of}
+use Rattle.nwq_top.specs.Begins.{command_may, whole_may}
 use Rattle.nwq_top.specs.Command.{work_of, work_with, whole_work}
 use Rattle.nwq_top.specs.Endings.{ComesOf}
 
@@ -115,5 +116,14 @@ whole_ends form status c c' t t' stops read =
 
 pub refusal_tallies : (status : Status) (before now : Counts) → StopsArea status → TalliesEnd status before now → Tallies (ending status) before now
 refusal_tallies status before now stops tally = subst (λ r. Tallies r before now) (sym (refusal_ends status stops)) tally
+
+-- the hooks, or the words themselves, are still to be made
+pub command_cut : (form : Form) (tables : List Named) (e : Status) (c c' : Contents) (t t' : List ℕ) → CutsShort e → c' ≡ c → t' ≡ t
+    → Does (work_with form tables) c t (Err e) c' t'
+command_cut form tables e c c' t t' cut p q = cut_here (work_with form tables) e c c' t t' (command_may (cell_of tables) form) cut p q
+
+pub whole_cut : (form : Form) (e : Status) (c c' : Contents) (t t' : List ℕ) → CutsShort e → c' ≡ c → t' ≡ t
+    → Does (whole_work form) c t (Err e) c' t'
+whole_cut form e c c' t t' cut p q = cut_here (whole_work form) e c c' t t' (whole_may form) cut p q
 
 pub ruleset program_ends = (memory_comes, refusal_comes, whole_goes_on, whole_ends, refusal_tallies)

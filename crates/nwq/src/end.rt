@@ -68,7 +68,7 @@ fn told<F: Troubled, S: Sink, A: Files, E: Sink>(
 /// The whole program, given its words, the files, standard output, the files as its message reads
 /// them once more, and standard error: how it ends. Words that are no text are no form of a
 /// command.
-#[tactic(auto, using(command_work::specs::Parts::cut_here))]
+#[tactic(auto, using(crate::proofs::EndLemmas::whole_cut))]
 pub(crate) fn end_of<F: Files + Troubled, S: Sink, A: Files, E: Sink>(
     alloc: Global,
     words: Words,

@@ -75,7 +75,7 @@ fn run_hooked<F: Files, S: Sink>(
 
 /// Does what the words say with hooks that look cells up in these tables: the number with which the
 /// program ends.
-#[tactic(auto, using(command_work::specs::Parts::cut_here, crate::proofs::EndLemmas::memory_comes))]
+#[tactic(auto, using(crate::proofs::EndLemmas::command_cut, crate::proofs::EndLemmas::memory_comes))]
 fn run_with<F: Files, S: Sink>(
     alloc: Global,
     all: &[String],

@@ -26,7 +26,7 @@ use Rattle.state_format.specs.declared.parts.Parts.{Parts as StateParts}
 use Rattle.state_format.specs.Fields.{parts_bytes}
 use Rattle.world_rules.specs.Plays.{PlayEnd, Done, OutOfEntries, StoppedInside, Paused, Progress, Played}
 use Rattle.command_work.specs.declared.status.Status.{Status}
-use Rattle.command_work.specs.Work.{Work, Gives, Refused, Ends, Writes, Puts, Finds, then, IsCut, Does, Finished, by_size, bytes_of, file_named, puts, writes}
+use Rattle.command_work.specs.Work.{Work, Gives, Refused, Ends, Writes, Puts, Finds, then, makes, IsCut, Does, Finished, by_size, bytes_of, file_named, puts, writes}
 use Rattle.command_work.specs.Counts.{KeepsBut}
 use Rattle.command_work.specs.Parts.{value_or}
 use Rattle.command_work.specs.Sequences.{Parts, ends_first, goes_on, parts}
@@ -139,7 +139,7 @@ module _ (P : List ℕ → Type 0) where
   table_named_within name = within_then (file_named name) (table_in name) (read_within name) (λ bytes. table_by_within name bytes)
 
   unless_within : (built_in : Bool) (word : List ℕ) → Within P (table_unless built_in word)
-  unless_within true word = tt
+  unless_within true word = λ made. tt
   unless_within false word = table_named_within word
 
   table_within : (word : List ℕ) → Within P (table_of word)
@@ -171,7 +171,7 @@ module _ (P : List ℕ → Type 0) where
       by_fate bytes (headers.Faulty why place) = tt
 
       by_dash : (dash : Bool) → Within P (header_unless dash word)
-      by_dash true = tt
+      by_dash true = λ made. tt
       by_dash false = within_then (file_named word) (header_in word) (read_within word) (λ bytes. by_fate bytes)
 
   area_file_within : (name : List ℕ) → Within P (inputs.area_named name)
@@ -228,7 +228,7 @@ module _ (P : List ℕ → Type 0) where
 
   file_within : (files : List Source) (large : Bool) (file : List ℕ) → Within P (file_by files large file)
   file_within files true file = tt
-  file_within files false file = tt
+  file_within files false file = λ made. tt
 
   compiled_within : (header : EngineTable) (name : List ℕ) → Within P (compiled_named header name)
   unfolding compiled_named compiled_in unit_of typed_in file_in
@@ -253,8 +253,8 @@ module _ (P : List ℕ → Type 0) where
   lines_within header [] scripts own = tt
   lines_within header (line ∷ lines) scripts own =
       within_then (script_in header line) (λ script. lists_on header (scripts ++ script ∷ []) lines)
-      (within_then (code_by line.binary header line.name) (λ ops. Gives (playable line ops))
-      (code_within header line.name line.binary (λ is. own (code_name line.name) (inl (is, refl)))) (λ ops. tt))
+      (within_then (code_by line.binary header line.name) (λ ops. makes (playable line ops))
+      (code_within header line.name line.binary (λ is. own (code_name line.name) (inl (is, refl)))) (λ ops made. tt))
       (λ script. lines_within header lines (scripts ++ script ∷ []) (λ name is. own name (inr is)))
 
 -- ---- the area that is left
@@ -263,9 +263,8 @@ cut_leaves : (r : Result Finished Status) → IsCut r → MayLeave r
 cut_leaves (Ok done) x = tt
 cut_leaves (Err status) x = x
 
-end_leaves : (r : Result Finished Status) → (r ≡ Ok tt) ⊎ IsCut r → MayLeave r
-end_leaves r (inl is) = subst MayLeave (sym is) tt
-end_leaves r (inr x) = cut_leaves r x
+end_leaves : (r : Result Finished Status) → r ≡ Ok tt → MayLeave r
+end_leaves r is = subst MayLeave (sym is) tt
 
 module _ (to text : List ℕ) (r : Result Finished Status) (c : Contents) (t : List ℕ) (c' : Contents) (t' : List ℕ) where
   abbrev Left : List ℕ → Type 0
@@ -483,7 +482,7 @@ unfolding all_behind one_more
 all_within [] before = tt
 all_within (name ∷ names) before =
     within_then NoName (one_more before name) (λ more. all_behind more names)
-    (within_then NoName (tables.table_of (table_file name)) (λ table. Gives (with_table before name table)) (one_within (table_file name)) (λ table. tt))
+    (within_then NoName (tables.table_of (table_file name)) (λ table. makes (with_table before name table)) (one_within (table_file name)) (λ table made. tt))
     (all_within names)
 
 given_within : (list : Option (List ℕ)) → Within NoName (tables_given list)

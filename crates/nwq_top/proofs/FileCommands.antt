@@ -74,11 +74,11 @@ module _ (c : Contents) (t : List ℕ) (name : List ℕ) where
 
 put_does : (text : List ℕ) (c : Contents) (t : List ℕ) → Does (puts text) c t (Ok tt) c (t ++ text)
 unfolding puts
-put_does text c t = inr (inl refl, (refl, refl))
+put_does text c t = inr (refl, (refl, refl))
 
 write_does : (name bytes line : List ℕ) (c : Contents) (t : List ℕ) → Does (writes_and_puts name bytes line) c t (Ok tt) (fin_map.insert c name bytes) (t ++ line)
 unfolding writes_and_puts writes puts
-write_does name bytes line c t = inr (inr (inl refl, (refl, refl)))
+write_does name bytes line c t = inr (inr (refl, (refl, refl)))
 
 -- ---- one part that reads, and one that tells
 

@@ -45,13 +45,15 @@ module _ (pass : UnitsPass) (units : ScriptsHaveUnits) (least : LeastIsTheKept) 
     (few : FewStepsPlayAsMeant) (unstopped : UnstoppedPlansPlayAsMeant) (ended : StoppedPlansBeginAsMeant) (no_fault : CheckedPlaysHaveNoFault) where
   module _ (cell : CellLookup) (n : ℕ) (held : HoldBytes (made_files n)) (c : Contents) (t : List ℕ) (r : Result Finished Status) (c' : Contents) (t' : List ℕ)
       (uncut : IsCut r → ⊥) where
-    -- any work may be cut as it begins; so the laws on plans speak of this play
+    -- a play has its trace to put, so it may be cut as it begins, and the laws on plans speak of
+    -- this one
     as_plan : (unit : TypedUnit) → Compiles header_table (made_files n) (codes "beat") unit
         → PlaysSources cell header_table (made_area n) (plan_of n) (beat_of unit) [] c t (Err Memory) c t
+    unfolding plays_plan
     as_plan unit h = record {
       table = own;
       units = the_unit header_table unit (units header_table (made_files n) (codes "beat") unit held h.script);
-      does = cut_here (plays_plan cell header_table (made_area n) (plan_of n) (script_of (record { name = codes "beat"; unit = unit }) ∷ []) []) Memory c c t t tt refl refl;
+      does = cut_here (plays_plan cell header_table (made_area n) (plan_of n) (script_of (record { name = codes "beat"; unit = unit }) ∷ []) []) Memory c c t t tt tt refl refl;
     }
 
     meant : (unit : TypedUnit) → Compiles header_table (made_files n) (codes "beat") unit → Does (plays_made cell n (code_of unit)) c t r c' t' → MeansMade cell n unit c t r c' t'

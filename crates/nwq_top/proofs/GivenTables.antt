@@ -7,10 +7,10 @@ use Rattle.table_2da.specs.Table.{PlainTable}
 use Rattle.command_work.specs.declared.flaw.AreaFlaw.TheVariants as flaw
 use Rattle.command_work.specs.declared.status.Status.{Status}
 use Rattle.command_work.specs.Refusal.{Refusal, BadArea, line_of, status_of}
-use Rattle.command_work.specs.Work.{Gives, Does, file_named}
-use Rattle.command_work.specs.Parts.{then_ok, then_err}
+use Rattle.command_work.specs.Work.{Gives, makes, Does, file_named}
+use Rattle.command_work.specs.Parts.{then_ok, then_err, makes_does}
 use Rattle.command_work.specs.Reading.{IsRead, IsUnread}
-use Rattle.command_work.specs.Comes.{Came, gave, stopped, cut, gives_does, refused_does, given_comes, refusal_comes, then_comes, read_does, unread_does, file_comes}
+use Rattle.command_work.specs.Comes.{Came, gave, stopped, cut, gives_does, refused_does, given_comes, made_comes, refusal_comes, then_comes, read_does, unread_does, file_comes}
 use Rattle.command_tables.specs.Lists as lists
 use Rattle.command_tables.specs.Lists.{names_in, names_listed}
 use Rattle.command_tables.specs.Tables as tables_of
@@ -106,21 +106,21 @@ module _ (c : Contents) (t : List ℕ) (name : List ℕ) where
     more_does : (table : PlainTable) → ReadsTable c name table → Does (one_more before name) c t (Ok (with_table before name table)) c t
     unfolding one_more
     more_does table h =
-        then_ok (table_of (table_file name)) (λ x. Gives (with_table before name x)) table c c c t t t (Ok (with_table before name table)) (table_does table h)
-        (gives_does (with_table before name table) c t)
+        then_ok (table_of (table_file name)) (λ x. makes (with_table before name x)) table c c c t t t (Ok (with_table before name table)) (table_does table h)
+        (makes_does (with_table before name table) (with_table before name table) c c t t refl refl refl)
 
     more_refuses : (why : Refusal) → RefusesTable c name why → Does (one_more before name) c t (Err (status_of why)) c (t ++ line_of why)
     unfolding one_more
     more_refuses why is =
-        then_err (table_of (table_file name)) (λ x. Gives (with_table before name x)) (status_of why) c c t (t ++ line_of why) (table_refuses why is)
+        then_err (table_of (table_file name)) (λ x. makes (with_table before name x)) (status_of why) c c t (t ++ line_of why) (table_refuses why is)
 
     more_comes : (r : Result (List Named) Status) (c' : Contents) (t' : List ℕ) → Does (one_more before name) c t r c' t'
         → Came (IsMore c before name) (RefusesTable c name) c t r c' t'
     unfolding one_more
     more_comes r c' t' does =
-        then_comes (table_of (table_file name)) (λ x. Gives (with_table before name x)) (ReadsTable c name) (RefusesTable c name) (IsMore c before name)
+        then_comes (table_of (table_file name)) (λ x. makes (with_table before name x)) (ReadsTable c name) (RefusesTable c name) (IsMore c before name)
         (RefusesTable c name) c t r c' t' table_comes
-        (λ x h next. given_comes (IsMore c before name) (RefusesTable c name) c t r c' t' (with_table before name x) (record { table = x; reads = h; are = refl }) next)
+        (λ x h next. made_comes (IsMore c before name) (RefusesTable c name) c t r c' t' (with_table before name x) (record { table = x; reads = h; are = refl }) next)
         (λ why is. is) does
 
 -- ---- tables in order

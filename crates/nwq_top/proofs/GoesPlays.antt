@@ -189,8 +189,8 @@ module _ (header : OneHeader) (some : SomeSplit) (trees : TreeOrPlace) (right : 
     script_goes : (line : ScriptLine) (c : Contents) → AreFine c → Undeniable (Goes (script_in table line) c (λ script d. HasLine table c line script d × AreFine d))
     unfolding script_in
     script_goes line c fine =
-        goes_both (code_by line.binary table line.name) (λ ops. work.Gives (playable line ops)) c (IsLined line c) (λ script d. HasLine table c line script d × AreFine d)
-        (code_goes line.binary line c refl fine) (λ ops d is. surely (is.has, is.fine))
+        goes_both (code_by line.binary table line.name) (λ ops. work.makes (playable line ops)) c (IsLined line c) (λ script d. HasLine table c line script d × AreFine d)
+        (code_goes line.binary line c refl fine) (λ ops d is. surely (playable line ops, refl, (is.has, is.fine)))
 
     one_more : (line : ScriptLine) (lines : List ScriptLine) (before : List Script) (c d : Contents) (script : Script) → HasLine table c line script d
         → (all : List Script) (e : Contents) → AreLined lines (before ++ script ∷ []) d all e → AreLined (line ∷ lines) before c all e

@@ -70,7 +70,7 @@ module _ (header : OneHeader) (word : List ℕ) (c : Contents) where
 
   unless_goes : (b : Bool) → bytes_eq word (codes "-") ≡ b → Goes (header_unless b word) c (Still c (HasHeaderFile c word))
   unfolding header_named
-  unless_goes true e = (refl, saving.built_in e)
+  unless_goes true e = (inputs.built_in, refl, (refl, saving.built_in e))
   unless_goes false e =
       goes_next (file_named word) (header_in word) c (Still c (IsRead c word)) (Still c (HasHeaderFile c word)) (file_goes word c) (in_goes e)
 

@@ -92,7 +92,7 @@ module _ (header : OneHeader) where
 
     unless_goes : (b : Bool) → bytes_eq word (codes "-") ≡ b → Goes (table_unless b word) c (Still c (HasHeader c word))
     unfolding table_named
-    unless_goes true e = (refl, built_in e)
+    unless_goes true e = (header_table, refl, (refl, built_in e))
     unless_goes false e =
         goes_next (file_named word) (table_in word) c (Still c (IsRead c word)) (Still c (HasHeader c word)) (file_goes word c) (in_goes e)
 
@@ -158,7 +158,8 @@ module _ (right : VerdictsAreRight) (settled : NoneKeptIsTyped) (header : Engine
   sized_goes : (files : List Source) (unit : TypedUnit) (name : List ℕ) (c : Contents) → IsScript header c name unit → (b : Bool) → nat_lt file_limit (length (unit_file unit)) ≡ b
       → Goes (file_by files b (unit_file unit)) c (Still c (IsMade header c name))
   sized_goes files unit name c is true e = tt
-  sized_goes files unit name c is false e = (refl, record { unit = unit; script = is; small = ltb-false file_limit (length (unit_file unit)) e; is = refl })
+  sized_goes files unit name c is false e =
+      (unit_file unit, refl, (refl, record { unit = unit; script = is; small = ltb-false file_limit (length (unit_file unit)) e; is = refl }))
 
   module _ (some : SomeSplit) (trees : TreeOrPlace) (name : List ℕ) (c : Contents) where
     typed_goes : (script : PlainScript) → IsUnitFate (map.get c) name (units.Whole script) → (unit : TypedUnit) (d : Contents) → Still c (TypesUnit header script.tree) unit d

@@ -6,7 +6,7 @@ use Rattle.nwq_text.specs.Lines.{lines_of}
 use Rattle.table_2da.specs.declared.tables.Named.{Named}
 use Rattle.table_2da.specs.Grammar.{GivesOf}
 use Rattle.table_2da.specs.Table.{PlainTable}
-use Rattle.command_work.specs.Work.{Gives, file_named}
+use Rattle.command_work.specs.Work.{makes, file_named}
 use Rattle.command_work.specs.Reading.{IsRead}
 use Rattle.command_tables.specs.Lists.{may_follow, AreNames, ListFate, Whole, Faulty, IsListFate, whole, faulty, names_by, names_in, names_listed}
 use Rattle.command_tables.specs.Tables.{TableFate, IsTableFate, table_by, table_in, table_of, table_file, with_table, one_more, all_behind, tables_listed, tables_given}
@@ -115,8 +115,8 @@ one_goes file c =
 more_goes : (c : Contents) (before : List Named) (name : List ℕ) (d : Contents) → d ≡ c → Undeniable (Goes (one_more before name) d (λ more e. e ≡ c))
 unfolding one_more
 more_goes c before name d same =
-    goes_both (table_of (table_file name)) (λ table. Gives (with_table before name table)) d (λ table e. e ≡ d) (λ more e. e ≡ c) (one_goes (table_file name) d)
-    (λ table e is. surely (is ∙ same))
+    goes_both (table_of (table_file name)) (λ table. makes (with_table before name table)) d (λ table e. e ≡ d) (λ more e. e ≡ c) (one_goes (table_file name) d)
+    (λ table e is. surely (with_table before name table, refl, is ∙ same))
 
 all_go : (c : Contents) (names : List (List ℕ)) (before : List Named) (d : Contents) → d ≡ c → Undeniable (Goes (all_behind before names) d (λ all e. e ≡ c))
 unfolding all_behind

@@ -1,5 +1,5 @@
 -- Works that go on to an end, from what the files hold.
-use Rattle.std.proofs.Common.{◌≡◌, inl, inr, ℕ, nat_lt, Bool, true, false, List, ◌++◌, length, Option, Some, None, Ok, Err, refl, ltb-false}
+use Rattle.std.proofs.Common.{◌≡◌, inr, ℕ, nat_lt, Bool, true, false, List, ◌++◌, length, Option, Some, None, Ok, Err, refl, ltb-false}
 use Rattle.std.specs.FinMap as map
 use Rattle.nwq_value.specs.Limits.{file_limit}
 use Rattle.nwq_outside.specs.Outside.{Contents}
@@ -63,7 +63,7 @@ pub has_outcome : (w : Work Finished) (c : Contents) (t : List ℕ) (Then : Fini
 has_outcome (Gives a) c t Then h = record { answer = Ok a; left = c; taken = t; whole = λ x. x; does = gives_does a c t }
 has_outcome (Refused why) c t Then h =
     record { answer = Err (status_of why); left = c; taken = t ++ line_of why; whole = refusal_not_cut why; does = refused_does why c t }
-has_outcome (Ends status) c t Then h = record { answer = Err status; left = c; taken = t; whole = h; does = (inl refl, (refl, refl)) }
+has_outcome (Ends status) c t Then h = record { answer = Err status; left = c; taken = t; whole = h; does = (refl, (refl, refl)) }
 has_outcome (Writes name bytes rest) c t Then h =
     let o = has_outcome rest (map.insert c name bytes) t Then h in record { answer = o.answer; left = o.left; taken = o.taken; whole = o.whole; does = inr o.does }
 has_outcome (Puts text rest) c t Then h =

@@ -8,9 +8,9 @@ use Rattle.engine_table.specs.KeptTables.{HeadersHaveTables, BuiltInIsTable}
 use Rattle.command_work.specs.declared.status.Status.{Status}
 use Rattle.command_work.specs.Refusal.{Refusal, At, line_of, status_of}
 use Rattle.command_work.specs.Work.{Gives, then, Does, file_named}
-use Rattle.command_work.specs.Parts.{then_ok, then_err}
+use Rattle.command_work.specs.Parts.{then_ok, then_err, makes_does}
 use Rattle.command_work.specs.Reading.{IsRead, IsUnread}
-use Rattle.command_work.specs.Comes.{Came, cut, gives_does, refused_does, given_comes, refusal_comes, then_comes, read_does, unread_does, file_comes}
+use Rattle.command_work.specs.Comes.{Came, cut, gives_does, refused_does, given_comes, made_comes, refusal_comes, then_comes, read_does, unread_does, file_comes}
 use Rattle.command_sources.specs.Headers.{HeaderFate, Whole, Faulty, IsHeaderFate, whole, table_by, table_in, table_named, table_unless, table_of}
 use Rattle.command_save.specs.declared.inputs.HeaderFile.{HeaderFile}
 use Rattle.command_save.specs.Inputs as inputs
@@ -22,7 +22,7 @@ use Rattle.nwq_top.specs.Refusing.{RefusesHeader, unread, faulty}
 
 module _ (c : Contents) (t : List ℕ) (word : List ℕ) where
   unless_built : (b : Bool) → b ≡ true → Does (table_unless b word) c t (Ok header_table) c t
-  unless_built true e = gives_does header_table c t
+  unless_built true e = makes_does header_table header_table c c t t refl refl refl
   unless_built false e = absurd cc
 
   unless_named : (r : Result EngineTable Status) (c' : Contents) (t' : List ℕ) (b : Bool) → b ≡ false → Does (table_named word) c t r c' t'
@@ -66,7 +66,7 @@ module _ (c : Contents) (t : List ℕ) (word : List ℕ) where
 
     word_comes : (b : Bool) → bytes_eq word (codes "-") ≡ b → Does (table_unless b word) c t r c' t' → HeaderComes
     unfolding table_named
-    word_comes true e does = given_comes (HasHeader c word) (RefusesHeader c word) c t r c' t' header_table (built_in e) does
+    word_comes true e does = made_comes (HasHeader c word) (RefusesHeader c word) c t r c' t' header_table (built_in e) does
     word_comes false e does =
         then_comes (file_named word) (table_in word) (IsRead c word) (IsUnread c word) (HasHeader c word) (RefusesHeader c word) c t r c' t'
         (file_comes c t word) (table_comes e) (unread e) does
@@ -79,7 +79,7 @@ module _ (c : Contents) (t : List ℕ) (word : List ℕ) where
 
 module _ (c : Contents) (t : List ℕ) (word : List ℕ) where
   file_unless_built : (b : Bool) → b ≡ true → Does (header_unless b word) c t (Ok inputs.built_in) c t
-  file_unless_built true e = gives_does inputs.built_in c t
+  file_unless_built true e = makes_does inputs.built_in inputs.built_in c c t t refl refl refl
   file_unless_built false e = absurd cc
 
   file_unless_named : (r : Result HeaderFile Status) (c' : Contents) (t' : List ℕ) (b : Bool) → b ≡ false → Does (header_named word) c t r c' t'
@@ -123,7 +123,7 @@ module _ (c : Contents) (t : List ℕ) (word : List ℕ) where
 
     file_word_comes : (b : Bool) → bytes_eq word (codes "-") ≡ b → Does (header_unless b word) c t r c' t' → HeaderFileComes
     unfolding header_named
-    file_word_comes true e does = given_comes (HasHeaderFile c word) (RefusesHeader c word) c t r c' t' inputs.built_in (saves.built_in e) does
+    file_word_comes true e does = made_comes (HasHeaderFile c word) (RefusesHeader c word) c t r c' t' inputs.built_in (saves.built_in e) does
     file_word_comes false e does =
         then_comes (file_named word) (header_in word) (IsRead c word) (IsUnread c word) (HasHeaderFile c word) (RefusesHeader c word) c t r c' t'
         (file_comes c t word) (file_in_comes e) (unread e) does

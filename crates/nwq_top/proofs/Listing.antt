@@ -21,8 +21,8 @@ use Rattle.source_meaning.specs.Scripts.{Listed}
 use Rattle.source_laws.specs.Executing.{script_of}
 use Rattle.command_work.specs.declared.status.Status.{Status}
 use Rattle.command_work.specs.Refusal.{Refusal, line_of, status_of}
-use Rattle.command_work.specs.Work.{Gives, IsCut, Does, writes}
-use Rattle.command_work.specs.Parts.{value_or, status_or, then_ok, then_err}
+use Rattle.command_work.specs.Work.{Gives, makes, IsCut, Does, writes}
+use Rattle.command_work.specs.Parts.{value_or, status_or, makes_does, then_ok, then_err}
 use Rattle.command_work.specs.Outcomes.{agree}
 use Rattle.command_work.specs.Sequences.{Parts, ends_first, goes_on, parts}
 use Rattle.command_work.specs.Comes.{Came, gave, stopped, cut, gives_does, Follows, follows, ends, cuts, then_follows}
@@ -97,21 +97,21 @@ module _ (header : EngineTable) (c : Contents) (t : List ℕ) (line : ScriptLine
   line_does : (script : Script) (d : Contents) → HasLine header c line script d → Does (script_in header line) c t (Ok script) d t
   unfolding script_in
   line_does script d (accepting.source e unit h) =
-      then_ok (code_by line.binary header line.name) (λ ops. Gives (playable line ops)) (code_of unit) c d d t t t (Ok script)
-      (subst (λ b. Does (code_by b header line.name) c t (Ok (code_of unit)) d t) (sym e) (named_does unit h)) (gives_does script d t)
+      then_ok (code_by line.binary header line.name) (λ ops. makes (playable line ops)) (code_of unit) c d d t t t (Ok script)
+      (subst (λ b. Does (code_by b header line.name) c t (Ok (code_of unit)) d t) (sym e) (named_does unit h)) (makes_does script script d d t t refl refl refl)
   line_does script d (accepting.binary e ops h) =
-      then_ok (code_by line.binary header line.name) (λ os. Gives (playable line os)) ops c d d t t t (Ok script)
-      (subst (λ b. Does (code_by b header line.name) c t (Ok ops) d t) (sym e) (binary_does header c t (code_name line.name) ops h)) (gives_does script d t)
+      then_ok (code_by line.binary header line.name) (λ os. makes (playable line os)) ops c d d t t t (Ok script)
+      (subst (λ b. Does (code_by b header line.name) c t (Ok ops) d t) (sym e) (binary_does header c t (code_name line.name) ops h)) (makes_does script script d d t t refl refl refl)
 
   line_refuses : LeastIsTheKept → (why : Refusal) → RefusesLine header c line why → Does (script_in header line) c t (Err (status_of why)) c (t ++ line_of why)
   unfolding script_in source_named
   line_refuses least why (refusing.source e _ is) =
-      then_err (code_by line.binary header line.name) (λ ops. Gives (playable line ops)) (status_of why) c c t (t ++ line_of why)
+      then_err (code_by line.binary header line.name) (λ ops. makes (playable line ops)) (status_of why) c c t (t ++ line_of why)
       (subst (λ b. Does (code_by b header line.name) c t (Err (status_of why)) c (t ++ line_of why)) (sym e)
       (then_err (compiled_named header line.name) (writes_loaded header (code_name line.name)) (status_of why) c c t (t ++ line_of why)
       (source_refuses header c t line.name least why is)))
   line_refuses least why (refusing.binary e _ is) =
-      then_err (code_by line.binary header line.name) (λ ops. Gives (playable line ops)) (status_of why) c c t (t ++ line_of why)
+      then_err (code_by line.binary header line.name) (λ ops. makes (playable line ops)) (status_of why) c c t (t ++ line_of why)
       (subst (λ b. Does (code_by b header line.name) c t (Err (status_of why)) c (t ++ line_of why)) (sym e)
       (binary_refuses header c t (code_name line.name) why is))
 
@@ -171,20 +171,20 @@ module _ (pass : UnitsPass) (units : ScriptsHaveUnits) (sure : SureLoaded) (head
       code_ends status is (has ops h p q) = absurd cc
       code_ends status is (lacks why refuse p q o) = refuses why refuse (is ∙ ap Err (ap (status_or status) p)) q o
 
-      code_goes : (ops : List PlainOp) (d : Contents) (k : List ℕ) → Does (Gives (playable line ops)) d k r c' t' → Coded header c t line (Ok ops) d k
+      code_goes : (ops : List PlainOp) (d : Contents) (k : List ℕ) → Does (makes (playable line ops)) d k r c' t' → Coded header c t line (Ok ops) d k
           → Lined header c t line r c' t'
-      code_goes ops d k (inr x, stays) h = absurd (whole x)
-      code_goes ops d k (inl gives, stays) (has os h p q) =
+      code_goes ops d k (inl x) h = absurd (whole x.0)
+      code_goes ops d k (inr made) (has os h p q) =
           lists (playable line ops)
-          (subst (λ x. HasLine header c line (playable line x) c') (sym (ap (value_or ops) p)) (subst (HasLine header c line (playable line os)) (sym stays.0) h))
-          gives (stays.1 ∙ q)
-      code_goes ops d k (inl gives, stays) (lacks why refuse p q o) = absurd cc
+          (subst (λ x. HasLine header c line (playable line x) c') (sym (ap (value_or ops) p)) (subst (HasLine header c line (playable line os)) (sym made.goes.1.0) h))
+          (made.goes.0 ∙ ap Ok made.is) (made.goes.1.1 ∙ q)
+      code_goes ops d k (inr made) (lacks why refuse p q o) = absurd cc
 
       line_comes : Does (script_in header line) c t r c' t' → Lined header c t line r c' t'
       unfolding script_in
-      line_comes does = by_parts (parts (code_by line.binary header line.name) (λ ops. Gives (playable line ops)) c c' t t' r does)
+      line_comes does = by_parts (parts (code_by line.binary header line.name) (λ ops. makes (playable line ops)) c c' t t' r does)
         where
-          by_parts : Parts (code_by line.binary header line.name) (λ ops. Gives (playable line ops)) c t r c' t' → Lined header c t line r c' t'
+          by_parts : Parts (code_by line.binary header line.name) (λ ops. makes (playable line ops)) c t r c' t' → Lined header c t line r c' t'
           by_parts (ends_first h) =
               code_ends h.status h.is (code_comes (Err h.status) c' t' (λ x. whole (subst IsCut (sym h.is) x)) line.binary refl h.does)
           by_parts (goes_on h) =
@@ -256,9 +256,8 @@ module _ (pass : UnitsPass) (units : ScriptsHaveUnits) (sure : SureLoaded) (leas
   pub scripts_come : (lines : List ScriptLine) (before : List Script) (c : Contents) (t : List ℕ) (r : Result (List Script) Status) (c' : Contents) (t' : List ℕ)
       → HoldBytes c → (IsCut r → ⊥) → Does (lists_on header before lines) c t r c' t' → Listings header lines before c t r c' t'
   unfolding lists_on
-  scripts_come [] before c t r c' t' held whole (inl gives, s) =
+  scripts_come [] before c t r c' t' held whole (gives, s) =
       all_listed [] (subst (HasScripts header [] c []) (sym s.0) (accepting.none c)) (gives ∙ ap Ok (sym (append-nil before))) s.1
-  scripts_come [] before c t r c' t' held whole (inr x, s) = absurd (whole x)
   scripts_come (line ∷ lines) before c t r c' t' held whole does =
       by_parts line lines before c t r c' t' held whole
       (λ script d k on more. scripts_come lines (before ++ script ∷ []) d k r c' t' on whole more)

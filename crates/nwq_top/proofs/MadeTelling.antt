@@ -31,7 +31,7 @@ told : EndsAreAnswered → (n : ℕ) (p : Played Saved) (c : Contents) (t : List
     → Does (tells n p) c t r c' t' → Told n p c t r c' t'
 told answered n p c t r c' t' whole (inl x) = absurd (whole x.0)
 told answered n p c t r c' t' whole (inr does) =
-    let e = answered p.ending c (t ++ summary n p) r c' t' whole does in record { taken = e.1.1; answer = e.0; contents = e.1.0 }
+    let e = answered p.ending c (t ++ summary n p) r c' t' does in record { taken = e.1.1; answer = e.0; contents = e.1.0 }
 
 pub made_told : EndsAreAnswered → (cell : CellLookup) (n : ℕ) (unit : TypedUnit) (c : Contents) (t : List ℕ) (r : Result Finished Status) (c' : Contents) (t' : List ℕ)
     → (IsCut r → ⊥) → Does (plays_made cell n (code_of unit)) c t r c' t' → Told n (code_made cell n unit) c t r c' t'

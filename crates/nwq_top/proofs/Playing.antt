@@ -107,8 +107,7 @@ module _ (pass : UnitsPass) (units : ScriptsHaveUnits) (least : LeastIsTheKept) 
   unfolding writes puts
   area_done to text bytes (Ok file) c t r c' t' same whole (inl x) = absurd (whole x.0)
   area_done to text bytes (Ok file) c t r c' t' same whole (inr (inl x)) = absurd (whole x.0)
-  area_done to text bytes (Ok file) c t r c' t' same whole (inr (inr (inr x, s))) = absurd (whole x)
-  area_done to text bytes (Ok file) c t r c' t' same whole (inr (inr (inl is, s))) =
+  area_done to text bytes (Ok file) c t r c' t' same whole (inr (inr (is, s))) =
       let one : file ≡ bytes = cc in (is, s.0 ∙ ap (λ x. fin_map.insert c to x) one, s.1)
   area_done to text bytes (Err fault) c t r c' t' same whole does = absurd cc
 

@@ -151,8 +151,7 @@ module _ (pass : UnitsPass) (units : ScriptsHaveUnits) (least : LeastIsTheKept) 
   unfolding writes_and_puts writes puts
   written_so script unit c t r c' t' whole (inl x) = absurd (whole x.0)
   written_so script unit c t r c' t' whole (inr (inl x)) = absurd (whole x.0)
-  written_so script unit c t r c' t' whole (inr (inr (inr x, s))) = absurd (whole x)
-  written_so script unit c t r c' t' whole (inr (inr (inl is, s))) = record { answer = is; taken = s.1; contents = s.0 }
+  written_so script unit c t r c' t' whole (inr (inr (is, s))) = record { answer = is; taken = s.1; contents = s.0 }
 
   as_work : (header script : List ℕ) (c : Contents) (t : List ℕ) (r : Result Finished Status) (c' : Contents) (t' : List ℕ) → Does (compiles header script) c t r c' t'
       → Does (then (table_of header) (λ table. then (compiled_named table script) (writes_code script))) c t r c' t'

@@ -136,8 +136,7 @@ module _ (header : HeaderFile) (file : AreaFile) (plan : Plan) (scripts : List S
   saved_by : (ending : PlayEnd) (p : Played Saved) → ending ≡ p.ending → Comes (min n plan.entries) p
       → Does (saves_by ending header file.bytes plan scripts name p) c (t ++ trace_text p.last.trace) r c' t' → IsSaved header file plan scripts n name p c t c' t'
   saved_by plays.StoppedInside p is comes (inl x) = absurd (subst IsCut done x.0)
-  saved_by plays.StoppedInside p is comes (inr (inl x, s)) = absurd cc
-  saved_by plays.StoppedInside p is comes (inr (inr x, s)) = absurd (subst IsCut done x)
+  saved_by plays.StoppedInside p is comes (inr (x, s)) = absurd cc
   saved_by plays.Done p is comes does = saved_at p (inr (sym is)) does
   saved_by plays.OutOfEntries p is comes does = absurd (comes.within (sym is))
   saved_by plays.Paused p is comes does = saved_at p (inl (comes.paused (sym is))) does

@@ -20,9 +20,9 @@ use Rattle.command_work.specs.declared.flaw.CodeFlaw.TheVariants as code_flaw
 use Rattle.command_work.specs.declared.status.Status.{Status}
 use Rattle.command_work.specs.Refusal.{Refusal, Absent, TooLong, BadCode, line_of, status_of}
 use Rattle.command_work.specs.Work.{Refused, then, Does, file_named}
-use Rattle.command_work.specs.Parts.{then_ok, then_err}
+use Rattle.command_work.specs.Parts.{makes_does, then_ok, then_err}
 use Rattle.command_work.specs.Reading.{IsRead, IsUnread}
-use Rattle.command_work.specs.Comes.{Came, cut, gives_does, refused_does, given_comes, refusal_comes, then_comes, read_does, unread_does, file_comes}
+use Rattle.command_work.specs.Comes.{Came, cut, gives_does, refused_does, given_comes, made_comes, refusal_comes, then_comes, read_does, unread_does, file_comes}
 use Rattle.command_sources.specs.Units.{PlainScript, UnitFate, Whole, Lacks, Exceeds, Faulty, IsUnitFate, grammar_symbols, unit_by, unit_of, at_spot, at_token, spot_of}
 use Rattle.command_sources.specs.Units as units
 use Rattle.command_sources.specs.Laws.{SureUnits}
@@ -76,7 +76,7 @@ pub record IsMade (header : EngineTable) (c : Contents) (name bytes : List ℕ) 
 module _ (header : EngineTable) (c : Contents) (t : List ℕ) (name : List ℕ) where
   file_does : (files : List Source) (b : Bool) (file : List ℕ) → b ≡ false → Does (file_by files b file) c t (Ok file) c t
   file_does files true file e = absurd cc
-  file_does files false file e = gives_does file c t
+  file_does files false file e = makes_does file file c c t t refl refl refl
 
   file_refuses : (files : List Source) (b : Bool) (file : List ℕ) → b ≡ true
       → Does (file_by files b file) c t (Err (status_of (at_spot cause.Large (spot_of files None)))) c (t ++ line_of (at_spot cause.Large (spot_of files None)))
@@ -136,7 +136,7 @@ module _ (header : EngineTable) (c : Contents) (t : List ℕ) (name : List ℕ) 
     sized_comes script is unit types true e does =
         stops (at_spot cause.Large (spot_of script.files None)) (large script unit is types (grind (arith, nat_tests))) does
     sized_comes script is unit types false e does =
-        given_comes (IsMade header c name) (RefusesSource header c name) c t r c' t' (unit_file unit)
+        made_comes (IsMade header c name) (RefusesSource header c name) c t r c' t' (unit_file unit)
         (record { unit = unit; script = record { script = script; is = is; types = types }; small = grind (arith, nat_tests); is = refl }) does
 
     typed_comes : (script : PlainScript) → IsUnitFate (fin_map.get c) name (Whole script) → (fate : TypingFate) → IsTypingFate header script.tree fate

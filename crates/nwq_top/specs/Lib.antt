@@ -9,6 +9,7 @@ pub mod Generated
 pub mod FileCommands
 pub mod WordLaws
 pub mod Command
+pub mod Begins
 pub mod Endings
 pub mod Program
 pub mod Cuts

@@ -61,7 +61,9 @@ pub fn nwq_main<F: Files, S: Sink>(
 ) -> Status
     // The hooks are one for each of the functions of strings, numbers and tables.
     requires hooks { AreServing (map (λ h. h.known) hooks.now.all.items) }
-    // Where files and sink tell what they hold: the call did the work of the words, in order.
+    // Where files and sink tell what they hold: the call did the work of the words, in order. A
+    // failed call or want of memory cut it only where something was still to be read, made, written
+    // or put; what is written and put whole ends with its own status.
     ensures does { IsTrue F.tells → IsTrue S.tells →
         Does (work_of (cells_of (map (λ h. h.known) hooks.now.all.items))
         (form_of (map string_bytes words.now)))

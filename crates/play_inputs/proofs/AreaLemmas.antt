@@ -1,5 +1,5 @@
 -- What comes of a tree does the work of its area.
-use Rattle.std.proofs.Common.{◌≡◌, ℕ, inl, List, [], ◌∷◌, Some, None, Result, Ok, Err, refl, sym, ap, subst}
+use Rattle.std.proofs.Common.{◌≡◌, ℕ, List, [], ◌∷◌, Some, None, Result, Ok, Err, refl, sym, ap, subst}
 use Rattle.nwq_outside.specs.Outside.{Contents}
 use Rattle.gff_tree.specs.declared.tree.Gff.{Gff}
 use Rattle.gff_tree.specs.Whole.{PlainGff, plain_gff}
@@ -30,7 +30,7 @@ module _ (name : List ℕ) (c : Contents) where
 
   pub area_does : (tree : Gff) (area : PlainArea) (t : List ℕ) → (broken_places (plain_gff tree).top ≡ []) × (area ≡ area_of (plain_gff tree))
       → Does (area_in name (plain_gff tree)) c t (Ok area) c t
-  area_does tree area t read = goes (plain_gff tree) Whole (Ok area) t t (whole read.0) (inl (ap Ok read.1), (refl, refl))
+  area_does tree area t read = goes (plain_gff tree) Whole (Ok area) t t (whole read.0) (ap Ok read.1, (refl, refl))
 
   broken_at : (tree : PlainGff) (place : Place) (answer : Status) (t t' : List ℕ) → (others : List Place) × (broken_places tree.top ≡ place ∷ others)
       → Refuses (BadArea name (place_flaw place)) t answer t' → Does (area_in name tree) c t (Err answer) c t'
@@ -45,7 +45,8 @@ module _ (name : List ℕ) (c : Contents) where
   area_broken tree fault.NoMemory why answer t t' first is h = absurd (none_some why is)
 
   pub area_cut : (tree : PlainGff) (t : List ℕ) → Does (area_in name tree) c t (Err Memory) c t
-  area_cut tree t = cut_here (area_in name tree) Memory c c t t tt refl refl
+  unfolding area_in
+  area_cut tree t = cut_here (area_in name tree) Memory c c t t tt tt refl refl
 
 -- what stands for a tree that breaks no rule tells its area
 pub tells : (bytes : List ℕ) (tree : PlainGff) (area : PlainArea) → Stands bytes tree → (broken_places tree.top ≡ []) × (area ≡ area_of tree) → TellsArea bytes area

@@ -16,7 +16,7 @@ use Rattle.play_inputs.specs.Listings.{writes_loaded, script_in, lists_on, scrip
 -- a plan that lists nothing
 nothing : (header : EngineTable) (c : Contents) (t : List ℕ) → Does (scripts_listed header []) c t (Ok []) c t
 unfolding scripts_listed lists_on
-nothing header c t = (inl refl, (refl, refl))
+nothing header c t = (refl, (refl, refl))
 
 abbrev binary : List ℕ → ScriptLine
 binary name = record { name = name; binary = true }

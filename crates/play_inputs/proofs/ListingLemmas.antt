@@ -20,10 +20,17 @@ use Rattle.command_work.specs.declared.status.Status.{Status}
 use Rattle.command_work.specs.declared.status.Status.TheVariants.{Memory}
 use Rattle.command_work.specs.Work.{Does}
 use Rattle.command_work.specs.Counts.{KeepsBut}
-use Rattle.command_work.specs.Parts.{cut_here, then_ok, then_err}
-use Rattle.play_inputs.specs.Listings.{script_in, lists_on, IsOwnFile, IsSourceFile, line_names, loaded_names}
+use Rattle.command_work.specs.Parts.{then_ok, then_err}
+use Rattle.command_work.specs.Sequences.{unmade}
+use Rattle.play_inputs.specs.Listings.{code_by, playable, script_in, lists_on, IsOwnFile, IsSourceFile, line_names, loaded_names}
 
 -- ---- the work
+
+-- memory may be wanted for a script until it is listed
+script_unmade : (header : EngineTable) (line : ScriptLine) (script : Script) (c c1 : Contents) (t t1 : List ℕ) → Does (script_in header line) c t (Ok script) c1 t1
+    → Does (script_in header line) c t (Err Memory) c1 t1
+unfolding script_in
+script_unmade header line script c c1 t t1 does = unmade (code_by line.binary header line.name) (playable line) script Memory c c1 t t1 tt does
 
 pub record SoFar (files_tell sink_tells : Bool) (header : EngineTable) (lines : List ScriptLine) (i : ℕ) (first scripts : List Script) (c0 c : Contents) (t0 t : List ℕ) : Type 0 where
   pub by : IsTrue files_tell → IsTrue sink_tells → (r : Result (List Script) Status) (c' : Contents) (t' : List ℕ)
@@ -68,15 +75,14 @@ module _ (files_tell sink_tells : Bool) (header : EngineTable) (lines : List Scr
       → SoFar files_tell sink_tells header lines i first scripts c0 c t0 t → i < length lines → line ≡ get_or lines i d → IsTrue files_tell → IsTrue sink_tells
       → Does (script_in header line) c t (Ok script) c1 t1 → Does (lists_on header first lines) c0 t0 (Err Memory) c1 t1
   cut_on i line d script scripts c c1 t t1 so lt is files sink does =
-      (goes_on i line d script scripts c c1 t t1 so lt is (λ f s. does)).by files sink (Err Memory) c1 t1
-      (cut_here (lists_on header (scripts ++ script ∷ []) (drop (i + 1) lines)) Memory c1 c1 t1 t1 tt refl refl)
+      stops i line d Memory scripts c c1 t t1 so lt is files sink (script_unmade header line script c c1 t t1 does)
 
   pub is_done : (i : ℕ) (scripts : List Script) (c : Contents) (t : List ℕ) → SoFar files_tell sink_tells header lines i first scripts c0 c t0 t
       → length lines ≤ i → IsTrue files_tell → IsTrue sink_tells → Does (lists_on header first lines) c0 t0 (Ok scripts) c t
   unfolding lists_on
   is_done i scripts c t so over files sink =
       let none : drop i lines ≡ [] = drop_all i lines over in
-      so.by files sink (Ok scripts) c t (subst (λ ls. Does (lists_on header scripts ls) c t (Ok scripts) c t) (sym none) (inl refl, (refl, refl)))
+      so.by files sink (Ok scripts) c t (subst (λ ls. Does (lists_on header scripts ls) c t (Ok scripts) c t) (sym none) (refl, (refl, refl)))
 
 -- ---- the list
 

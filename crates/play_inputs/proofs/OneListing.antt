@@ -4,8 +4,8 @@ use Rattle.ncs_code.specs.Plain.{PlainOp}
 use Rattle.nwq_value.specs.Engine.{EngineTable}
 use Rattle.plan_text.specs.declared.plan.Script.{Script as ScriptLine}
 use Rattle.machine_rules.specs.Machine.{Script}
-use Rattle.command_work.specs.Outcomes.{IsSure, sure_then, sure_writes}
-use Rattle.command_work.specs.Work.{Gives, writes}
+use Rattle.command_work.specs.Outcomes.{IsSure, sure_then, sure_makes, sure_writes}
+use Rattle.command_work.specs.Work.{makes, writes}
 use Rattle.command_files.specs.Checks.{loaded_in}
 use Rattle.command_files.specs.CheckLaws.{SureChecked, SureLoaded}
 use Rattle.command_compile.specs.Files.{code_name, compiled_named}
@@ -28,7 +28,8 @@ module _ (compiled : SureCompiled) (checked : SureChecked) (loaded : SureLoaded)
 
   sure_script : (line : ScriptLine) → IsSure (script_in header line)
   unfolding script_in
-  sure_script line = sure_then (code_by line.binary header line.name) (λ (ops : List PlainOp). Gives (playable line ops)) (sure_code line.binary line.name) (λ ops. tt)
+  sure_script line = sure_then (code_by line.binary header line.name) (λ (ops : List PlainOp). makes (playable line ops)) (sure_code line.binary line.name)
+      (λ ops. sure_makes (playable line ops))
 
   sure_on : (scripts : List Script) (lines : List ScriptLine) → IsSure (lists_on header scripts lines)
   unfolding lists_on

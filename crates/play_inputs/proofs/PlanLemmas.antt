@@ -1,5 +1,5 @@
 -- What comes of a plan's text does its work.
-use Rattle.std.proofs.Common.{ℕ, inl, List, Result, Ok, Err, refl}
+use Rattle.std.proofs.Common.{ℕ, List, Result, Ok, Err, refl}
 use Rattle.nwq_outside.specs.Outside.{Contents}
 use Rattle.plan_text.specs.declared.plan.Plan.{Plan}
 use Rattle.plan_text.specs.declared.fault.PlanFault.TheVariants as fault
@@ -19,7 +19,7 @@ module _ (name bytes : List ℕ) (c : Contents) where
   goes fate r t t' is does = finds_one (λ (d : Contents) (f : PlanFate). IsPlanFate bytes f) (plan_by name) fate c c t t' r is does
 
   pub plan_does : (plan : Plan) (t : List ℕ) → HasPlan bytes plan → Does (plan_in name bytes) c t (Ok plan) c t
-  plan_does plan t has = goes (Whole plan) (Ok plan) t t (whole plan has) (inl refl, (refl, refl))
+  plan_does plan t has = goes (Whole plan) (Ok plan) t t (whole plan has) (refl, (refl, refl))
 
   pub plan_faulty : (line : ℕ) (answer : Status) (t t' : List ℕ) → IsFaulty bytes (fault.Line line) → Refuses (BadArea name (flaw.Line line)) t answer t'
       → Does (plan_in name bytes) c t (Err answer) c t'
@@ -27,6 +27,7 @@ module _ (name bytes : List ℕ) (c : Contents) where
       goes (Faulty line) (Err answer) t t' (faulty line is) (refused (BadArea name (flaw.Line line)) answer c t t' h)
 
   pub plan_cut : (t : List ℕ) → Does (plan_in name bytes) c t (Err Memory) c t
-  plan_cut t = cut_here (plan_in name bytes) Memory c c t t tt refl refl
+  unfolding plan_in
+  plan_cut t = cut_here (plan_in name bytes) Memory c c t t tt tt refl refl
 
 pub ruleset plans = (plan_does, plan_faulty, plan_cut)

@@ -11,7 +11,7 @@ use Rattle.ncs_machine.specs.declared.scripts.Loaded.{Loaded}
 use Rattle.command_work.specs.declared.status.Status.{Status}
 use Rattle.command_work.specs.declared.status.Status.TheVariants.{Code}
 use Rattle.command_work.specs.Counts.{StopsSource}
-use Rattle.command_work.specs.Work.{Work, Gives, then, Finished, writes}
+use Rattle.command_work.specs.Work.{Work, Gives, then, makes, Finished, writes}
 use Rattle.command_files.specs.Checks.{checked_named, loaded_in}
 use Rattle.command_compile.specs.Files.{code_name, compiled_named}
 
@@ -35,7 +35,7 @@ abbrev pub playable : ScriptLine → List PlainOp → Script
 playable line ops = record { name = line.name; code = ops }
 
 unfoldable pub script_in : EngineTable → ScriptLine → Work Script
-script_in header line = then (code_by line.binary header line.name) (λ ops. Gives (playable line ops))
+script_in header line = then (code_by line.binary header line.name) (λ ops. makes (playable line ops))
 
 -- ---- all of them
 

@@ -111,7 +111,7 @@ fn read_by<F: Files, S: Sink>(
 }
 
 /// The code of the script of a plan's line.
-#[tactic(auto, using(command_work::specs::Parts::cut_here))]
+#[tactic(auto, using(crate::proofs::CodeLemmas::code_wanted))]
 fn read_code<F: Files, S: Sink>(
     alloc: Global,
     table: &Table,
@@ -138,7 +138,7 @@ fn read_code<F: Files, S: Sink>(
 }
 
 /// The script of a plan's line, by which it is played.
-#[tactic(auto, using(crate::proofs::Steps::steps, command_work::specs::Parts::cut_here), unfolding(crate::specs::Listings::script_in))]
+#[tactic(auto, using(crate::proofs::Steps::steps, crate::proofs::CodeLemmas::plays), unfolding(crate::specs::Listings::script_in))]
 pub(crate) fn read_script<F: Files, S: Sink>(
     alloc: Global,
     table: &Table,

@@ -39,7 +39,7 @@ fn write_tree<F: Files, S: Sink>(
 }
 
 /// Writes the file of an area, as it is now, under this name.
-#[tactic(auto, using(command_work::specs::Parts::cut_here))]
+#[tactic(auto, using(crate::specs::Wanted::final_cut))]
 pub fn write_area<F: Files, S: Sink>(
     alloc: Global,
     name: &str,
