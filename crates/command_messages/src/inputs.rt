@@ -10,6 +10,8 @@ pub(crate) struct Inputs<'a> {
     pub script: Option<&'a str>,
     pub area: Option<&'a str>,
     pub plan: Option<&'a str>,
+    /// The state that it reads, or the one that it writes.
+    pub state: Option<&'a str>,
     /// The list of tables.
     pub list: Option<&'a str>,
     /// Whether the command plays what it reads.
@@ -39,6 +41,7 @@ fn without_header<'a>(budgets: &'static [Budget]) -> Inputs<'a> {
         script: None,
         area: None,
         plan: None,
+        state: None,
         list: None,
         plays: false,
         budgets,
@@ -63,6 +66,19 @@ fn of_plan<'a>(header: &'a str, area: &'a str, plan: &'a str, list: Option<&'a s
     inputs
 }
 
+/// What the first entries of a plan read. They leave a state.
+fn of_save<'a>(
+    header: &'a str,
+    area: &'a str,
+    plan: &'a str,
+    state: &'a str,
+    list: Option<&'a str>,
+) -> Inputs<'a> {
+    let mut inputs = of_plan(header, area, plan, list);
+    inputs.state = Some(state);
+    inputs
+}
+
 fn of_run<'a>(header: &'a str, script: &'a str) -> Inputs<'a> {
     let mut inputs = with_header(header, SHAPES, STRINGS_SHAPES);
     inputs.script = Some(script);
@@ -77,8 +93,9 @@ fn of_compile<'a>(header: &'a str, script: &'a str) -> Inputs<'a> {
 }
 
 /// What the rest of a play reads: header, scripts and area are in its state.
-fn of_state<'a>(list: Option<&'a str>) -> Inputs<'a> {
+fn of_state<'a>(state: &'a str, list: Option<&'a str>) -> Inputs<'a> {
     let mut inputs = without_header(ALL);
+    inputs.state = Some(state);
     inputs.list = list;
     inputs.plays = true;
     inputs
@@ -101,10 +118,11 @@ pub(crate) fn inputs_of<'a>(command: Command<'a>) -> Inputs<'a> {
             header,
             area,
             plan,
+            state,
             list,
             ..
-        } => of_plan(header, area, plan, list),
-        Command::Resume { list, .. } => of_state(list),
+        } => of_save(header, area, plan, state, list),
+        Command::Resume { state, list, .. } => of_state(state, list),
         Command::Tree(_file) => without_header(TREE),
         Command::Generate(_number) => without_header(SHAPES),
         Command::Disassemble(_file, _to) | Command::Assemble(_file, _to) => without_header(NONE),

@@ -4,19 +4,27 @@ ghost use Rattle.std.specs.Prelude.{◌≡◌, ◌≤◌, length};
 ghost use Rattle.nwq_value.specs.Limits.{file_limit};
 
 use crate::inputs::Inputs;
+use crate::tell::End;
 use crate::units::{read_named, scripts_of, table_of};
 use message_notes::{Input, put_play_notes};
 use message_sentences::{put_note, same};
 use nss_include::{Unit, gather};
 use nss_lexer::Token;
 use nwq_outside::Files;
-use nwq_text::put_text;
+use nwq_text::{put_count, put_text};
 use nwq_value::{NoMemory, Role, Table, Text};
 use plan_text::read_plan;
+use state_format::read_parts;
 use std::alloc::Global;
 
 /// The number of `Random` among the engine's own routines.
 const RANDOM: u16 = 0;
+
+const PLAN_USED_UP: &str =
+    "the plan's random numbers, % in all, are used up: each further `Random` gives 0";
+
+const STATE_USED_UP: &str =
+    "the state's random numbers, % in all, are used up: each further `Random` gives 0";
 
 /// Whether tokens call `Random`.
 fn calls_random(tokens: &[Token<'_>]) -> bool {
@@ -130,11 +138,75 @@ fn escaped(alloc: Global, name: &str) -> Result<Vec<u8>, NoMemory> {
     Ok(text)
 }
 
-/// Whether a plan gives random numbers, or is none.
-fn gives_random(alloc: Global, bytes: &[u8]) -> bool {
+/// How many random numbers a plan gives, unless it is none.
+fn given_by(alloc: Global, bytes: &[u8]) -> Option<usize> {
     match read_plan(alloc, bytes) {
-        Ok(plan) => !plan.random.as_slice().is_empty(),
-        Err(_) => true,
+        Ok(plan) => Some(plan.random.len()),
+        Err(_) => None,
+    }
+}
+
+/// How many random numbers a state has, if there is one in the file of this name.
+fn held_by<F: Files>(alloc: Global, name: &str, files: &mut F) -> Option<usize>
+    ensures same { F.contents files.new ≡ F.contents files.old }
+{
+    let bytes = read_named(alloc, name, files)?;
+    match read_parts(alloc, bytes.as_slice()) {
+        Ok(parts) => {
+            let count = parts.random.len();
+            drop(parts);
+            Some(count)
+        }
+        Err(_) => None,
+    }
+}
+
+/// Appends a note on random numbers that are used up, of which there were so many.
+fn put_used_up(
+    alloc: Global,
+    out: &mut Vec<u8>,
+    name: &[u8],
+    sentence: &str,
+    count: usize,
+) -> Result<(), NoMemory> {
+    let mut digits = Vec::new(alloc);
+    put_count(&mut digits, count as u64)?;
+    put_note(out, name, sentence, digits.as_slice())
+}
+
+/// Whether the play of a plan, or the part of it that was saved, has left no random numbers. A state
+/// that was written tells it; none is where a limit stopped an entry.
+fn used_up<F: Files>(alloc: Global, inputs: Inputs<'_>, end: End<'_>, files: &mut F) -> bool
+    ensures same { F.contents files.new ≡ F.contents files.old }
+{
+    match inputs.state {
+        None => end.random_used_up,
+        Some(state) if end.number == 0 => matches!(held_by(alloc, state, files), Some(0)),
+        Some(_) => false,
+    }
+}
+
+/// Appends a note where the play of a plan had no random numbers, or has used them up.
+fn put_numbers_note<F: Files>(
+    alloc: Global,
+    out: &mut Vec<u8>,
+    inputs: Inputs<'_>,
+    end: End<'_>,
+    plan: Input<'_>,
+    files: &mut F,
+) -> Result<(), NoMemory>
+    ensures same { F.contents files.new ≡ F.contents files.old }
+{
+    match given_by(alloc, plan.bytes) {
+        None => Ok(()),
+        Some(0) => put_random_note(alloc, out, inputs, plan.name, files),
+        Some(given) => {
+            if used_up(alloc, inputs, end, files) {
+                put_used_up(alloc, out, plan.name, PLAN_USED_UP, given)
+            } else {
+                Ok(())
+            }
+        }
     }
 }
 
@@ -143,6 +215,7 @@ fn put_plan_notes<F: Files>(
     alloc: Global,
     out: &mut Vec<u8>,
     inputs: Inputs<'_>,
+    end: End<'_>,
     area: &str,
     plan: &str,
     files: &mut F,
@@ -166,10 +239,29 @@ fn put_plan_notes<F: Files>(
         bytes: plan_bytes.as_slice(),
     };
     put_play_notes(alloc, out, plan_input, area_input)?;
-    if gives_random(alloc, plan_bytes.as_slice()) {
+    put_numbers_note(alloc, out, inputs, end, plan_input, files)
+}
+
+/// Appends the notes on the rest of a play, which began with the random numbers of a state.
+fn put_rest_notes<F: Files>(
+    alloc: Global,
+    out: &mut Vec<u8>,
+    end: End<'_>,
+    state: &str,
+    files: &mut F,
+) -> Result<(), NoMemory>
+    ensures same { F.contents files.new ≡ F.contents files.old }
+{
+    if !end.random_used_up {
         return Ok(());
     }
-    put_random_note(alloc, out, inputs, plan_name.as_slice(), files)
+    match held_by(alloc, state, files) {
+        None | Some(0) => Ok(()),
+        Some(held) => {
+            let name = escaped(alloc, state)?;
+            put_used_up(alloc, out, name.as_slice(), STATE_USED_UP, held)
+        }
+    }
 }
 
 /// Appends the notes on the play of one script.
@@ -191,6 +283,7 @@ fn put_run_notes<F: Files>(
 pub(crate) fn notes_on<F: Files>(
     alloc: Global,
     inputs: Inputs<'_>,
+    end: End<'_>,
     files: &mut F,
 ) -> Result<Vec<u8>, NoMemory>
     ensures same { F.contents files.new ≡ F.contents files.old }
@@ -202,8 +295,12 @@ pub(crate) fn notes_on<F: Files>(
     if let Some(script) = inputs.script {
         put_run_notes(alloc, &mut out, inputs, script, files)?;
     }
-    if let (Some(area), Some(plan)) = (inputs.area, inputs.plan) {
-        put_plan_notes(alloc, &mut out, inputs, area, plan, files)?;
+    match (inputs.area, inputs.plan, inputs.state) {
+        (Some(area), Some(plan), _) => {
+            put_plan_notes(alloc, &mut out, inputs, end, area, plan, files)?;
+        }
+        (_, _, Some(state)) => put_rest_notes(alloc, &mut out, end, state, files)?,
+        _ => {}
     }
     Ok(out)
 }

@@ -21,13 +21,14 @@ use nwq_text::put_text;
 use nwq_value::{NoMemory, Table, Text};
 use std::alloc::Global;
 
-/// How the program ended: its number, the last line on standard output, and the last name at which
-/// the system failed.
+/// How the program ended: its number, the last line on standard output, the last name at which the
+/// system failed, and whether a play that came to its end left no random numbers.
 #[derive(Clone, Copy)]
 pub struct End<'a> {
     pub number: u8,
     pub line: &'a [u8],
     pub trouble: Option<&'a Trouble>,
+    pub random_used_up: bool,
 }
 
 /// The table of the header, where a cause is told by it.
@@ -368,10 +369,16 @@ fn put<E: Sink>(text: &[u8], err: &mut E) {
 }
 
 /// Puts the notes on a command that did its work. Without memory for them there are none.
-fn put_notes<F: Files, E: Sink>(alloc: Global, words: &[String], files: &mut F, err: &mut E)
+fn put_notes<F: Files, E: Sink>(
+    alloc: Global,
+    words: &[String],
+    end: End<'_>,
+    files: &mut F,
+    err: &mut E,
+)
     ensures same { F.contents files.new ≡ F.contents files.old }
 {
-    match notes_on(alloc, inputs_of(command_of(words)), files) {
+    match notes_on(alloc, inputs_of(command_of(words)), end, files) {
         Ok(text) => put(text.as_slice(), err),
         Err(NoMemory) => {}
     }
@@ -409,7 +416,7 @@ pub fn tell_end<F: Files, E: Sink>(
     let words = after_name(all);
     let status = status_numbered(end.number);
     match status {
-        Status::Done | Status::Limit => put_notes(alloc, words, files, err),
+        Status::Done | Status::Limit => put_notes(alloc, words, end, files, err),
         Status::Memory => put_memory(err, inputs_of(command_of(words)).budgets),
         _ => put_message(alloc, words, status, end, files, err),
     }

@@ -1,6 +1,7 @@
 mod FileLemmas
 mod OneGame
 mod PlayLemmas
+mod RemarkLemmas
 mod Steps
 mod StopLemmas
 mod TellLemmas

@@ -9,44 +9,54 @@ ghost use Rattle.command_work.specs.Calls.{DoesOn, TalliesOn, IsName};
 ghost use Rattle.command_play.specs.Games.{plays_area, plays_scripts, plays_under, plays};
 ghost use Rattle.command_play.specs.Tellings.{IsGameFile, StopsGame};
 
-use crate::play::play_plan;
+use crate::play::{Setting, play_plan};
+use crate::remarks::Remarks;
 use command_sources::read_table;
 use command_work::Status;
 use hook_table::Hooks;
-use ncs_machine::Scripts;
 use nwq_outside::{Files, Sink};
 use nwq_value::Table;
 use plan_text::Plan;
 use play_inputs::{list_scripts, read_area, read_plan_file};
 use std::alloc::Global;
 
+/// What the words of a play name: header, area, plan, and the file in which the area is left.
+#[derive(Clone, Copy)]
+pub struct GameNames<'a> {
+    pub header: &'a str,
+    pub area: &'a str,
+    pub plan: &'a str,
+    pub to: &'a str,
+}
+
 /// Reads the area, and plays a plan over it.
 #[tactic(auto, using(crate::proofs::Steps::steps, crate::proofs::StopLemmas::stops), unfolding(crate::specs::Games::plays_area))]
 fn play_area<F: Files, S: Sink>(
     alloc: Global,
-    table: &Table,
+    setting: Setting<'_>,
     area: &str,
     plan: &Plan,
     to: &str,
-    scripts: &Scripts,
-    hooks: &Hooks,
     files: &mut F,
     out: &mut S,
+    remarks: &mut Remarks,
 ) -> Result<(), Status>
-    requires few { length scripts.now < 2 ^ 32 }
-    requires meets { AllMeet table.now (scripts_of scripts.now) (tables_of scripts.now) }
-    requires hooks { AreServing (map (λ h. h.known) hooks.now.all.items) }
+    requires few { length setting.scripts.now < 2 ^ 32 }
+    requires meets { AllMeet setting.table.now
+        (scripts_of setting.scripts.now) (tables_of setting.scripts.now) }
+    requires hooks { AreServing (map (λ h. h.known) setting.hooks.now.all.items) }
     requires plan { IsPlan plan.now }
     ensures does { IsTrue F.tells → IsTrue S.tells → DoesOn F.contents S.taken (plays_area
-        (cells_of (map (λ h. h.known) hooks.now.all.items)) table.now area.now plan.now to.now
-        (scripts_of scripts.now)) files.old out.old result files.new out.new }
+        (cells_of (map (λ h. h.known) setting.entry.hooks.now.all.items))
+        setting.entry.table.now area.now plan.now to.now (scripts_of setting.entry.scripts.now))
+        files.old out.old result files.new out.new }
     ensures counts { TalliesOn F.counts S.faults result files.old out.old files.new out.new }
     ensures names { KeepsBut (IsName to.now) (F.contents files.old) (F.contents files.new) }
     ensures only { IfErr result StopsGame }
 {
     match read_area(alloc, area, files, out) {
         Err(status) => Err(status),
-        Ok(area) => play_plan(alloc, table, area, plan, scripts, hooks, to, files, out),
+        Ok(area) => play_plan(alloc, setting, area, plan, to, files, out, remarks),
     }
 }
 
@@ -55,25 +65,35 @@ fn play_area<F: Files, S: Sink>(
 fn play_scripts<F: Files, S: Sink>(
     alloc: Global,
     table: &Table,
-    area: &str,
+    game: GameNames<'_>,
     plan: &Plan,
-    to: &str,
     hooks: &Hooks,
     files: &mut F,
     out: &mut S,
+    remarks: &mut Remarks,
 ) -> Result<(), Status>
     requires hooks { AreServing (map (λ h. h.known) hooks.now.all.items) }
     requires plan { IsPlan plan.now }
     ensures does { IsTrue F.tells → IsTrue S.tells → DoesOn F.contents S.taken (plays_scripts
-        (cells_of (map (λ h. h.known) hooks.now.all.items)) area.now plan.now to.now table.now)
-        files.old out.old result files.new out.new }
+        (cells_of (map (λ h. h.known) hooks.now.all.items)) game.entry.area.now plan.now
+        game.entry.to.now table.now) files.old out.old result files.new out.new }
     ensures counts { TalliesOn F.counts S.faults result files.old out.old files.new out.new }
-    ensures names { KeepsBut (IsGameFile to.now) (F.contents files.old) (F.contents files.new) }
+    ensures names { KeepsBut (IsGameFile game.entry.to.now)
+        (F.contents files.old) (F.contents files.new) }
     ensures only { IfErr result StopsGame }
 {
     match list_scripts(alloc, table, plan.scripts.as_slice(), files, out) {
         Err(status) => Err(status),
-        Ok(scripts) => play_area(alloc, table, area, plan, to, &scripts, hooks, files, out),
+        Ok(scripts) => {
+            let setting = Setting {
+                table,
+                scripts: &scripts,
+                hooks,
+            };
+            play_area(
+                alloc, setting, game.area, plan, game.to, files, out, remarks,
+            )
+        }
     }
 }
 
@@ -81,26 +101,26 @@ fn play_scripts<F: Files, S: Sink>(
 #[tactic(auto, using(crate::proofs::Steps::steps, crate::proofs::StopLemmas::stops), unfolding(crate::specs::Games::plays_under))]
 fn play_under<F: Files, S: Sink>(
     alloc: Global,
-    header: &str,
-    area: &str,
+    game: GameNames<'_>,
     plan: &Plan,
-    to: &str,
     hooks: &Hooks,
     files: &mut F,
     out: &mut S,
+    remarks: &mut Remarks,
 ) -> Result<(), Status>
     requires hooks { AreServing (map (λ h. h.known) hooks.now.all.items) }
     requires plan { IsPlan plan.now }
     ensures does { IsTrue F.tells → IsTrue S.tells → DoesOn F.contents S.taken (plays_under
-        (cells_of (map (λ h. h.known) hooks.now.all.items)) header.now area.now to.now plan.now)
-        files.old out.old result files.new out.new }
+        (cells_of (map (λ h. h.known) hooks.now.all.items)) game.entry.header.now
+        game.entry.area.now game.entry.to.now plan.now) files.old out.old result files.new out.new }
     ensures counts { TalliesOn F.counts S.faults result files.old out.old files.new out.new }
-    ensures names { KeepsBut (IsGameFile to.now) (F.contents files.old) (F.contents files.new) }
+    ensures names { KeepsBut (IsGameFile game.entry.to.now)
+        (F.contents files.old) (F.contents files.new) }
     ensures only { IfErr result StopsGame }
 {
-    match read_table(alloc, header, files, out) {
+    match read_table(alloc, game.header, files, out) {
         Err(status) => Err(status),
-        Ok(table) => play_scripts(alloc, &table, area, plan, to, hooks, files, out),
+        Ok(table) => play_scripts(alloc, &table, game, plan, hooks, files, out, remarks),
     }
 }
 
@@ -109,25 +129,24 @@ fn play_under<F: Files, S: Sink>(
 #[tactic(auto, using(crate::proofs::Steps::steps, crate::proofs::StopLemmas::stops), unfolding(crate::specs::Games::plays))]
 pub fn play_files<F: Files, S: Sink>(
     alloc: Global,
-    header: &str,
-    area: &str,
-    plan: &str,
-    to: &str,
+    game: GameNames<'_>,
     hooks: &Hooks,
     files: &mut F,
     out: &mut S,
+    remarks: &mut Remarks,
 ) -> Result<(), Status>
     requires hooks { AreServing (map (λ h. h.known) hooks.now.all.items) }
     ensures does { IsTrue F.tells → IsTrue S.tells → DoesOn F.contents S.taken (plays
-        (cells_of (map (λ h. h.known) hooks.now.all.items)) header.now area.now plan.now to.now)
-        files.old out.old result files.new out.new }
+        (cells_of (map (λ h. h.known) hooks.now.all.items)) game.entry.header.now
+        game.entry.area.now game.entry.plan.now game.entry.to.now) files.old out.old result files.new out.new }
     ensures counts { TalliesOn F.counts S.faults result files.old out.old files.new out.new }
     // The files of bytecode of scripts, and the file of the area that is left, alone are written.
-    ensures names { KeepsBut (IsGameFile to.now) (F.contents files.old) (F.contents files.new) }
+    ensures names { KeepsBut (IsGameFile game.entry.to.now)
+        (F.contents files.old) (F.contents files.new) }
     ensures only { IfErr result StopsGame }
 {
-    match read_plan_file(alloc, plan, files, out) {
+    match read_plan_file(alloc, game.plan, files, out) {
         Err(status) => Err(status),
-        Ok(plan) => play_under(alloc, header, area, &plan, to, hooks, files, out),
+        Ok(plan) => play_under(alloc, game, &plan, hooks, files, out, remarks),
     }
 }

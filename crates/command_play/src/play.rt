@@ -9,6 +9,7 @@ ghost use Rattle.command_work.specs.Calls.{DoesOn, TalliesOn, IsName};
 ghost use Rattle.command_play.specs.Games.{plays_plan};
 ghost use Rattle.command_play.specs.Tellings.{StopsGame};
 
+use crate::remarks::Remarks;
 use crate::telling::tell_end;
 use area_tree::Area;
 use command_plays::play_lines;
@@ -20,32 +21,58 @@ use nwq_value::Table;
 use plan_text::Plan;
 use std::alloc::Global;
 
+/// What a plan's scripts are played with: a header's table, all that are listed, and hooks.
+#[derive(Clone, Copy)]
+pub(crate) struct Setting<'a> {
+    pub table: &'a Table,
+    pub scripts: &'a Scripts,
+    pub hooks: &'a Hooks,
+}
+
 /// Plays a plan over an area.
 #[tactic(auto, using(crate::proofs::PlayLemmas::plays_in, crate::proofs::StopLemmas::stops))]
 pub(crate) fn play_plan<F: Files, S: Sink>(
     alloc: Global,
-    table: &Table,
+    setting: Setting<'_>,
     area: Area,
     plan: &Plan,
-    scripts: &Scripts,
-    hooks: &Hooks,
     to: &str,
     files: &mut F,
     out: &mut S,
+    remarks: &mut Remarks,
 ) -> Result<(), Status>
-    requires few { length scripts.now < 2 ^ 32 }
-    requires meets { AllMeet table.now (scripts_of scripts.now) (tables_of scripts.now) }
-    requires hooks { AreServing (map (λ h. h.known) hooks.now.all.items) }
+    requires few { length setting.scripts.now < 2 ^ 32 }
+    requires meets { AllMeet setting.table.now
+        (scripts_of setting.scripts.now) (tables_of setting.scripts.now) }
+    requires hooks { AreServing (map (λ h. h.known) setting.hooks.now.all.items) }
     requires plan { IsPlan plan.now }
     ensures does { IsTrue F.tells → IsTrue S.tells → DoesOn F.contents S.taken (plays_plan
-        (cells_of (map (λ h. h.known) hooks.now.all.items)) table.now area plan.now
-        (scripts_of scripts.now) to.now) files.old out.old result files.new out.new }
+        (cells_of (map (λ h. h.known) setting.entry.hooks.now.all.items))
+        setting.entry.table.now area plan.now (scripts_of setting.entry.scripts.now) to.now)
+        files.old out.old result files.new out.new }
     ensures counts { TalliesOn F.counts S.faults result files.old out.old files.new out.new }
     ensures names { KeepsBut (IsName to.now) (F.contents files.old) (F.contents files.new) }
     ensures only { IfErr result StopsGame }
 {
-    match play_lines(alloc, table, area, plan, scripts, hooks, out) {
+    match play_lines(
+        alloc,
+        setting.table,
+        area,
+        plan,
+        setting.scripts,
+        setting.hooks,
+        out,
+    ) {
         Err(status) => Err(status),
-        Ok((world, played)) => tell_end(alloc, world, scripts, &played, to, files, out),
+        Ok((world, played)) => tell_end(
+            alloc,
+            world,
+            setting.scripts,
+            &played,
+            to,
+            files,
+            out,
+            remarks,
+        ),
     }
 }

@@ -13,6 +13,7 @@ ghost use Rattle.play_inputs.specs.Finals.{final_written};
 ghost use Rattle.command_play.specs.Games.{ends_by, tells_end};
 ghost use Rattle.command_play.specs.Tellings.{StopsEnd};
 
+use crate::remarks::{Remarks, remark};
 use area_tree::Area;
 use command_work::{Status, put};
 use module_player::{How, Played, end_text};
@@ -99,7 +100,8 @@ fn end_by<F: Files, S: Sink>(
     }
 }
 
-/// Writes what a play leaves in its last world, and tells its end.
+/// Writes what a play leaves in its last world, and tells its end. What is remarked of that world
+/// is no part of it.
 #[tactic(auto, using(crate::proofs::TellLemmas::ends))]
 pub fn tell_end<F: Files, S: Sink>(
     alloc: Global,
@@ -109,6 +111,7 @@ pub fn tell_end<F: Files, S: Sink>(
     to: &str,
     files: &mut F,
     out: &mut S,
+    remarks: &mut Remarks,
 ) -> Result<(), Status>
     requires told { HasText played.now.how }
     ensures does { IsTrue F.tells → IsTrue S.tells → (p : PlayedView SavedView) →
@@ -120,8 +123,11 @@ pub fn tell_end<F: Files, S: Sink>(
     ensures names { KeepsBut (IsName to.now) (F.contents files.old) (F.contents files.new) }
     ensures only { IfErr result StopsEnd }
 {
-    match end_text(alloc, world, scripts, played) {
+    match remark(alloc, world, remarks) {
         Err(NoMemory) => Err(Status::Memory),
-        Ok((area, text)) => end_by(alloc, played.how, to, area, text, files, out),
+        Ok(world) => match end_text(alloc, world, scripts, played) {
+            Err(NoMemory) => Err(Status::Memory),
+            Ok((area, text)) => end_by(alloc, played.how, to, area, text, files, out),
+        },
     }
 }

@@ -10,7 +10,7 @@ ghost use Rattle.command_play.specs.Tellings.{StopsEnd};
 ghost use Rattle.command_save.specs.Resumes.{resumes, resumes_state, state_in, state_named};
 ghost use Rattle.command_save.specs.Tellings.{MayGoOn, StopsResume, rest_of};
 
-use command_play::tell_end;
+use command_play::{Remarks, tell_end};
 use command_plays::play_part;
 use command_work::{AreaFlaw, Status, read_file, refuse_area};
 use hook_table::Hooks;
@@ -75,6 +75,7 @@ fn play_rest<F: Files, S: Sink>(
     hooks: &Hooks,
     files: &mut F,
     out: &mut S,
+    remarks: &mut Remarks,
 ) -> Result<(), Status>
     requires hooks { AreServing (map (λ h. h.known) hooks.now.all.items) }
     requires opened { MayGoOn opened }
@@ -105,7 +106,7 @@ fn play_rest<F: Files, S: Sink>(
         }
         Ok((world, played)) => {
             drop(table);
-            let end = tell_end(alloc, world, &scripts, &played, to, files, out);
+            let end = tell_end(alloc, world, &scripts, &played, to, files, out, remarks);
             drop(scripts);
             end
         }
@@ -121,6 +122,7 @@ fn resume_state<F: Files, S: Sink>(
     hooks: &Hooks,
     files: &mut F,
     out: &mut S,
+    remarks: &mut Remarks,
 ) -> Result<(), Status>
     requires hooks { AreServing (map (λ h. h.known) hooks.now.all.items) }
     ensures does { IsTrue F.tells → IsTrue S.tells → DoesOn F.contents S.taken
@@ -133,7 +135,7 @@ fn resume_state<F: Files, S: Sink>(
     state.keeps();
     match state.restore(alloc) {
         Err(NoMemory) => Err(Status::Memory),
-        Ok(opened) => play_rest(alloc, opened, to, hooks, files, out),
+        Ok(opened) => play_rest(alloc, opened, to, hooks, files, out, remarks),
     }
 }
 
@@ -147,6 +149,7 @@ pub fn resume_play<F: Files, S: Sink>(
     hooks: &Hooks,
     files: &mut F,
     out: &mut S,
+    remarks: &mut Remarks,
 ) -> Result<(), Status>
     requires hooks { AreServing (map (λ h. h.known) hooks.now.all.items) }
     ensures does { IsTrue F.tells → IsTrue S.tells → DoesOn F.contents S.taken
@@ -159,6 +162,6 @@ pub fn resume_play<F: Files, S: Sink>(
 {
     match read_state_file(alloc, state, files, out) {
         Err(status) => Err(status),
-        Ok(state) => resume_state(alloc, state, to, hooks, files, out),
+        Ok(state) => resume_state(alloc, state, to, hooks, files, out, remarks),
     }
 }

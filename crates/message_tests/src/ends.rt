@@ -28,6 +28,7 @@ fn said(
         number,
         line: b"",
         trouble,
+        random_used_up: false,
     };
     tell_end(alloc, all.as_slice(), end, &mut files, &mut err);
     Ok(err)
@@ -70,6 +71,7 @@ fn fails_quietly(alloc: Global) -> Result<bool, NoMemory> {
         number: 1,
         line: b"",
         trouble: None,
+        random_used_up: false,
     };
     tell_end(alloc, all.as_slice(), end, &mut files, &mut err);
     Ok(err.bytes().is_empty() && err.calls() == 1)

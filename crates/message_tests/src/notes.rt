@@ -1,6 +1,6 @@
 //! Notes on plays that did their work, over files in memory.
 
-use crate::rows::{Held, Row, are_said};
+use crate::rows::{Held, Row, are_said, are_said_used_up};
 
 /// An area of one creature with the tag `CAT`, whose heartbeat is the script `cat`.
 const CAT: &[u8] = b"\
@@ -18,6 +18,21 @@ const NONE: &[u8] = b"\
     ARE V3.28\x00\x00\x00\x01\x00\x00\x00D\x00\x00\x00\x00\x00\x00\x00D\x00\x00\x00\
     \x00\x00\x00\x00D\x00\x00\x00\x00\x00\x00\x00D\x00\x00\x00\x00\x00\x00\x00D\x00\
     \x00\x00\x00\x00\x00\x00\xff\xff\xff\xff\xff\xff\xff\xff\x00\x00\x00\x00";
+
+/// A state with two random numbers, and else nothing.
+const TWO_LEFT: &[u8] = b"\
+    NWQSAVE1\0\0\0\0\0\0\0\0\0\x02\xe8\x03\0\0\0\0\0\0\x0a\0\0\0\0\0\0\0\
+    \x60\xea\0\0\0\0\0\0\0\0\0\0\0\0\0\0\x01\0\0\0\0\0\0\0\x03\0\0\0\0\0\0\0\
+    \x01\0\0\0\0\0\0\0\x02\0\0\0\x01\0\0\0\x07\0\0\0\0\0\0\0\0\0\0\0";
+
+/// The same with none.
+const NONE_LEFT: &[u8] = b"\
+    NWQSAVE1\0\0\0\0\0\0\0\0\0\x02\xe8\x03\0\0\0\0\0\0\x0a\0\0\0\0\0\0\0\
+    \x60\xea\0\0\0\0\0\0\0\0\0\0\0\0\0\0\x01\0\0\0\0\0\0\0\x03\0\0\0\0\0\0\0\
+    \x01\0\0\0\0\0\0\0\0\0\0\0\0\0\0\0\0\0\0\0";
+
+/// A plan with random numbers.
+const DICE: &[u8] = b"NWQ PLAN 1\nrandom 4\nrandom 1 2\n";
 
 /// Plays and runs that ended with 0 or 5.
 const NOTES: &[Row] = &[
@@ -88,7 +103,153 @@ const NOTES: &[Row] = &[
     },
 ];
 
+/// Plays of which the program remarks that they left no random numbers.
+const USED_UP: &[Row] = &[
+    Row {
+        words: &["nwq", "play", "-", "a.git", "a.plan", "b.git"],
+        files: &[
+            Held {
+                name: "a.git",
+                bytes: CAT,
+            },
+            Held {
+                name: "a.plan",
+                bytes: DICE,
+            },
+        ],
+        number: 5,
+        line: b"end entries clock 3 entries 4 instructions 30\n",
+        said: "a.plan: note: the plan's random numbers, 3 in all, are used up: each further \
+            `Random` gives 0\n",
+    },
+    // Of a plan that gives none, another note tells.
+    Row {
+        words: &["nwq", "play", "-", "a.git", "a.plan", "b.git"],
+        files: &[
+            Held {
+                name: "a.git",
+                bytes: CAT,
+            },
+            Held {
+                name: "a.plan",
+                bytes: b"NWQ PLAN 1\nscript p\n",
+            },
+            Held {
+                name: "p.nss",
+                bytes: b"void main() { PrintInteger(Random(6)); }",
+            },
+        ],
+        number: 0,
+        line: b"end done clock 0 entries 1 instructions 9\n",
+        said: "a.plan: note: the script `p` calls `Random`, which gives 0: the play has no random \
+            numbers\n",
+    },
+    Row {
+        words: &["nwq", "resume", "s.nwq", "b.git"],
+        files: &[Held {
+            name: "s.nwq",
+            bytes: TWO_LEFT,
+        }],
+        number: 0,
+        line: b"end done clock 3 entries 4 instructions 30\n",
+        said: "s.nwq: note: the state's random numbers, 2 in all, are used up: each further \
+            `Random` gives 0\n",
+    },
+    Row {
+        words: &["nwq", "resume", "s.nwq", "b.git"],
+        files: &[Held {
+            name: "s.nwq",
+            bytes: NONE_LEFT,
+        }],
+        number: 0,
+        line: b"end done clock 3 entries 4 instructions 30\n",
+        said: "",
+    },
+    // The file of the state has another one's bytes by now.
+    Row {
+        words: &["nwq", "resume", "s.nwq", "s.nwq"],
+        files: &[Held {
+            name: "s.nwq",
+            bytes: CAT,
+        }],
+        number: 0,
+        line: b"end done clock 3 entries 4 instructions 30\n",
+        said: "",
+    },
+];
+
+/// Plays that were saved: what is left stands in the state, unless a limit stopped an entry.
+const SAVED: &[Row] = &[
+    Row {
+        words: &["nwq", "save", "-", "a.git", "a.plan", "4", "s.nwq"],
+        files: &[
+            Held {
+                name: "a.git",
+                bytes: CAT,
+            },
+            Held {
+                name: "a.plan",
+                bytes: DICE,
+            },
+            Held {
+                name: "s.nwq",
+                bytes: NONE_LEFT,
+            },
+        ],
+        number: 0,
+        line: b"saved s.nwq entries 4\n",
+        said: "a.plan: note: the plan's random numbers, 3 in all, are used up: each further \
+            `Random` gives 0\n",
+    },
+    Row {
+        words: &["nwq", "save", "-", "a.git", "a.plan", "4", "s.nwq"],
+        files: &[
+            Held {
+                name: "a.git",
+                bytes: CAT,
+            },
+            Held {
+                name: "a.plan",
+                bytes: DICE,
+            },
+            Held {
+                name: "s.nwq",
+                bytes: TWO_LEFT,
+            },
+        ],
+        number: 0,
+        line: b"saved s.nwq entries 4\n",
+        said: "",
+    },
+    Row {
+        words: &["nwq", "save", "-", "a.git", "a.plan", "4", "s.nwq"],
+        files: &[
+            Held {
+                name: "a.git",
+                bytes: CAT,
+            },
+            Held {
+                name: "a.plan",
+                bytes: DICE,
+            },
+            Held {
+                name: "s.nwq",
+                bytes: NONE_LEFT,
+            },
+        ],
+        number: 5,
+        line: b"end instructions clock 3 entries 4 instructions 30\n",
+        said: "",
+    },
+];
+
 #[test]
 fn notes(rt: HostRuntime) {
     assert!(rt; are_said(rt.alloc(), NOTES));
+}
+
+#[test]
+fn random_numbers(rt: HostRuntime) {
+    assert!(rt; are_said_used_up(rt.alloc(), USED_UP));
+    assert!(rt; are_said(rt.alloc(), SAVED));
 }

@@ -36,7 +36,7 @@ fn words_of(alloc: Global, words: &[&str]) -> Result<Vec<String>, NoMemory> {
     Ok(all)
 }
 
-fn is_said(alloc: Global, row: &Row) -> Result<bool, NoMemory> {
+fn is_said(alloc: Global, row: &Row, random_used_up: bool) -> Result<bool, NoMemory> {
     let mut files = files_of(alloc, row.files)?;
     let words = words_of(alloc, row.words)?;
     let mut err = MemSink::new(alloc);
@@ -44,6 +44,7 @@ fn is_said(alloc: Global, row: &Row) -> Result<bool, NoMemory> {
         number: row.number,
         line: row.line,
         trouble: None,
+        random_used_up,
     };
     tell_end(alloc, words.as_slice(), end, &mut files, &mut err);
     Ok(err.bytes() == row.said.as_bytes())
@@ -52,5 +53,11 @@ fn is_said(alloc: Global, row: &Row) -> Result<bool, NoMemory> {
 /// Whether all this is said.
 pub(crate) fn are_said(alloc: Global, rows: &[Row]) -> bool {
     rows.iter()
-        .all(|row| matches!(is_said(alloc, row), Ok(true)))
+        .all(|row| matches!(is_said(alloc, row, false), Ok(true)))
+}
+
+/// Whether all this is said of plays that left no random numbers.
+pub(crate) fn are_said_used_up(alloc: Global, rows: &[Row]) -> bool {
+    rows.iter()
+        .all(|row| matches!(is_said(alloc, row, true), Ok(true)))
 }

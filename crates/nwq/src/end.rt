@@ -14,6 +14,7 @@ ghost use Rattle.nwq.specs.Ending.{EndsWanting, form_in};
 use crate::whole::run_all;
 use command_messages::{End, LastLine, tell_end};
 use nwq_outside::{Files, RealFiles, Sink, Trouble};
+use nwq_top::Remarks;
 use nwq_top::laws::one_outcome;
 use std::alloc::{AllocGlobal, Global};
 use std::process::ExitCode;
@@ -48,6 +49,7 @@ fn told<F: Troubled, S: Sink, A: Files, E: Sink>(
     alloc: Global,
     all: &[String],
     number: u8,
+    remarks: Remarks,
     files: &F,
     out: &LastLine<S>,
     again: &mut A,
@@ -60,6 +62,7 @@ fn told<F: Troubled, S: Sink, A: Files, E: Sink>(
         number,
         line: out.line(),
         trouble: files.trouble(),
+        random_used_up: remarks.random_used_up,
     };
     tell_end(alloc, all, end, again, err);
     ExitCode::from(number)
@@ -108,16 +111,35 @@ pub(crate) fn end_of<F: Files + Troubled, S: Sink, A: Files, E: Sink>(
     ensures same { A.contents again.new ≡ A.contents again.old }
 {
     one_outcome();
+    let mut remarks = Remarks::none();
     match words {
         Words::All(all) => {
-            let number = run_all(alloc, all.as_slice(), files, out);
-            told(alloc, all.as_slice(), number, files, out, again, err)
+            let number = run_all(alloc, all.as_slice(), files, out, &mut remarks);
+            told(
+                alloc,
+                all.as_slice(),
+                number,
+                remarks,
+                files,
+                out,
+                again,
+                err,
+            )
         }
         Words::NoText => {
             let none = Vec::new(alloc);
-            let number = run_all(alloc, none.as_slice(), files, out);
-            told(alloc, none.as_slice(), number, files, out, again, err)
+            let number = run_all(alloc, none.as_slice(), files, out, &mut remarks);
+            told(
+                alloc,
+                none.as_slice(),
+                number,
+                remarks,
+                files,
+                out,
+                again,
+                err,
+            )
         }
-        Words::NoMemory => told(alloc, &[], WANT_OF_MEMORY, files, out, again, err),
+        Words::NoMemory => told(alloc, &[], WANT_OF_MEMORY, remarks, files, out, again, err),
     }
 }

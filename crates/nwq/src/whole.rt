@@ -14,7 +14,7 @@ use hook_table::{Call, Hooks, cell_call};
 use nwq_hooks::{all_are_put, call_function, put_cell_hook, put_hook};
 use nwq_outside::{Files, Sink};
 use nwq_top::laws::{names_change, one_outcome, whole_means};
-use nwq_top::{nwq_program, program_tables};
+use nwq_top::{Remarks, nwq_program, program_tables};
 use nwq_value::{Args, NoMemory, Value};
 use std::alloc::Global;
 use table_2da::Tables;
@@ -32,6 +32,7 @@ fn run_hooked<F: Files, S: Sink>(
     tables: Tables,
     files: &mut F,
     out: &mut S,
+    remarks: &mut Remarks,
 ) -> Result<u8, NoMemory>
     ensures number { IfOk result (λ number. status_number (status_numbered number) ≡ number) }
     ensures does { IfOk result (λ number. IsTrue F.tells → IsTrue S.tells →
@@ -70,7 +71,7 @@ fn run_hooked<F: Files, S: Sink>(
     )?;
     put_cell_hook(alloc, &mut hooks, cells, tables)?;
     all_are_put(&hooks);
-    Ok(nwq_program(alloc, all, files, out, &hooks))
+    Ok(nwq_program(alloc, all, files, out, &hooks, remarks))
 }
 
 /// Does what the words say with hooks that look cells up in these tables: the number with which the
@@ -82,6 +83,7 @@ fn run_with<F: Files, S: Sink>(
     tables: Tables,
     files: &mut F,
     out: &mut S,
+    remarks: &mut Remarks,
 ) -> u8
     ensures number { status_number (status_numbered result) ≡ result }
     ensures does { IsTrue F.tells → IsTrue S.tells →
@@ -95,7 +97,7 @@ fn run_with<F: Files, S: Sink>(
         (F.contents files.old) (F.contents files.new) }
     ensures only { ComesOf (form_of (words_of all.now)) (status_numbered result) }
 {
-    match run_hooked(alloc, all, tables, files, out) {
+    match run_hooked(alloc, all, tables, files, out, remarks) {
         Err(NoMemory) => WANT_OF_MEMORY,
         Ok(number) => number,
     }
@@ -104,7 +106,13 @@ fn run_with<F: Files, S: Sink>(
 /// Reads the tables that the words give, and does what the words say with hooks that look cells up
 /// in them: the number with which the program ends.
 #[tactic(auto, using(crate::proofs::EndLemmas::program_ends))]
-fn run_in_order<F: Files, S: Sink>(alloc: Global, all: &[String], files: &mut F, out: &mut S) -> u8
+fn run_in_order<F: Files, S: Sink>(
+    alloc: Global,
+    all: &[String],
+    files: &mut F,
+    out: &mut S,
+    remarks: &mut Remarks,
+) -> u8
     ensures number { status_number (status_numbered result) ≡ result }
     ensures does { IsTrue F.tells → IsTrue S.tells →
         Does (whole_work (form_of (words_of all.now))) (F.contents files.old) (S.taken out.old)
@@ -118,17 +126,18 @@ fn run_in_order<F: Files, S: Sink>(alloc: Global, all: &[String], files: &mut F,
 {
     match program_tables(alloc, all, files, out) {
         Err(number) => number,
-        Ok(tables) => run_with(alloc, all, tables, files, out),
+        Ok(tables) => run_with(alloc, all, tables, files, out, remarks),
     }
 }
 
 /// The whole program, given all its words, the files and standard output: the number with
-/// which it ends.
+/// which it ends. What is remarked of a play is for the notes on it.
 pub(crate) fn run_all<F: Files, S: Sink>(
     alloc: Global,
     all: &[String],
     files: &mut F,
     out: &mut S,
+    remarks: &mut Remarks,
 ) -> u8
     ensures number { status_number (status_numbered result) ≡ result }
     ensures does { IsTrue F.tells → IsTrue S.tells →
@@ -161,5 +170,5 @@ pub(crate) fn run_all<F: Files, S: Sink>(
     one_outcome();
     names_change();
     files.contents_are_bytes();
-    run_in_order(alloc, all, files, out)
+    run_in_order(alloc, all, files, out, remarks)
 }

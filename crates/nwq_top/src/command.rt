@@ -9,7 +9,7 @@ ghost use Rattle.nwq_top.specs.Endings.{ComesOf, ComesOfResult};
 use command_compile::compile_file;
 use command_files::{assemble_file, check_file, disassemble_file, show_tree};
 use command_generate::generate;
-use command_play::play_files;
+use command_play::{GameNames, Remarks, play_files};
 use command_run::run;
 use command_save::{resume_play, save_play};
 use command_words::{Command, command_of};
@@ -26,6 +26,7 @@ pub fn command<F: Files, S: Sink>(
     files: &mut F,
     out: &mut S,
     hooks: &Hooks,
+    remarks: &mut Remarks,
 ) -> Result<(), Status>
     requires hooks { AreServing (map (λ h. h.known) hooks.now.all.items) }
     ensures does { IsTrue F.tells → IsTrue S.tells →
@@ -53,7 +54,15 @@ pub fn command<F: Files, S: Sink>(
             plan,
             to,
             ..
-        } => play_files(alloc, header, area, plan, to, hooks, files, out),
+        } => {
+            let game = GameNames {
+                header,
+                area,
+                plan,
+                to,
+            };
+            play_files(alloc, game, hooks, files, out, remarks)
+        }
         Command::Generate(number) => generate(alloc, number, hooks, out),
         Command::Save {
             header,
@@ -63,11 +72,14 @@ pub fn command<F: Files, S: Sink>(
             state,
             ..
         } => save_play(alloc, header, area, plan, entries, state, hooks, files, out),
-        Command::Resume { state, to, .. } => resume_play(alloc, state, to, hooks, files, out),
+        Command::Resume { state, to, .. } => {
+            resume_play(alloc, state, to, hooks, files, out, remarks)
+        }
     }
 }
 
-/// The status with which the command ends that the words are.
+/// The status with which the command ends that the words are. What is remarked of a play is for
+/// notes after the work, and no part of it.
 #[tactic(auto, using(crate::proofs::EndingLemmas::stops_come))]
 pub fn status_of_words<F: Files, S: Sink>(
     alloc: Global,
@@ -75,6 +87,7 @@ pub fn status_of_words<F: Files, S: Sink>(
     files: &mut F,
     out: &mut S,
     hooks: &Hooks,
+    remarks: &mut Remarks,
 ) -> Status
     requires hooks { AreServing (map (λ h. h.known) hooks.now.all.items) }
     ensures does { IsTrue F.tells → IsTrue S.tells →
@@ -88,7 +101,7 @@ pub fn status_of_words<F: Files, S: Sink>(
         (F.contents files.old) (F.contents files.new) }
     ensures only { ComesOf (form_of (map string_bytes words.now)) result }
 {
-    match command(alloc, words, files, out, hooks) {
+    match command(alloc, words, files, out, hooks, remarks) {
         Ok(()) => Status::Done,
         Err(status) => status,
     }

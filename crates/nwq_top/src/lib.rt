@@ -44,6 +44,7 @@ ghost use Rattle.nwq_top.specs.Meaning.{Means};
 
 use crate::command::status_of_words;
 use crate::laws::{names_change, one_outcome, work_means};
+pub use command_play::Remarks;
 pub use command_work::Status;
 use hook_table::Hooks;
 use nwq_outside::{Files, Sink};
@@ -98,5 +99,6 @@ pub fn nwq_main<F: Files, S: Sink>(
     one_outcome();
     names_change();
     files.contents_are_bytes();
-    status_of_words(alloc, words, files, out, hooks)
+    let mut remarks = Remarks::none();
+    status_of_words(alloc, words, files, out, hooks, &mut remarks)
 }

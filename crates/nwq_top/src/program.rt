@@ -9,7 +9,10 @@ ghost use Rattle.nwq_top.specs.Endings.{ComesOf};
 ghost use Rattle.nwq_top.specs.Meaning.{Means};
 ghost use Rattle.nwq_top.specs.Program.{by_status, status_number, status_numbered, words_of};
 
-use crate::{nwq_main, nwq_tables};
+use crate::command::status_of_words;
+use crate::laws::work_means;
+use crate::nwq_tables;
+use command_play::Remarks;
 use command_work::Status;
 use hook_table::Hooks;
 use nwq_outside::{Files, Sink};
@@ -61,16 +64,18 @@ pub fn program_tables<F: Files, S: Sink>(
 }
 
 /// What the program does, given all its words, the files, standard output and the hooks
-/// that scripts call: the number with which it ends.
+/// that scripts call: the number with which it ends. It is what [`nwq_main`](crate::nwq_main) does;
+/// what is remarked of a play is handed on for notes, and no clause speaks of it.
 pub fn nwq_program<F: Files, S: Sink>(
     alloc: Global,
     all: &[String],
     files: &mut F,
     out: &mut S,
     hooks: &Hooks,
+    remarks: &mut Remarks,
 ) -> u8
     requires hooks { AreServing (map (λ h. h.known) hooks.now.all.items) }
-    // It is the number of a status, and the top call did what it promises for the words with this
+    // It is the number of a status, and what the top call promises of the words was done with this
     // status.
     ensures number { status_number (status_numbered result) ≡ result }
     ensures does { IsTrue F.tells → IsTrue S.tells →
@@ -89,6 +94,8 @@ pub fn nwq_program<F: Files, S: Sink>(
         (F.contents files.old) (F.contents files.new) }
     ensures only { ComesOf (form_of (words_of all.now)) (status_numbered result) }
 {
-    let status = nwq_main(alloc, after_name(all), files, out, hooks);
+    work_means();
+    files.contents_are_bytes();
+    let status = status_of_words(alloc, after_name(all), files, out, hooks, remarks);
     number_of(status)
 }

@@ -61,14 +61,15 @@ fn of_games(alloc: Global, hooks: &Hooks) -> Result<[Option<usize>; 7], NoMemory
 
 /// The same of words that are no command, files that aren't there or are too long, and the whole
 /// program.
-fn of_stops(alloc: Global, hooks: &Hooks) -> Result<[Option<usize>; 4], NoMemory>
+fn of_stops(alloc: Global, hooks: &Hooks) -> Result<[Option<usize>; 5], NoMemory>
     requires hooks { AreServing (map (λ h. h.known) hooks.now.all.items) }
 {
     let answered = words::first_answered(alloc, hooks)?;
     let missing = reads::first_missing(alloc, hooks)?;
     let long = reads::first_long(alloc, hooks)?;
     let whole = programs::first_wrong(alloc, hooks)?;
-    Ok([answered, missing, long, whole])
+    let noted = programs::first_noted(alloc, hooks)?;
+    Ok([answered, missing, long, whole, noted])
 }
 
 /// What is tried with hooks: each test has a minute.
@@ -89,7 +90,7 @@ fn rows_hold(alloc: Global, rt: &impl Abort, hooks: &Hooks) -> Result<(), Fail>
     assert!(rt; files::is_refused_short(alloc, hooks)?);
     assert_eq!(rt; of_games(alloc, hooks)?, [None; 7]);
     assert_eq!(rt; of_files(alloc, hooks)?, [None; 5]);
-    assert_eq!(rt; of_stops(alloc, hooks)?, [None; 4]);
+    assert_eq!(rt; of_stops(alloc, hooks)?, [None; 5]);
     assert_eq!(rt; of_scripts(alloc, hooks)?, [None; 7]);
     Ok(())
 }

@@ -10,9 +10,9 @@ use Rattle.command_play.proofs.play.play_plan.Goals as goal
 
 pub returns-in-Ok-clause-does : goal.returns-in-Ok-clause-does
 returns-in-Ok-clause-does g c = λ files_tell sink_tells.
-    let cell = cells_of (map (λ h. h.known) c.args.hooks.now.all.items) in
-    let p = played cell c.args.table.now c.args.plan.now (scripts_of c.args.scripts.now) (plan_world c.args.area c.args.plan.now) in
-    trace_whole cell c.args.table.now c.args.area c.args.plan.now c.args.to.now (scripts_of c.args.scripts.now) (g.F.Files.contents c.args.files.now)
+    let cell = cells_of (map (λ h. h.known) c.args.setting.hooks.now.all.items) in
+    let p = played cell c.args.setting.table.now c.args.plan.now (scripts_of c.args.setting.scripts.now) (plan_world c.args.area c.args.plan.now) in
+    trace_whole cell c.args.setting.table.now c.args.area c.args.plan.now c.args.to.now (scripts_of c.args.setting.scripts.now) (g.F.Files.contents c.args.files.now)
     (g.F.Files.contents c.tell_end.new.files) (g.S.Sink.taken c.args.out.now) (g.S.Sink.taken c.play_lines.new.out) c.tell_end.result
     (g.S.Sink.taken c.tell_end.new.out) (c.in-Ok.ensures.trace sink_tells) (c.tell_end.ensures.does files_tell sink_tells p c.in-Ok.ensures.ending)
 
