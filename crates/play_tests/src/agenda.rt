@@ -10,7 +10,11 @@ use std::test::Fail;
 fn told(entry: Option<Entry<u32>>) -> Option<(u64, u64, u32)> {
     match entry {
         None => None,
-        Some(entry) => Some((entry.due, entry.number, object_of(&entry.kind))),
+        Some(entry) => {
+            let told = (entry.due, entry.number, object_of(&entry.kind));
+            drop(entry);
+            Some(told)
+        }
     }
 }
 
@@ -21,6 +25,17 @@ fn object_of(kind: &Kind<u32>) -> u32 {
         Kind::Turn { object } => *object,
         Kind::Unapply { object } => *object,
     }
+}
+
+/// Whether the four entries of the test below are taken in their order, and none behind them.
+fn are_taken(agenda: &mut Agenda<u32>) -> bool {
+    agenda.next_due() == Some(0)
+        && told(agenda.take()) == Some((0, 2, 3))
+        && told(agenda.take()) == Some((5, 0, 9))
+        && told(agenda.take()) == Some((5, 1, 1))
+        && told(agenda.take()) == Some((5, 3, 2))
+        && told(agenda.take()).is_none()
+        && agenda.next_due().is_none()
 }
 
 #[test]
@@ -43,12 +58,7 @@ fn ties_go_by_number(rt: HostRuntime) -> Result<(), Fail> {
         action: 0u32,
     };
     agenda.post(5, stored);
-    assert_eq!(rt; agenda.next_due(), Some(0));
-    assert_eq!(rt; told(agenda.take()), Some((0, 2, 3)));
-    assert_eq!(rt; told(agenda.take()), Some((5, 0, 9)));
-    assert_eq!(rt; told(agenda.take()), Some((5, 1, 1)));
-    assert_eq!(rt; told(agenda.take()), Some((5, 3, 2)));
-    assert!(rt; agenda.take().is_none() && agenda.next_due().is_none());
+    assert!(rt; are_taken(&mut agenda));
     Ok(())
 }
 
@@ -59,7 +69,7 @@ fn a_turn_is_cancelled(rt: HostRuntime) -> Result<(), Fail> {
     agenda.post(5, Kind::Turn { object: 4 });
     assert!(rt; !agenda.cancel_turn(9));
     assert!(rt; agenda.cancel_turn(4));
-    assert!(rt; agenda.take().is_none());
+    assert!(rt; told(agenda.take()).is_none());
     Ok(())
 }
 

@@ -1,6 +1,6 @@
 //! The rule of one instruction, row by row. Shapes are written as letters, the lowest cell first:
 //! i, t, o, e and v for an int, a text, an object, an effect and an event, and B for a base.
-ghost use Rattle.std.specs.Prelude.{◌≡◌, ◌<◌, ◌^◌, IfOk};
+ghost use Rattle.std.specs.Prelude.{◌≡◌, ◌<◌, ◌^◌, IfOk, IsTrue};
 ghost use Rattle.ncs_code.specs.Plain.{plain};
 ghost use Rattle.stack_shape.specs.Rule.{IsOneStep};
 
@@ -10,26 +10,10 @@ use stack_shape::{Shape, Slot, Slots, Unders, step, suffix};
 use std::alloc::Global;
 use std::test::*;
 
-/// A shape as it is written.
+/// A shape as it is written: the cells beneath BP, those of its own, what is saved, and how many
+/// states are pending.
 #[derive(Clone, Copy)]
-struct Written<'a> {
-    cells: &'a [u8],
-    under: &'a [u8],
-    saved: &'a [&'a [u8]],
-    pending: u32,
-}
-
-/// Nothing is beneath BP, saved or pending.
-fn of_cells(cells: &[u8]) -> Written<'_>
-    ensures { result.pending ≡ 0 }
-{
-    Written {
-        cells,
-        under: b"",
-        saved: &[],
-        pending: 0,
-    }
-}
+struct Written<'a>(&'a [u8], &'a [u8], &'a [&'a [u8]], u32);
 
 fn slot_of(letter: u8) -> Slot {
     match letter {
@@ -58,33 +42,40 @@ fn are_slots(slots: &[Slot], letters: &[u8]) -> bool {
             .all(|(slot, letter)| *slot == slot_of(*letter))
 }
 
-fn shape_of(alloc: Global, written: &Written<'_>) -> Result<Shape, NoMemory>
-    ensures { IfOk result (λ shape. shape.pending ≡ written.now.pending) }
-{
-    let mut saved = Unders::new(alloc);
-    for under in written.saved {
-        saved.push(slots_of(alloc, under)?)?;
+fn unders_of(alloc: Global, saved: &[&[u8]]) -> Result<Unders, NoMemory> {
+    let mut unders = Unders::new(alloc);
+    for under in saved {
+        unders.push(slots_of(alloc, under)?)?;
     }
-    let under = slots_of(alloc, written.under)?;
+    Ok(unders)
+}
+
+fn shape_of(alloc: Global, written: &Written<'_>) -> Result<Shape, NoMemory>
+    ensures { IfOk result (λ shape. shape.pending ≡ written.now.3) }
+{
+    let saved = unders_of(alloc, written.2)?;
+    let under = slots_of(alloc, written.0)?;
     Ok(Shape {
-        cells: slots_of(alloc, written.cells)?,
+        cells: slots_of(alloc, written.1)?,
         under,
         saved,
-        pending: written.pending,
+        pending: written.3,
     })
 }
 
-fn is_shape(shape: &Shape, written: &Written<'_>) -> bool {
-    are_slots(shape.cells.as_slice(), written.cells)
-        && are_slots(shape.under.as_slice(), written.under)
-        && shape.saved.len() == written.saved.len()
-        && shape
-            .saved
-            .as_slice()
+fn are_saved(saved: &[Slots], written: &[&[u8]]) -> bool {
+    saved.len() == written.len()
+        && saved
             .iter()
-            .zip(written.saved)
+            .zip(written)
             .all(|(slots, letters)| are_slots(slots.as_slice(), letters))
-        && shape.pending == written.pending
+}
+
+fn is_shape(shape: &Shape, written: &Written<'_>) -> bool {
+    are_slots(shape.cells.as_slice(), written.1)
+        && are_slots(shape.under.as_slice(), written.0)
+        && are_saved(shape.saved.as_slice(), written.2)
+        && shape.pending == written.3
 }
 
 fn is_after(after: &Option<Shape>, wanted: &Option<Written<'_>>) -> bool {
@@ -95,322 +86,481 @@ fn is_after(after: &Option<Shape>, wanted: &Option<Written<'_>>) -> bool {
     }
 }
 
-/// Whether the shape after the instruction is the wanted one, under this header.
-fn leads_under(
+/// Whether the instruction is neither JSR nor RETN.
+fn is_one_step(op: &Op<'_>) -> bool
+    ensures one { IsTrue result → IsOneStep (plain op.now) }
+{
+    match op {
+        Op::Jsr { .. } | Op::Retn => false,
+        _ => true,
+    }
+}
+
+/// Whether the instruction leads from this shape to that one, or has no rule on it, under a header.
+fn is_led(
     alloc: Global,
     table: &Table,
     op: &Op<'_>,
-    before: Written<'_>,
-    wanted: Option<Written<'_>>,
+    shape: &Shape,
+    wanted: &Option<Written<'_>>,
 ) -> bool
     requires one { IsOneStep (plain op.now) }
-    requires pending { before.pending < 2 ^ 31 }
+    requires pending { shape.now.pending < 2 ^ 31 }
 {
-    match shape_of(alloc, &before) {
+    match step(alloc, op, shape, table) {
         Err(NoMemory) => false,
-        Ok(shape) => match step(alloc, op, &shape, table) {
-            Err(NoMemory) => false,
-            Ok(after) => is_after(&after, &wanted),
-        },
-    }
-}
-
-/// The same for an instruction that calls no routine.
-fn leads(alloc: Global, op: &Op<'_>, before: Written<'_>, wanted: Option<Written<'_>>) -> bool
-    requires one { IsOneStep (plain op.now) }
-    requires pending { before.pending < 2 ^ 31 }
-{
-    leads_under(alloc, &Table::new(alloc), op, before, wanted)
-}
-
-/// The same for shapes of which the cells alone change, and nothing else is there.
-fn gives(alloc: Global, op: &Op<'_>, before: &[u8], wanted: &[u8]) -> bool
-    requires { IsOneStep (plain op.now) }
-{
-    leads(alloc, op, of_cells(before), Some(of_cells(wanted)))
-}
-
-/// Whether the instruction has no rule on these cells.
-fn refuses(alloc: Global, op: &Op<'_>, before: &[u8]) -> bool
-    requires { IsOneStep (plain op.now) }
-{
-    leads(alloc, op, of_cells(before), None)
-}
-
-#[test]
-fn values_are_pushed(rt: HostRuntime) -> Result<(), Fail> {
-    let alloc = rt.alloc();
-    let all = gives(alloc, &Op::RsAdd { kind: 0x03 }, b"t", b"ti")
-        && gives(alloc, &Op::RsAdd { kind: 0x05 }, b"", b"t")
-        && gives(alloc, &Op::RsAdd { kind: 0x06 }, b"", b"o")
-        && gives(alloc, &Op::RsAdd { kind: 0x10 }, b"", b"e")
-        && gives(alloc, &Op::RsAdd { kind: 0x11 }, b"B", b"Bv")
-        && refuses(alloc, &Op::RsAdd { kind: 0x04 }, b"")
-        && gives(alloc, &Op::Const(Lit::Int(1)), b"t", b"ti")
-        && gives(alloc, &Op::Const(Lit::Text(b"a")), b"", b"t")
-        && gives(alloc, &Op::Const(Lit::Object(0)), b"", b"o")
-        && refuses(alloc, &Op::Const(Lit::Float([0; 4])), b"");
-    assert!(rt; all);
-    Ok(())
-}
-
-/// Where a copy begins and its size, the cells before it, and those after it where it has a rule.
-type CopyRow = (i32, u16, &'static [u8], Option<&'static [u8]>);
-
-const READS: [CopyRow; 7] = [
-    (-8, 4, b"oti", Some(b"otit")),
-    (-12, 8, b"oti", Some(b"otiot")),
-    (-12, 4, b"ti", None),
-    (-8, 4, b"Bi", None),
-    (-8, 0, b"ti", None),
-    (-4, 8, b"ti", None),
-    (-6, 4, b"ti", None),
-];
-
-const WRITES: [CopyRow; 3] = [
-    (-8, 4, b"ii", Some(b"ii")),
-    (-8, 4, b"ti", None),
-    (-8, 4, b"Bi", None),
-];
-
-/// Whether the instruction leads from these cells to those, or has no rule on them.
-fn leads_to(alloc: Global, op: &Op<'_>, before: &[u8], wanted: Option<&[u8]>) -> bool
-    requires { IsOneStep (plain op.now) }
-{
-    match wanted {
-        None => refuses(alloc, op, before),
-        Some(wanted) => gives(alloc, op, before, wanted),
-    }
-}
-
-fn are_read_as_wanted(alloc: Global) -> bool {
-    for (offset, size, before, wanted) in READS {
-        if !leads_to(alloc, &Op::CpTopSp { offset, size }, before, wanted) {
-            return false;
+        Ok(after) => {
+            let is = is_after(&after, wanted);
+            drop(after);
+            is
         }
     }
-    true
 }
 
-fn are_written_as_wanted(alloc: Global) -> bool {
-    for (offset, size, before, wanted) in WRITES {
-        if !leads_to(alloc, &Op::CpDownSp { offset, size }, before, wanted) {
-            return false;
+/// Whether the instruction leads from what is written to what is wanted, or has no rule on it,
+/// under a header.
+fn leads(
+    alloc: Global,
+    table: &Table,
+    op: &Op<'_>,
+    before: &Written<'_>,
+    wanted: &Option<Written<'_>>,
+) -> bool {
+    if !is_one_step(op) || before.3 >= 2_147_483_648 {
+        return false;
+    }
+    match shape_of(alloc, before) {
+        Err(NoMemory) => false,
+        Ok(shape) => {
+            let is = is_led(alloc, table, op, &shape, wanted);
+            drop(shape);
+            is
         }
     }
-    true
 }
 
-#[test]
-fn cells_are_copied(rt: HostRuntime) -> Result<(), Fail> {
-    let alloc = rt.alloc();
-    assert!(rt; are_read_as_wanted(alloc));
-    assert!(rt; are_written_as_wanted(alloc));
-    Ok(())
-}
+/// An instruction, the shape before it, and the one after it where it has a rule.
+type Row = (Op<'static>, Written<'static>, Option<Written<'static>>);
 
-#[test]
-fn ints_are_reckoned(rt: HostRuntime) -> Result<(), Fail> {
-    let alloc = rt.alloc();
-    let all = gives(alloc, &Op::LogAnd, b"tii", b"ti")
-        && gives(alloc, &Op::UshRight, b"ii", b"i")
-        && refuses(alloc, &Op::Mod, b"it")
-        && refuses(alloc, &Op::ExcOr, b"i")
-        && gives(alloc, &Op::Leq { kind: 0x20 }, b"ii", b"i")
-        && gives(alloc, &Op::Div { kind: 0x20 }, b"ii", b"i")
-        && refuses(alloc, &Op::Sub { kind: 0x21 }, b"ii")
-        && gives(alloc, &Op::Add { kind: 0x20 }, b"ii", b"i")
-        && gives(alloc, &Op::Add { kind: 0x23 }, b"tt", b"t")
-        && refuses(alloc, &Op::Add { kind: 0x23 }, b"ii")
-        && gives(alloc, &Op::Neg { kind: 0x03 }, b"i", b"i")
-        && refuses(alloc, &Op::Neg { kind: 0x04 }, b"i")
-        && gives(alloc, &Op::Comp, b"i", b"i")
-        && refuses(alloc, &Op::Not, b"o")
-        && gives(alloc, &Op::IncISp { offset: -8 }, b"it", b"it")
-        && refuses(alloc, &Op::DecISp { offset: -4 }, b"it");
-    assert!(rt; all);
-    Ok(())
-}
-
-/// The type byte and size of a comparison, the cells before it, and those after it where it has a
-/// rule.
-type CompareRow = (u8, u16, &'static [u8], Option<&'static [u8]>);
-
-const EQUAL: [CompareRow; 7] = [
-    (0x20, 0, b"tii", Some(b"ti")),
-    (0x23, 0, b"tt", Some(b"i")),
-    (0x31, 0, b"vv", Some(b"i")),
-    (0x31, 0, b"ee", None),
-    (0x21, 0, b"ii", None),
-    (0x24, 8, b"otiti", Some(b"oi")),
-    (0x24, 8, b"otiit", None),
-];
-
-const UNEQUAL: [CompareRow; 3] = [
-    (0x22, 0, b"oo", Some(b"i")),
-    (0x30, 0, b"ee", Some(b"i")),
-    (0x24, 0, b"o", Some(b"oi")),
-];
-
-fn are_equal_as_wanted(alloc: Global) -> bool {
-    for (kind, size, before, wanted) in EQUAL {
-        if !leads_to(alloc, &Op::Equal { kind, size }, before, wanted) {
-            return false;
+/// The place of the first row of which something else comes, if there is one.
+fn first_other(alloc: Global, table: &Table, rows: &[Row]) -> Option<usize> {
+    for (place, (op, before, wanted)) in rows.iter().enumerate() {
+        if !leads(alloc, table, op, before, wanted) {
+            return Some(place);
         }
     }
-    true
+    None
 }
 
-fn are_unequal_as_wanted(alloc: Global) -> bool {
-    for (kind, size, before, wanted) in UNEQUAL {
-        if !leads_to(alloc, &Op::Nequal { kind, size }, before, wanted) {
-            return false;
-        }
-    }
-    true
+/// An instruction, the cells before it, and those after it where it has a rule on them. Nothing is
+/// beneath BP, saved or pending.
+type CellsRow = (Op<'static>, &'static [u8], Option<&'static [u8]>);
+
+fn of_cells(cells: &[u8]) -> Written<'_> {
+    Written(b"", cells, &[], 0)
 }
 
-#[test]
-fn values_are_compared(rt: HostRuntime) -> Result<(), Fail> {
-    let alloc = rt.alloc();
-    assert!(rt; are_equal_as_wanted(alloc));
-    assert!(rt; are_unequal_as_wanted(alloc));
-    Ok(())
-}
-
-/// The total, place and size of a DESTRUCT, the cells before it, and those after it where it has a
-/// rule.
-type DestructRow = (u16, u16, u16, &'static [u8], Option<&'static [u8]>);
-
-const DESTRUCTS: [DestructRow; 5] = [
-    (12, 0, 4, b"ioti", Some(b"io")),
-    (12, 4, 8, b"ioti", Some(b"iti")),
-    (4, 0, 0, b"ot", Some(b"o")),
-    (4, 4, 4, b"oti", None),
-    (8, 4, 4, b"Bi", None),
-];
-
-fn are_removed_as_wanted(alloc: Global) -> bool {
-    for (total, offset, size, before, wanted) in DESTRUCTS {
-        let destruct = Op::Destruct {
-            total,
-            offset,
-            size,
+/// The place of the first row after which other cells stand, if there is one.
+fn first_other_cells(alloc: Global, table: &Table, rows: &[CellsRow]) -> Option<usize> {
+    for (place, (op, before, wanted)) in rows.iter().enumerate() {
+        let wanted = match wanted {
+            None => None,
+            Some(cells) => Some(of_cells(cells)),
         };
-        if !leads_to(alloc, &destruct, before, wanted) {
-            return false;
+        if !leads(alloc, table, op, &of_cells(before), &wanted) {
+            return Some(place);
         }
     }
-    true
+    None
 }
+
+const CELLS: &[CellsRow] = &[
+    // Values are pushed.
+    (Op::RsAdd { kind: 0x03 }, b"t", Some(b"ti")),
+    (Op::RsAdd { kind: 0x05 }, b"", Some(b"t")),
+    (Op::RsAdd { kind: 0x06 }, b"", Some(b"o")),
+    (Op::RsAdd { kind: 0x10 }, b"", Some(b"e")),
+    (Op::RsAdd { kind: 0x11 }, b"B", Some(b"Bv")),
+    (Op::RsAdd { kind: 0x04 }, b"", None),
+    (Op::Const(Lit::Int(1)), b"t", Some(b"ti")),
+    (Op::Const(Lit::Text(b"a")), b"", Some(b"t")),
+    (Op::Const(Lit::Object(0)), b"", Some(b"o")),
+    (Op::Const(Lit::Float([0; 4])), b"", None),
+    // Cells are copied.
+    (
+        Op::CpTopSp {
+            offset: -8,
+            size: 4,
+        },
+        b"oti",
+        Some(b"otit"),
+    ),
+    (
+        Op::CpTopSp {
+            offset: -12,
+            size: 8,
+        },
+        b"oti",
+        Some(b"otiot"),
+    ),
+    (
+        Op::CpTopSp {
+            offset: -12,
+            size: 4,
+        },
+        b"ti",
+        None,
+    ),
+    (
+        Op::CpTopSp {
+            offset: -8,
+            size: 4,
+        },
+        b"Bi",
+        None,
+    ),
+    (
+        Op::CpTopSp {
+            offset: -8,
+            size: 0,
+        },
+        b"ti",
+        None,
+    ),
+    (
+        Op::CpTopSp {
+            offset: -4,
+            size: 8,
+        },
+        b"ti",
+        None,
+    ),
+    (
+        Op::CpTopSp {
+            offset: -6,
+            size: 4,
+        },
+        b"ti",
+        None,
+    ),
+    (
+        Op::CpDownSp {
+            offset: -8,
+            size: 4,
+        },
+        b"ii",
+        Some(b"ii"),
+    ),
+    (
+        Op::CpDownSp {
+            offset: -8,
+            size: 4,
+        },
+        b"ti",
+        None,
+    ),
+    (
+        Op::CpDownSp {
+            offset: -8,
+            size: 4,
+        },
+        b"Bi",
+        None,
+    ),
+    // Ints are reckoned.
+    (Op::LogAnd, b"tii", Some(b"ti")),
+    (Op::UshRight, b"ii", Some(b"i")),
+    (Op::Mod, b"it", None),
+    (Op::ExcOr, b"i", None),
+    (Op::Leq { kind: 0x20 }, b"ii", Some(b"i")),
+    (Op::Div { kind: 0x20 }, b"ii", Some(b"i")),
+    (Op::Sub { kind: 0x21 }, b"ii", None),
+    (Op::Add { kind: 0x20 }, b"ii", Some(b"i")),
+    (Op::Add { kind: 0x23 }, b"tt", Some(b"t")),
+    (Op::Add { kind: 0x23 }, b"ii", None),
+    (Op::Neg { kind: 0x03 }, b"i", Some(b"i")),
+    (Op::Neg { kind: 0x04 }, b"i", None),
+    (Op::Comp, b"i", Some(b"i")),
+    (Op::Not, b"o", None),
+    (Op::IncISp { offset: -8 }, b"it", Some(b"it")),
+    (Op::DecISp { offset: -4 }, b"it", None),
+    // Values are compared.
+    (
+        Op::Equal {
+            kind: 0x20,
+            size: 0,
+        },
+        b"tii",
+        Some(b"ti"),
+    ),
+    (
+        Op::Equal {
+            kind: 0x23,
+            size: 0,
+        },
+        b"tt",
+        Some(b"i"),
+    ),
+    (
+        Op::Equal {
+            kind: 0x31,
+            size: 0,
+        },
+        b"vv",
+        Some(b"i"),
+    ),
+    (
+        Op::Equal {
+            kind: 0x31,
+            size: 0,
+        },
+        b"ee",
+        None,
+    ),
+    (
+        Op::Equal {
+            kind: 0x21,
+            size: 0,
+        },
+        b"ii",
+        None,
+    ),
+    (
+        Op::Equal {
+            kind: 0x24,
+            size: 8,
+        },
+        b"otiti",
+        Some(b"oi"),
+    ),
+    (
+        Op::Equal {
+            kind: 0x24,
+            size: 8,
+        },
+        b"otiit",
+        None,
+    ),
+    (
+        Op::Nequal {
+            kind: 0x22,
+            size: 0,
+        },
+        b"oo",
+        Some(b"i"),
+    ),
+    (
+        Op::Nequal {
+            kind: 0x30,
+            size: 0,
+        },
+        b"ee",
+        Some(b"i"),
+    ),
+    (
+        Op::Nequal {
+            kind: 0x24,
+            size: 0,
+        },
+        b"o",
+        Some(b"oi"),
+    ),
+    // Cells are removed.
+    (Op::MovSp { offset: -8 }, b"oti", Some(b"o")),
+    (Op::MovSp { offset: 0 }, b"o", Some(b"o")),
+    (Op::MovSp { offset: 4 }, b"o", None),
+    (Op::MovSp { offset: -8 }, b"Bi", None),
+    (Op::Jz { offset: 6 }, b"ti", Some(b"t")),
+    (Op::Jnz { offset: 6 }, b"it", None),
+    (Op::Jmp { offset: 6 }, b"ti", Some(b"ti")),
+    (Op::Nop, b"B", Some(b"B")),
+    (
+        Op::Destruct {
+            total: 12,
+            offset: 0,
+            size: 4,
+        },
+        b"ioti",
+        Some(b"io"),
+    ),
+    (
+        Op::Destruct {
+            total: 12,
+            offset: 4,
+            size: 8,
+        },
+        b"ioti",
+        Some(b"iti"),
+    ),
+    (
+        Op::Destruct {
+            total: 4,
+            offset: 0,
+            size: 0,
+        },
+        b"ot",
+        Some(b"o"),
+    ),
+    (
+        Op::Destruct {
+            total: 4,
+            offset: 4,
+            size: 4,
+        },
+        b"oti",
+        None,
+    ),
+    (
+        Op::Destruct {
+            total: 8,
+            offset: 4,
+            size: 4,
+        },
+        b"Bi",
+        None,
+    ),
+    // No base is saved.
+    (Op::RestoreBp, b"tB", None),
+];
+
+const SHAPES: &[Row] = &[
+    // Cells beneath BP are reached.
+    (
+        Op::CpTopBp {
+            offset: -8,
+            size: 4,
+        },
+        Written(b"eti", b"o", &[], 0),
+        Some(Written(b"eti", b"ot", &[], 0)),
+    ),
+    (
+        Op::CpTopBp {
+            offset: -8,
+            size: 4,
+        },
+        Written(b"i", b"to", &[], 0),
+        None,
+    ),
+    (
+        Op::CpDownBp {
+            offset: -4,
+            size: 4,
+        },
+        Written(b"to", b"o", &[], 0),
+        Some(Written(b"to", b"o", &[], 0)),
+    ),
+    (
+        Op::CpDownBp {
+            offset: -4,
+            size: 4,
+        },
+        Written(b"ot", b"o", &[], 0),
+        None,
+    ),
+    (
+        Op::IncIBp { offset: -4 },
+        Written(b"i", b"", &[], 0),
+        Some(Written(b"i", b"", &[], 0)),
+    ),
+    (Op::IncIBp { offset: -4 }, Written(b"t", b"i", &[], 0), None),
+    // Bases are pushed and taken.
+    (
+        Op::SaveBp,
+        Written(b"o", b"ti", &[], 0),
+        Some(Written(b"ti", b"tiB", &[b"o"], 0)),
+    ),
+    (
+        Op::RestoreBp,
+        Written(b"t", b"tB", &[b"e", b"oo"], 3),
+        Some(Written(b"oo", b"t", &[b"e"], 3)),
+    ),
+    // States are stored.
+    (
+        Op::StoreState {
+            globals: 4,
+            locals: 8,
+        },
+        Written(b"eo", b"Bti", &[], 1),
+        Some(Written(b"eo", b"Bti", &[], 2)),
+    ),
+    (
+        Op::StoreState {
+            globals: 4,
+            locals: 8,
+        },
+        Written(b"", b"ti", &[], 0),
+        None,
+    ),
+    (
+        Op::StoreState {
+            globals: 4,
+            locals: 8,
+        },
+        Written(b"o", b"Bi", &[], 0),
+        None,
+    ),
+    (
+        Op::StoreState {
+            globals: 4,
+            locals: 8,
+        },
+        Written(b"B", b"ti", &[], 0),
+        None,
+    ),
+];
 
 #[test]
-fn cells_are_removed(rt: HostRuntime) -> Result<(), Fail> {
-    let alloc = rt.alloc();
-    let all = gives(alloc, &Op::MovSp { offset: -8 }, b"oti", b"o")
-        && gives(alloc, &Op::MovSp { offset: 0 }, b"o", b"o")
-        && refuses(alloc, &Op::MovSp { offset: 4 }, b"o")
-        && refuses(alloc, &Op::MovSp { offset: -8 }, b"Bi")
-        && gives(alloc, &Op::Jz { offset: 6 }, b"ti", b"t")
-        && refuses(alloc, &Op::Jnz { offset: 6 }, b"it")
-        && gives(alloc, &Op::Jmp { offset: 6 }, b"ti", b"ti")
-        && gives(alloc, &Op::Nop, b"B", b"B");
-    assert!(rt; all);
-    assert!(rt; are_removed_as_wanted(alloc));
-    Ok(())
+fn shapes_follow_instructions(rt: HostRuntime) {
+    let table = Table::new(rt.alloc());
+    let cells = first_other_cells(rt.alloc(), &table, CELLS);
+    let shapes = first_other(rt.alloc(), &table, SHAPES);
+    drop(table);
+    assert_eq!(rt; [cells, shapes], [None, None]);
 }
 
-/// A shape with the cells `beneath` BP and these of its own.
-fn over<'a>(under: &'a [u8], cells: &'a [u8]) -> Written<'a>
-    ensures { result.pending ≡ 0 }
-{
-    Written {
-        cells,
-        under,
-        saved: &[],
-        pending: 0,
-    }
-}
-
-#[test]
-fn cells_beneath_bp_are_reached(rt: HostRuntime) -> Result<(), Fail> {
-    let alloc = rt.alloc();
-    let copy = Op::CpTopBp {
-        offset: -8,
-        size: 4,
-    };
-    let all = leads(alloc, &copy, over(b"eti", b"o"), Some(over(b"eti", b"ot")))
-        && leads(alloc, &copy, over(b"i", b"to"), None);
-    assert!(rt; all);
-    let write = Op::CpDownBp {
-        offset: -4,
-        size: 4,
-    };
-    let all = leads(alloc, &write, over(b"to", b"o"), Some(over(b"to", b"o")))
-        && leads(alloc, &write, over(b"ot", b"o"), None);
-    assert!(rt; all);
-    let count = Op::IncIBp { offset: -4 };
-    let all = leads(alloc, &count, over(b"i", b""), Some(over(b"i", b"")))
-        && leads(alloc, &count, over(b"t", b"i"), None);
-    assert!(rt; all);
-    Ok(())
-}
-
-#[test]
-fn bases_are_pushed_and_taken(rt: HostRuntime) -> Result<(), Fail> {
-    let alloc = rt.alloc();
-    let based = Written {
-        cells: b"tiB",
-        under: b"ti",
-        saved: &[b"o"],
-        pending: 0,
-    };
-    assert!(rt; leads(alloc, &Op::SaveBp, over(b"o", b"ti"), Some(based)));
-    let based = Written {
-        cells: b"tB",
-        under: b"t",
-        saved: &[b"e", b"oo"],
-        pending: 3,
-    };
-    let left = Written {
-        cells: b"t",
-        under: b"oo",
-        saved: &[b"e"],
-        pending: 3,
-    };
-    let all = leads(alloc, &Op::RestoreBp, based, Some(left))
-        && refuses(alloc, &Op::RestoreBp, b"tB");
-    assert!(rt; all);
-    Ok(())
-}
-
-/// A shape with so many pending states.
-fn pending<'a>(under: &'a [u8], cells: &'a [u8], pending: u32) -> Written<'a>
-    ensures { result.pending ≡ pending }
-{
-    Written {
-        cells,
-        under,
-        saved: &[],
-        pending,
-    }
-}
-
-#[test]
-fn states_are_stored(rt: HostRuntime) -> Result<(), Fail> {
-    let alloc = rt.alloc();
-    let store = Op::StoreState {
-        globals: 4,
-        locals: 8,
-    };
-    let after = Some(pending(b"eo", b"Bti", 2));
-    let all = leads(alloc, &store, pending(b"eo", b"Bti", 1), after)
-        && leads(alloc, &store, over(b"", b"ti"), None)
-        && leads(alloc, &store, over(b"o", b"Bi"), None)
-        && leads(alloc, &store, over(b"B", b"ti"), None);
-    assert!(rt; all);
-    Ok(())
-}
+/// Calls under the header of `DelayCommand` alone.
+const CALLS: &[Row] = &[
+    (
+        Op::Action {
+            routine: 0,
+            count: 2,
+        },
+        Written(b"", b"ti", &[], 2),
+        Some(Written(b"", b"t", &[], 1)),
+    ),
+    (
+        Op::Action {
+            routine: 0,
+            count: 2,
+        },
+        Written(b"", b"ti", &[], 0),
+        None,
+    ),
+    (
+        Op::Action {
+            routine: 0,
+            count: 2,
+        },
+        Written(b"", b"it", &[], 1),
+        None,
+    ),
+    (
+        Op::Action {
+            routine: 0,
+            count: 1,
+        },
+        Written(b"", b"ti", &[], 1),
+        None,
+    ),
+    (
+        Op::Action {
+            routine: 1,
+            count: 2,
+        },
+        Written(b"", b"ti", &[], 1),
+        None,
+    ),
+];
 
 /// The table of `void DelayCommand(int nMilliseconds, action aActionToDelay)` alone.
 #[tactic(auto, unfolding(nwq_value::specs::Engine::routine_named, nwq_value::specs::Engine::constant_named))]
@@ -442,35 +592,12 @@ fn delaying(alloc: Global) -> Result<Table, NoMemory> {
     }
 }
 
-/// Calls of the routine of that table.
-fn calls_hold(alloc: Global, table: &Table) -> bool {
-    let call = Op::Action {
-        routine: 0,
-        count: 2,
-    };
-    let short = Op::Action {
-        routine: 0,
-        count: 1,
-    };
-    let other = Op::Action {
-        routine: 1,
-        count: 2,
-    };
-    let after = Some(pending(b"", b"t", 1));
-    leads_under(alloc, table, &call, pending(b"", b"ti", 2), after)
-        && leads_under(alloc, table, &call, pending(b"", b"ti", 0), None)
-        && leads_under(alloc, table, &call, pending(b"", b"it", 1), None)
-        && leads_under(alloc, table, &short, pending(b"", b"ti", 1), None)
-        && leads_under(alloc, table, &other, pending(b"", b"ti", 1), None)
-}
-
 #[test]
 fn calls_take_arguments_and_states(rt: HostRuntime) -> Result<(), Fail> {
-    let alloc = rt.alloc();
-    let table = delaying(alloc)?;
-    let all = calls_hold(alloc, &table);
+    let table = delaying(rt.alloc())?;
+    let other = first_other(rt.alloc(), &table, CALLS);
     drop(table);
-    assert!(rt; all);
+    assert_eq!(rt; other, None);
     Ok(())
 }
 
@@ -478,19 +605,47 @@ fn calls_take_arguments_and_states(rt: HostRuntime) -> Result<(), Fail> {
 fn have_in_common(alloc: Global, a: &Shape, b: &Shape, wanted: &Written<'_>) -> bool {
     match suffix(alloc, a, b) {
         Err(NoMemory) => false,
-        Ok(common) => is_shape(&common, wanted),
+        Ok(common) => {
+            let is = is_shape(&common, wanted);
+            drop(common);
+            is
+        }
     }
 }
 
-#[test]
-fn the_top_is_common(rt: HostRuntime) -> Result<(), Fail> {
-    let alloc = rt.alloc();
-    let a = shape_of(alloc, &pending(b"oe", b"tii", 2))?;
-    let all = match shape_of(alloc, &pending(b"e", b"oti", 1)) {
+/// The same where the second shape is written.
+fn has_in_common(alloc: Global, a: &Shape, b: &Written<'_>, wanted: &Written<'_>) -> bool {
+    match shape_of(alloc, b) {
         Err(NoMemory) => false,
-        Ok(b) => have_in_common(alloc, &a, &b, &over(b"e", b"i")),
-    };
-    drop(a);
-    assert!(rt; all);
-    Ok(())
+        Ok(b) => {
+            let is = have_in_common(alloc, a, &b, wanted);
+            drop(b);
+            is
+        }
+    }
+}
+
+/// The same where both are.
+fn are_in_common(alloc: Global, a: &Written<'_>, b: &Written<'_>, wanted: &Written<'_>) -> bool {
+    match shape_of(alloc, a) {
+        Err(NoMemory) => false,
+        Ok(a) => {
+            let is = has_in_common(alloc, &a, b, wanted);
+            drop(a);
+            is
+        }
+    }
+}
+
+/// Two shapes, and what they have in common.
+const TOPS: [Written; 3] = [
+    Written(b"oe", b"tii", &[], 2),
+    Written(b"e", b"oti", &[], 1),
+    Written(b"e", b"i", &[], 0),
+];
+
+#[test]
+fn the_top_is_common(rt: HostRuntime) {
+    let [a, b, common] = TOPS;
+    assert!(rt; are_in_common(rt.alloc(), &a, &b, &common));
 }

@@ -1,13 +1,16 @@
 use nwq_text::put_number;
 use nwq_value::NoMemory;
-use plan_text::{Line, PlanFault, read_plan};
+use plan_text::{Line, Plan, PlanFault, Script, read_plan};
 use std::alloc::Global;
 use std::test::Fail;
 
 /// The first line without a reading, where there is one.
 fn bad_line(alloc: Global, text: &[u8]) -> Result<Option<u64>, NoMemory> {
     match read_plan(alloc, text) {
-        Ok(_) => Ok(None),
+        Ok(plan) => {
+            drop(plan);
+            Ok(None)
+        }
         Err(PlanFault::Line(line)) => Ok(Some(line)),
         Err(PlanFault::NoMemory) => Err(NoMemory),
     }
@@ -24,74 +27,103 @@ fn numbered(alloc: Global, line: &[u8], count: u32) -> Result<Vec<u8>, NoMemory>
     Ok(text)
 }
 
+/// Texts that are no plan, and their first line without a reading.
+const BAD: &[(&[u8], u64)] = &[
+    (b"", 1),
+    (b"NWQ PLAN 9", 1),
+    (b"NWQ PLAN 3", 1),
+    (b"NWQ PLAN 21", 1),
+    (b"\nNWQ PLAN 1\n", 1),
+    (b"NWQ PLAN 1\nlimit 0\n", 2),
+    (b"NWQ PLAN 1\nscript a\nscript a\n", 3),
+    (b"NWQ PLAN 1\n\n; a\nscript a\nbinary a", 5),
+    (b"NWQ PLAN 1\nlimit 5\nlimit 5\n", 3),
+    (b"NWQ PLAN 1\nlimit 5\r", 2),
+    (b"NWQ PLAN 1\nlimit 16777217\n", 2),
+    (b"NWQ PLAN 1\nentries 0\n", 2),
+    (b"NWQ PLAN 1\nentries 1000001\n", 2),
+    (b"NWQ PLAN 1\nuntil 4294967296\n", 2),
+    (b"NWQ PLAN 1\nuntil 00000000001\n", 2),
+    (b"NWQ PLAN 1\nrandom 4294967296\n", 2),
+    (b"NWQ PLAN 1\nrandom 1  2\n", 2),
+    (b"NWQ PLAN 1\nrandom \n", 2),
+    (b"NWQ PLAN 1\nscript A\n", 2),
+    (b"NWQ PLAN 1\nscript abcdefghijklmnopq\n", 2),
+    (b"NWQ PLAN 1\nevent 0 0 L\n", 2),
+    (b"NWQ PLAN 1\nevent 4294967296 0 L \n", 2),
+    (b"NWQ PLAN 1\nevent 0 2147483648 L \n", 2),
+    (b"NWQ PLAN 1\nevent 0 0 12345678901234567 \n", 2),
+    (b"NWQ PLAN 1\nevent 0 0 L \\x41\n", 2),
+    (b"NWQ PLAN 1\nevent 0 - L\n", 2),
+    (b"NWQ PLAN 1\nstart 0 - p t\n", 2),
+    (b"NWQ PLAN 1\nstart 0 0 p\n", 2),
+    (b"NWQ PLAN 1\nlimits 5\n", 2),
+    (b"NWQ PLAN 1\nlimit\n", 2),
+];
+
+/// The place of the first text whose first line without a reading is another, if there is one.
+fn first_other(alloc: Global) -> Result<Option<usize>, NoMemory> {
+    for (place, (text, line)) in BAD.iter().enumerate() {
+        if bad_line(alloc, text)? != Some(*line) {
+            return Ok(Some(place));
+        }
+    }
+    Ok(None)
+}
+
 #[test]
 fn bad_lines(rt: HostRuntime) -> Result<(), Fail> {
-    for (text, line) in [
-        (b"".as_slice(), 1),
-        (b"NWQ PLAN 9".as_slice(), 1),
-        (b"NWQ PLAN 3".as_slice(), 1),
-        (b"NWQ PLAN 21".as_slice(), 1),
-        (b"\nNWQ PLAN 1\n".as_slice(), 1),
-        (b"NWQ PLAN 1\nlimit 0\n".as_slice(), 2),
-        (b"NWQ PLAN 1\nscript a\nscript a\n".as_slice(), 3),
-        (b"NWQ PLAN 1\n\n; a\nscript a\nbinary a".as_slice(), 5),
-        (b"NWQ PLAN 1\nlimit 5\nlimit 5\n".as_slice(), 3),
-        (b"NWQ PLAN 1\nlimit 5\r".as_slice(), 2),
-        (b"NWQ PLAN 1\nlimit 16777217\n".as_slice(), 2),
-        (b"NWQ PLAN 1\nentries 0\n".as_slice(), 2),
-        (b"NWQ PLAN 1\nentries 1000001\n".as_slice(), 2),
-        (b"NWQ PLAN 1\nuntil 4294967296\n".as_slice(), 2),
-        (b"NWQ PLAN 1\nuntil 00000000001\n".as_slice(), 2),
-        (b"NWQ PLAN 1\nrandom 4294967296\n".as_slice(), 2),
-        (b"NWQ PLAN 1\nrandom 1  2\n".as_slice(), 2),
-        (b"NWQ PLAN 1\nrandom \n".as_slice(), 2),
-        (b"NWQ PLAN 1\nscript A\n".as_slice(), 2),
-        (b"NWQ PLAN 1\nscript abcdefghijklmnopq\n".as_slice(), 2),
-        (b"NWQ PLAN 1\nevent 0 0 L\n".as_slice(), 2),
-        (b"NWQ PLAN 1\nevent 4294967296 0 L \n".as_slice(), 2),
-        (b"NWQ PLAN 1\nevent 0 2147483648 L \n".as_slice(), 2),
-        (b"NWQ PLAN 1\nevent 0 0 12345678901234567 \n".as_slice(), 2),
-        (b"NWQ PLAN 1\nevent 0 0 L \\x41\n".as_slice(), 2),
-        (b"NWQ PLAN 1\nevent 0 - L\n".as_slice(), 2),
-        (b"NWQ PLAN 1\nstart 0 - p t\n".as_slice(), 2),
-        (b"NWQ PLAN 1\nstart 0 0 p\n".as_slice(), 2),
-        (b"NWQ PLAN 1\nlimits 5\n".as_slice(), 2),
-        (b"NWQ PLAN 1\nlimit\n".as_slice(), 2),
-    ] {
-        assert_eq!(rt; bad_line(rt.alloc(), text)?, Some(line), "{text:?}");
+    assert_eq!(rt; first_other(rt.alloc())?, None);
+    Ok(())
+}
+
+/// A plan, if the text is one.
+fn plan_of(alloc: Global, text: &[u8]) -> Option<Plan> {
+    match read_plan(alloc, text) {
+        Ok(plan) => Some(plan),
+        Err(_) => None,
     }
-    Ok(())
+}
+
+/// Whether the plan has this version, and these numbers of instructions, entries and milliseconds.
+fn has(plan: &Plan, version: u8, limit: u64, entries: u64, until: u64) -> bool {
+    plan.version == version && plan.limit == limit && plan.entries == entries && plan.until == until
+}
+
+/// Whether a plan of its heading alone is what a plan is by default.
+fn is_default(alloc: Global) -> bool {
+    match plan_of(alloc, b"NWQ PLAN 1") {
+        None => false,
+        Some(plan) => {
+            let empty = plan.random.is_empty() && plan.scripts.is_empty() && plan.events.is_empty();
+            let is = has(&plan, 1, 131_072, 10_000, 60_000) && empty;
+            drop(plan);
+            is
+        }
+    }
 }
 
 #[test]
-fn defaults(rt: HostRuntime) -> Result<(), Fail> {
-    let plan = read_plan(rt.alloc(), b"NWQ PLAN 1")?;
-    assert_eq!(rt; plan.version, 1);
-    assert_eq!(rt; plan.limit, 131_072);
-    assert_eq!(rt; plan.entries, 10_000);
-    assert_eq!(rt; plan.until, 60_000);
-    assert!(rt; plan.random.is_empty() && plan.scripts.is_empty() && plan.events.is_empty());
-    Ok(())
+fn defaults(rt: HostRuntime) {
+    assert!(rt; is_default(rt.alloc()));
 }
 
-#[test]
-fn all_kinds_of_lines(rt: HostRuntime) -> Result<(), Fail> {
-    let plan = read_plan(
-        rt.alloc(),
-        b"NWQ PLAN 2\r\n; all\n\nlimit 16777216\nentries 1000000\r\nuntil 4294967295\nrandom 0 4294967295\nrandom 07\n\
-        script a_0\nbinary b\nevent 1 2147483647 ScriptHeartbeat \\\\\\n\nevent 0 0 L \nstart 2 3 p t u\nstart 4294967295 - p",
-    )?;
-    assert_eq!(rt; plan.version, 2);
-    assert_eq!(rt; plan.limit, 16_777_216);
-    assert_eq!(rt; plan.entries, 1_000_000);
-    assert_eq!(rt; plan.until, 4_294_967_295);
-    assert_eq!(rt; plan.random.as_slice(), [0, 4_294_967_295, 7].as_slice());
-    let scripts = plan.scripts.as_slice();
-    assert_eq!(rt; scripts.len(), 2);
-    assert!(rt; scripts[0].name.bytes() == b"a_0".as_slice() && !scripts[0].binary);
-    assert!(rt; scripts[1].name.bytes() == b"b".as_slice() && scripts[1].binary);
-    let mut lines = plan.events.as_slice().iter();
-    match lines.next() {
+/// A plan with a line of each kind.
+const ALL_KINDS: &[u8] = b"NWQ PLAN 2\r\n; all\n\nlimit 16777216\nentries 1000000\r\n\
+    until 4294967295\nrandom 0 4294967295\nrandom 07\nscript a_0\nbinary b\n\
+    event 1 2147483647 ScriptHeartbeat \\\\\\n\nevent 0 0 L \nstart 2 3 p t u\n\
+    start 4294967295 - p";
+
+fn are_scripts(scripts: &[Script]) -> bool {
+    scripts.len() == 2
+        && scripts[0].name.bytes() == b"a_0".as_slice()
+        && !scripts[0].binary
+        && scripts[1].name.bytes() == b"b".as_slice()
+        && scripts[1].binary
+}
+
+fn is_event(line: Option<&Line>) -> bool {
+    match line {
         Some(
             Line::Event {
                 due: 1,
@@ -99,29 +131,52 @@ fn all_kinds_of_lines(rt: HostRuntime) -> Result<(), Fail> {
                 label,
                 tag,
             },
-        ) => {
-            assert_eq!(rt; label.bytes(), b"ScriptHeartbeat".as_slice());
-            assert_eq!(rt; tag.bytes(), b"\\\n".as_slice());
-        }
-        _ => return Err("no event".into()),
+        ) => label.bytes() == b"ScriptHeartbeat".as_slice() && tag.bytes() == b"\\\n".as_slice(),
+        _ => false,
     }
-    Ok(())
+}
+
+/// Whether that plan has all that its lines say.
+fn is_read(alloc: Global) -> bool {
+    match plan_of(alloc, ALL_KINDS) {
+        None => false,
+        Some(plan) => {
+            let is = has(&plan, 2, 16_777_216, 1_000_000, 4_294_967_295)
+                && plan.random.as_slice() == [0, 4_294_967_295, 7].as_slice()
+                && are_scripts(plan.scripts.as_slice())
+                && is_event(plan.events.as_slice().first());
+            drop(plan);
+            is
+        }
+    }
+}
+
+#[test]
+fn all_kinds_of_lines(rt: HostRuntime) {
+    assert!(rt; is_read(rt.alloc()));
+}
+
+/// A line, how many of it a plan has, and the first line without a reading, where there is one.
+const MANY: &[(&[u8], u32, Option<u64>)] = &[
+    (b"script s", 256, None),
+    (b"script s", 257, Some(258)),
+    (b"random 1", 65_536, None),
+    (b"random 1", 65_537, Some(65_538)),
+    (b"start 0 - p", 65_536, None),
+    (b"start 0 - p", 65_537, Some(65_538)),
+];
+
+/// The first line of so many without a reading, where there is one.
+fn bad_line_of(alloc: Global, line: &[u8], count: u32) -> Result<Option<u64>, NoMemory> {
+    let text = numbered(alloc, line, count)?;
+    bad_line(alloc, text.as_slice())
 }
 
 #[test]
 fn most_lines(rt: HostRuntime) -> Result<(), Fail> {
-    for (line, most) in [
-        (b"script s".as_slice(), 256),
-        (b"random 1".as_slice(), 65_536),
-        (b"start 0 - p".as_slice(), 65_536),
-    ] {
-        let text = numbered(rt.alloc(), line, most)?;
-        assert_eq!(rt; bad_line(rt.alloc(), text.as_slice())?, None);
-        let text = numbered(rt.alloc(), line, most + 1)?;
-        assert_eq!(rt;
-            bad_line(rt.alloc(), text.as_slice())?,
-            Some(u64::from(most) + 2)
-        );
+    for (line, count, bad) in MANY {
+        let found = bad_line_of(rt.alloc(), line, *count)?;
+        assert!(rt; found == *bad, "{line:?} {count}");
     }
     Ok(())
 }
