@@ -4,6 +4,8 @@
 #![tactic(auto)]
 
 mod end;
+#[cfg(test)]
+mod tests;
 mod whole;
 
 use crate::end::{Words, end_of};

@@ -70,16 +70,19 @@ fn put_scripts(
     Ok(())
 }
 
-fn scripts(alloc: Global, sketch: &Sketch) -> Result<Items<Script>, NoMemory> {
-    let mut out = Items::new(alloc);
-    put_scripts(alloc, sketch.scripts, &mut out)?;
+fn put_all_scripts(
+    alloc: Global,
+    sketch: &Sketch,
+    out: &mut Items<Script>,
+) -> Result<(), NoMemory> {
+    put_scripts(alloc, sketch.scripts, out)?;
     if let Some(part) = sketch.besides.script {
         out.push(script(alloc, part)?)?;
     }
     for number in 0..sketch.more {
         out.push(nothing(alloc, number)?)?;
     }
-    Ok(out)
+    Ok(())
 }
 
 fn effect(alloc: Global) -> Result<Effect, NoMemory> {
@@ -98,11 +101,16 @@ fn cell(alloc: Global, cell: sketch::Cell) -> Result<Cell, NoMemory> {
     }
 }
 
-fn cells(alloc: Global, cells: &[sketch::Cell]) -> Result<Items<Cell>, NoMemory> {
-    let mut out = Items::new(alloc);
+fn put_cells(alloc: Global, cells: &[sketch::Cell], out: &mut Items<Cell>) -> Result<(), NoMemory> {
     for part in cells {
         out.push(cell(alloc, *part)?)?;
     }
+    Ok(())
+}
+
+fn cells(alloc: Global, cells: &[sketch::Cell]) -> Result<Items<Cell>, NoMemory> {
+    let mut out = Items::new(alloc);
+    put_cells(alloc, cells, &mut out)?;
     Ok(out)
 }
 
@@ -138,8 +146,11 @@ fn put_variables(
     Ok(())
 }
 
-fn effects(alloc: Global, numbers: &[Option<u64>]) -> Result<Items<Standing>, NoMemory> {
-    let mut out = Items::new(alloc);
+fn put_effects(
+    alloc: Global,
+    numbers: &[Option<u64>],
+    out: &mut Items<Standing>,
+) -> Result<(), NoMemory> {
     for number in numbers {
         let effect = effect(alloc)?;
         out.push(Standing {
@@ -147,7 +158,7 @@ fn effects(alloc: Global, numbers: &[Option<u64>]) -> Result<Items<Standing>, No
             effect,
         })?;
     }
-    Ok(out)
+    Ok(())
 }
 
 fn item(alloc: Global, item: sketch::Item) -> Result<Item, NoMemory> {
@@ -165,39 +176,51 @@ fn put_items(alloc: Global, items: &[sketch::Item], out: &mut Items<Item>) -> Re
     Ok(())
 }
 
+/// Puts variables, effects and actions of an object, and further ones behind them.
+fn fill(
+    alloc: Global,
+    from: &sketch::Object,
+    further: &[sketch::Variable],
+    more: &[sketch::Item],
+    object: &mut Object,
+) -> Result<(), NoMemory> {
+    put_variables(alloc, from.1, &mut object.variables)?;
+    put_variables(alloc, further, &mut object.variables)?;
+    put_effects(alloc, from.2, &mut object.effects)?;
+    put_items(alloc, from.3, &mut object.items)?;
+    put_items(alloc, more, &mut object.items)
+}
+
 /// An object with variables and actions behind its own.
 fn object(
     alloc: Global,
-    object: &sketch::Object,
+    from: &sketch::Object,
     further: &[sketch::Variable],
     more: &[sketch::Item],
 ) -> Result<Object, NoMemory> {
-    let mut variables = Items::new(alloc);
-    put_variables(alloc, object.1, &mut variables)?;
-    put_variables(alloc, further, &mut variables)?;
-    let effects = effects(alloc, object.2)?;
-    let mut items = Items::new(alloc);
-    put_items(alloc, object.3, &mut items)?;
-    put_items(alloc, more, &mut items)?;
-    Ok(Object {
-        busy: object.0,
-        variables,
-        effects,
-        items,
-    })
+    let mut object = Object {
+        busy: from.0,
+        variables: Items::new(alloc),
+        effects: Items::new(alloc),
+        items: Items::new(alloc),
+    };
+    match fill(alloc, from, further, more, &mut object) {
+        Ok(()) => Ok(object),
+        Err(NoMemory) => {
+            drop(object);
+            Err(NoMemory)
+        }
+    }
 }
 
-fn objects(alloc: Global, sketch: &Sketch) -> Result<Items<Object>, NoMemory> {
-    let mut out = Items::new(alloc);
-    for (i, part) in sketch.objects.iter().enumerate() {
-        let made = if i == 0 {
-            object(alloc, part, sketch.besides.variables, sketch.besides.items)?
-        } else {
-            object(alloc, part, &[], &[])?
-        };
-        out.push(made)?;
+fn put_objects(alloc: Global, sketch: &Sketch, out: &mut Items<Object>) -> Result<(), NoMemory> {
+    let (mut further, mut more) = (sketch.besides.variables, sketch.besides.items);
+    for part in sketch.objects {
+        out.push(object(alloc, part, further, more)?)?;
+        further = &[];
+        more = &[];
     }
-    Ok(out)
+    Ok(())
 }
 
 fn kind(alloc: Global, kind: sketch::Kind) -> Result<Kind, NoMemory> {
@@ -225,23 +248,21 @@ fn entry(alloc: Global, entry: &sketch::Entry) -> Result<Entry, NoMemory> {
     })
 }
 
-fn agenda(alloc: Global, sketch: &Sketch) -> Result<Items<Entry>, NoMemory> {
-    let mut out = Items::new(alloc);
+fn put_agenda(alloc: Global, sketch: &Sketch, out: &mut Items<Entry>) -> Result<(), NoMemory> {
     for part in sketch.agenda {
         out.push(entry(alloc, part)?)?;
     }
     if let Some(part) = &sketch.besides.entry {
         out.push(entry(alloc, part)?)?;
     }
-    Ok(out)
+    Ok(())
 }
 
-fn random(alloc: Global, count: usize) -> Result<Items<u32>, NoMemory> {
-    let mut out = Items::new(alloc);
+fn put_random(count: usize, out: &mut Items<u32>) -> Result<(), NoMemory> {
     for _number in 0..count {
         out.push(7)?;
     }
-    Ok(out)
+    Ok(())
 }
 
 fn header(alloc: Global, text: Option<&[u8]>) -> Result<Option<Items<u8>>, NoMemory> {
@@ -251,17 +272,21 @@ fn header(alloc: Global, text: Option<&[u8]>) -> Result<Option<Items<u8>>, NoMem
     }
 }
 
+/// Puts all lists of a state.
+fn put_lists(alloc: Global, sketch: &Sketch, parts: &mut Parts) -> Result<(), NoMemory> {
+    put_all_scripts(alloc, sketch, &mut parts.scripts)?;
+    parts.area.extend(sketch.area)?;
+    put_random(sketch.random, &mut parts.random)?;
+    put_objects(alloc, sketch, &mut parts.objects)?;
+    put_agenda(alloc, sketch, &mut parts.agenda)
+}
+
 fn parts(alloc: Global, sketch: &Sketch) -> Result<Parts, NoMemory> {
     let header = header(alloc, sketch.header)?;
-    let scripts = scripts(alloc, sketch)?;
-    let area = Items::of_slice(alloc, sketch.area)?;
-    let random = random(alloc, sketch.random)?;
-    let objects = objects(alloc, sketch)?;
-    let agenda = agenda(alloc, sketch)?;
-    Ok(Parts {
+    let mut parts = Parts {
         header,
-        scripts,
-        area,
+        scripts: Items::new(alloc),
+        area: Items::new(alloc),
         version: sketch.version,
         limit: sketch.limit,
         entries: sketch.entries,
@@ -270,16 +295,25 @@ fn parts(alloc: Global, sketch: &Sketch) -> Result<Parts, NoMemory> {
         taken: sketch.taken,
         done: sketch.done,
         next: sketch.next,
-        random,
-        objects,
-        agenda,
-    })
+        random: Items::new(alloc),
+        objects: Items::new(alloc),
+        agenda: Items::new(alloc),
+    };
+    match put_lists(alloc, sketch, &mut parts) {
+        Ok(()) => Ok(parts),
+        Err(NoMemory) => {
+            drop(parts);
+            Err(NoMemory)
+        }
+    }
 }
 
 /// The bytes of a state.
 pub fn bytes(alloc: Global, sketch: &Sketch) -> Result<Vec<u8>, NoMemory> {
     let parts = parts(alloc, sketch)?;
-    match put_parts(alloc, &parts) {
+    let bytes = put_parts(alloc, &parts);
+    drop(parts);
+    match bytes {
         Ok(bytes) => Ok(bytes),
         Err(_) => Err(NoMemory),
     }

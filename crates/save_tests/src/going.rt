@@ -8,10 +8,13 @@ ghost use Rattle.ncs_machine.specs.Stored.{StatesFit};
 
 use hook_table::Hooks;
 use module_player::{Played, play_on};
+use ncs_machine::Scripts;
 use nwq_outside::MemSink;
-use nwq_value::NoMemory;
+use nwq_value::{NoMemory, Table};
 use play_save::{Opened, State, put_state};
+use saved_state::Saved;
 use std::alloc::Global;
+use world_core::World;
 
 /// How many instructions an entry may take here.
 fn at_most(limit: u64) -> u64
@@ -20,8 +23,40 @@ fn at_most(limit: u64) -> u64
     if limit < 3_000 { limit } else { 3_000 }
 }
 
-/// Goes on for 20 entries, of at most 3,000 instructions each, or to the play's end; `None` where
-/// what is opened passes a limit.
+/// Goes on for 20 entries, of at most 3,000 instructions each, or to the play's end, by the limits,
+/// the entries taken and the instructions done; `None` where one of these numbers is too large.
+fn go_on_by(
+    alloc: Global,
+    table: &Table,
+    scripts: &Scripts,
+    world: &mut World<Saved>,
+    limits: (u64, u64, u64),
+    taken: u64,
+    done: u64,
+    hooks: &Hooks,
+    out: &mut MemSink,
+) -> Option<Played>
+    requires few { length scripts.now < 2 ^ 32 }
+    requires meets { AllMeet table.now (scripts_of scripts.now) (tables_of scripts.now) }
+    requires fit { StatesFit (scripts_of scripts.now) (tables_of scripts.now) world.old.world }
+    requires quiet { world.old.world.trace ≡ [] }
+    requires hooks { AreServing (map (λ h. h.known) hooks.now.all.items) }
+{
+    let (limit, entries, until) = limits;
+    if taken > entries || entries > 1_000_000 || until > 4_294_967_295 {
+        return None;
+    }
+    if done >= 1 << 61 || world.next_number() >= 1 << 61 {
+        return None;
+    }
+    let most = at_most(limit);
+    let stop = taken + 20;
+    Some(play_on(
+        alloc, scripts, world, hooks, table, most, entries, until, stop, taken, done, out,
+    ))
+}
+
+/// The same of a state that is opened.
 fn go_on(alloc: Global, opened: Opened, hooks: &Hooks, out: &mut MemSink) -> Option<Played>
     requires few { length opened.scripts < 2 ^ 32 }
     requires meets { AllMeet opened.table (scripts_of opened.scripts)
@@ -39,18 +74,13 @@ fn go_on(alloc: Global, opened: Opened, hooks: &Hooks, out: &mut MemSink) -> Opt
         taken,
         done,
     } = opened;
-    let (limit, entries, until) = limits;
-    if taken > entries || entries > 1_000_000 || until > 4_294_967_295 {
-        return None;
-    }
-    if done >= 1 << 61 || world.next_number() >= 1 << 61 {
-        return None;
-    }
-    let most = at_most(limit);
-    let stop = taken + 20;
-    Some(play_on(
-        alloc, &scripts, &mut world, hooks, &table, most, entries, until, stop, taken, done, out,
-    ))
+    let played = go_on_by(
+        alloc, &table, &scripts, &mut world, limits, taken, done, hooks, out,
+    );
+    drop(world);
+    drop(scripts);
+    drop(table);
+    played
 }
 
 /// The same from a state.

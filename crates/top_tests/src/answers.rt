@@ -85,20 +85,14 @@ fn let_fail(files: &mut MemFiles, out: &mut MemSink, failing: Failing) -> Result
     }
 }
 
-fn begin(found: &mut Outcome, before: &[(&str, &[u8])], failing: Failing) -> Result<(), NoMemory> {
-    add_all(&mut found.files, before)?;
-    let_fail(&mut found.files, &mut found.out, failing)
-}
-
-/// These names, before anything is done, with the call that fails.
-pub fn begun(
-    alloc: Global,
+/// Adds these names, and lets the call fail.
+pub fn begin(
+    found: &mut Outcome,
     before: &[(&str, &[u8])],
     failing: Failing,
-) -> Result<Outcome, NoMemory> {
-    let mut found = Outcome::new(alloc);
-    begin(&mut found, before, failing)?;
-    Ok(found)
+) -> Result<(), NoMemory> {
+    add_all(&mut found.files, before)?;
+    let_fail(&mut found.files, &mut found.out, failing)
 }
 
 /// Does what a line says over what was begun.
@@ -121,19 +115,19 @@ pub fn carry_on(
     Ok(())
 }
 
-/// What a line does over these names.
-pub fn outcome_of(
+/// Does what a line says over these names.
+pub fn come(
     alloc: Global,
     line: &str,
     before: &[(&str, &[u8])],
     failing: Failing,
+    found: &mut Outcome,
     hooks: &Hooks,
-) -> Result<Outcome, NoMemory>
+) -> Result<(), NoMemory>
     requires hooks { AreServing (map (λ h. h.known) hooks.now.all.items) }
 {
-    let mut found = begun(alloc, before, failing)?;
-    carry_on(alloc, line, &mut found, hooks)?;
-    Ok(found)
+    begin(found, before, failing)?;
+    carry_on(alloc, line, found, hooks)
 }
 
 fn is_held(found: Option<&[u8]>, held: Held) -> bool {
@@ -204,8 +198,14 @@ pub fn is_as(found: &Outcome, row: &Row) -> bool {
 pub fn comes(alloc: Global, row: &Row, hooks: &Hooks) -> Result<bool, NoMemory>
     requires hooks { AreServing (map (λ h. h.known) hooks.now.all.items) }
 {
-    let found = outcome_of(alloc, row.line, row.before, row.failing, hooks)?;
-    Ok(is_as(&found, row))
+    let mut found = Outcome::new(alloc);
+    let done = come(alloc, row.line, row.before, row.failing, &mut found, hooks);
+    let is = is_as(&found, row);
+    drop(found);
+    match done {
+        Ok(()) => Ok(is),
+        Err(NoMemory) => Err(NoMemory),
+    }
 }
 
 /// The place of the first row of which something else comes, if there is one.

@@ -3,7 +3,7 @@
 ghost use Rattle.std.specs.Prelude.{map};
 ghost use Rattle.world_core.specs.Calls.{AreServing};
 
-use crate::answers::{Failing, Held, are_held, begun, carry_on};
+use crate::answers::{Failing, Held, Outcome, are_held, begin, carry_on};
 use crate::samples::{ROUNDS, SEVEN, TICK};
 use hook_table::Hooks;
 use nwq_outside::MemSink;
@@ -58,18 +58,32 @@ const CHAINS: &[Chain] = &[
 ];
 
 /// Whether each line puts what it is to, and what stands after them.
-fn goes(alloc: Global, chain: &Chain, hooks: &Hooks) -> Result<bool, NoMemory>
+fn goes_on(
+    alloc: Global,
+    chain: &Chain,
+    found: &mut Outcome,
+    hooks: &Hooks,
+) -> Result<bool, NoMemory>
     requires hooks { AreServing (map (λ h. h.known) hooks.now.all.items) }
 {
-    let mut found = begun(alloc, chain.before, Failing::Nothing)?;
+    begin(found, chain.before, Failing::Nothing)?;
     for (line, text) in chain.lines {
         found.out = MemSink::new(alloc);
-        carry_on(alloc, line, &mut found, hooks)?;
+        carry_on(alloc, line, found, hooks)?;
         if found.status != Status::Done || found.out.bytes() != text.as_bytes() {
             return Ok(false);
         }
     }
     Ok(are_held(&found.files, chain.after))
+}
+
+fn goes(alloc: Global, chain: &Chain, hooks: &Hooks) -> Result<bool, NoMemory>
+    requires hooks { AreServing (map (λ h. h.known) hooks.now.all.items) }
+{
+    let mut found = Outcome::new(alloc);
+    let goes = goes_on(alloc, chain, &mut found, hooks);
+    drop(found);
+    goes
 }
 
 /// The place of the first chain of which something else comes, if there is one.

@@ -32,12 +32,18 @@ pub fn tables_given(
     nwq_tables(alloc, words, &mut found.files, &mut found.out)
 }
 
+fn tables_in(alloc: Global, found: &mut Outcome) -> Result<Result<Tables, Status>, NoMemory> {
+    add_town(&mut found.files)?;
+    let words = words_of(alloc, LINE)?;
+    Ok(tables_given(alloc, words.as_slice(), found))
+}
+
 /// The tables of the town, or how the program stops there.
 pub fn tables(alloc: Global) -> Result<Result<Tables, Status>, NoMemory> {
-    let words = words_of(alloc, LINE)?;
     let mut found = Outcome::new(alloc);
-    add_town(&mut found.files)?;
-    Ok(tables_given(alloc, words.as_slice(), &mut found))
+    let tables = tables_in(alloc, &mut found);
+    drop(found);
+    tables
 }
 
 /// Whether its scripts were compiled, and the area of the evening stands.
@@ -49,14 +55,25 @@ fn is_played(found: &Outcome) -> bool {
         && found.files.get("after.git").is_some()
 }
 
+fn play(alloc: Global, found: &mut Outcome, hooks: &Hooks) -> Result<(), NoMemory>
+    requires hooks { AreServing (map (λ h. h.known) hooks.now.all.items) }
+{
+    add_town(&mut found.files)?;
+    carry_on(alloc, LINE, found, hooks)
+}
+
 /// Whether the play prints what it is to.
 pub fn plays(alloc: Global, hooks: &Hooks) -> Result<bool, NoMemory>
     requires hooks { AreServing (map (λ h. h.known) hooks.now.all.items) }
 {
     let mut found = Outcome::new(alloc);
-    add_town(&mut found.files)?;
-    carry_on(alloc, LINE, &mut found, hooks)?;
-    Ok(is_played(&found))
+    let done = play(alloc, &mut found, hooks);
+    let is = is_played(&found);
+    drop(found);
+    match done {
+        Ok(()) => Ok(is),
+        Err(NoMemory) => Err(NoMemory),
+    }
 }
 
 /// The plan that lists sources, and the one that lists their files of code.
@@ -72,20 +89,33 @@ fn text_of(name: &str) -> &'static str {
     ""
 }
 
+/// Puts a line of a plan, of which a source is a file of code then.
+fn put_line(plan: &mut Vec<u8>, line: &str) -> Result<(), NoMemory> {
+    match line.strip_prefix("script ") {
+        None => plan.extend_from_slice(line.as_bytes())?,
+        Some(name) => {
+            plan.extend_from_slice(b"binary ")?;
+            plan.extend_from_slice(name.as_bytes())?;
+        }
+    }
+    plan.push(b'\n')?;
+    Ok(())
+}
+
 /// The plan that lists files of code where that of the day lists sources.
 fn code_plan(alloc: Global) -> Result<Vec<u8>, NoMemory> {
     let mut plan = Vec::new(alloc);
     for line in text_of("day.plan").lines() {
-        match line.strip_prefix("script ") {
-            None => plan.extend_from_slice(line.as_bytes())?,
-            Some(name) => {
-                plan.extend_from_slice(b"binary ")?;
-                plan.extend_from_slice(name.as_bytes())?;
-            }
-        }
-        plan.push(b'\n')?;
+        put_line(&mut plan, line)?;
     }
     Ok(plan)
+}
+
+fn compile(alloc: Global, name: &str, found: &mut Outcome, hooks: &Hooks) -> Result<(), NoMemory>
+    requires hooks { AreServing (map (λ h. h.known) hooks.now.all.items) }
+{
+    let words = format!(in alloc; "compile nwscript.nss {name}")?;
+    carry_on(alloc, &words, found, hooks)
 }
 
 /// Compiles each script that the plan of the day lists.
@@ -94,24 +124,44 @@ fn compile_all(alloc: Global, found: &mut Outcome, hooks: &Hooks) -> Result<(), 
 {
     for line in text_of("day.plan").lines() {
         if let Some(name) = line.strip_prefix("script ") {
-            let words = format!(in alloc; "compile nwscript.nss {name}")?;
-            carry_on(alloc, &words, found, hooks)?;
+            compile(alloc, name, found, hooks)?;
         }
     }
     Ok(())
+}
+
+fn add_code_plan(alloc: Global, files: &mut MemFiles) -> Result<(), NoMemory> {
+    let plan = code_plan(alloc)?;
+    files.add("code.plan", plan.as_slice())
 }
 
 /// Plays the day, once its scripts were compiled: the area of the evening.
 fn evening(alloc: Global, found: &mut Outcome, hooks: &Hooks) -> Result<Vec<u8>, NoMemory>
     requires hooks { AreServing (map (λ h. h.known) hooks.now.all.items) }
 {
-    let plan = code_plan(alloc)?;
     add_town(&mut found.files)?;
-    found.files.add("code.plan", plan.as_slice())?;
+    add_code_plan(alloc, &mut found.files)?;
     compile_all(alloc, found, hooks)?;
     carry_on(alloc, LINE, found, hooks)?;
     let area = found.files.get("after.git").unwrap_or(b"");
     Ok(Vec::from_slice(alloc, area)?)
+}
+
+/// Whether the play of a plan that is saved after so many entries prints and leaves what the
+/// unbroken one does.
+fn goes_as_played(
+    alloc: Global,
+    plan: &str,
+    n: u64,
+    found: &mut Outcome,
+    area: &[u8],
+    hooks: &Hooks,
+) -> Result<bool, NoMemory>
+    requires hooks { AreServing (map (λ h. h.known) hooks.now.all.items) }
+{
+    let save = format!(in alloc; "save nwscript.nss town.git {plan} {n} s.nwq tables.txt")?;
+    let lines = [save.as_str(), "resume s.nwq f.git tables.txt"];
+    goes_on(alloc, lines, found, PLAYED.as_bytes(), Some(area), hooks)
 }
 
 /// After how many of its 31 entries the saved play of a plan goes on otherwise than to print and
@@ -126,15 +176,41 @@ fn first_apart(
     requires hooks { AreServing (map (λ h. h.known) hooks.now.all.items) }
 {
     for n in 1..33 {
-        let save = format!(in alloc; "save nwscript.nss town.git {plan} {n} s.nwq tables.txt")?;
-        let lines = [save.as_str(), "resume s.nwq f.git tables.txt"];
         found.files.add("s.nwq", b"not written")?;
         found.files.add("f.git", b"not written")?;
-        if !goes_on(alloc, lines, found, PLAYED.as_bytes(), Some(area), hooks)? {
+        if !goes_as_played(alloc, plan, n, found, area, hooks)? {
             return Ok(Some(n));
         }
     }
     Ok(None)
+}
+
+/// The same of each plan, over the files of a day that was played.
+fn first_plan_apart(
+    alloc: Global,
+    found: &mut Outcome,
+    area: &[u8],
+    hooks: &Hooks,
+) -> Result<Option<(usize, u64)>, NoMemory>
+    requires hooks { AreServing (map (λ h. h.known) hooks.now.all.items) }
+{
+    for (place, plan) in PLANS.iter().enumerate() {
+        if let Some(n) = first_apart(alloc, plan, found, area, hooks)? {
+            return Ok(Some((place, n)));
+        }
+    }
+    Ok(None)
+}
+
+fn first_broken_in(
+    alloc: Global,
+    found: &mut Outcome,
+    hooks: &Hooks,
+) -> Result<Option<(usize, u64)>, NoMemory>
+    requires hooks { AreServing (map (λ h. h.known) hooks.now.all.items) }
+{
+    let area = evening(alloc, found, hooks)?;
+    first_plan_apart(alloc, found, area.as_slice(), hooks)
 }
 
 /// The place of the first plan whose play goes on otherwise once it was saved, and after how many
@@ -143,11 +219,7 @@ pub fn first_broken(alloc: Global, hooks: &Hooks) -> Result<Option<(usize, u64)>
     requires hooks { AreServing (map (λ h. h.known) hooks.now.all.items) }
 {
     let mut found = Outcome::new(alloc);
-    let area = evening(alloc, &mut found, hooks)?;
-    for (place, plan) in PLANS.iter().enumerate() {
-        if let Some(n) = first_apart(alloc, plan, &mut found, area.as_slice(), hooks)? {
-            return Ok(Some((place, n)));
-        }
-    }
-    Ok(None)
+    let broken = first_broken_in(alloc, &mut found, hooks);
+    drop(found);
+    broken
 }

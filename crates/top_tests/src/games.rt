@@ -341,20 +341,23 @@ fn plays_over<'x>(
     comes(alloc, &row, hooks)
 }
 
-/// The place of the first script of which something else comes, if there is one.
-pub fn first_large(alloc: Global, hooks: &Hooks) -> Result<Option<usize>, NoMemory>
+/// The place of the first script of which something else comes over this area, if there is one.
+fn first_over(alloc: Global, area: &[u8], hooks: &Hooks) -> Result<Option<usize>, NoMemory>
     requires hooks { AreServing (map (λ h. h.known) hooks.now.all.items) }
 {
-    let area = repeated(alloc, LARGE_FRONT, 0, LARGE_FILL, LARGE_REST)?;
     for (place, (source, status, text, written)) in LARGE.iter().enumerate() {
-        let left = if *written {
-            area.as_slice()
-        } else {
-            b"before".as_slice()
-        };
-        if !plays_over(alloc, area.as_slice(), source, *status, text, left, hooks)? {
+        let left = if *written { area } else { b"before".as_slice() };
+        if !plays_over(alloc, area, source, *status, text, left, hooks)? {
             return Ok(Some(place));
         }
     }
     Ok(None)
+}
+
+/// The same over the largest area.
+pub fn first_large(alloc: Global, hooks: &Hooks) -> Result<Option<usize>, NoMemory>
+    requires hooks { AreServing (map (λ h. h.known) hooks.now.all.items) }
+{
+    let area = repeated(alloc, LARGE_FRONT, 0, LARGE_FILL, LARGE_REST)?;
+    first_over(alloc, area.as_slice(), hooks)
 }

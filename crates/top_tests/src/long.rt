@@ -3,7 +3,7 @@
 ghost use Rattle.std.specs.Prelude.{map};
 ghost use Rattle.world_core.specs.Calls.{AreServing};
 
-use crate::answers::{Failing, Outcome, begun, carry_on};
+use crate::answers::{Failing, Outcome, begin, carry_on};
 use crate::samples::{ROUNDS, repeated};
 use crate::saves::goes_on;
 use hook_table::Hooks;
@@ -44,16 +44,19 @@ fn area_of(alloc: Global, count: u8) -> Result<Vec<u8>, NoMemory> {
 const TEXT: &str = "0 #1 speak round 6\n6000 #1 print 6\n6000 #1 speak round 7\n\
     12000 #1 print 7\nend done clock 12000 entries 6 instructions 64\n";
 
-/// Whether the guard's rounds leave this area, and do so saved after the first entry and resumed
-/// too.
+/// Whether the guard's rounds over an area leave this one, and do so saved after the first entry
+/// and resumed too.
 fn leave(
     alloc: Global,
     found: &mut Outcome,
+    before: &[u8],
     area: &[u8],
     hooks: &Hooks,
 ) -> Result<[bool; 2], NoMemory>
     requires hooks { AreServing (map (λ h. h.known) hooks.now.all.items) }
 {
+    begin(found, ROUNDS, Failing::Nothing)?;
+    found.files.add("a.git", before)?;
     carry_on(alloc, "play - a.git x.plan f.git", found, hooks)?;
     let is_left = found.files.get("f.git") == Some(area);
     let is_done = found.status == Status::Done && found.out.bytes() == TEXT.as_bytes();
@@ -69,7 +72,14 @@ pub fn is_kept(alloc: Global, hooks: &Hooks) -> Result<[bool; 2], NoMemory>
 {
     let before = area_of(alloc, 5)?;
     let after = area_of(alloc, 7)?;
-    let mut found = begun(alloc, ROUNDS, Failing::Nothing)?;
-    found.files.add("a.git", before.as_slice())?;
-    leave(alloc, &mut found, after.as_slice(), hooks)
+    let mut found = Outcome::new(alloc);
+    let kept = leave(
+        alloc,
+        &mut found,
+        before.as_slice(),
+        after.as_slice(),
+        hooks,
+    );
+    drop(found);
+    kept
 }

@@ -4,7 +4,7 @@
 ghost use Rattle.std.specs.Prelude.{map};
 ghost use Rattle.world_core.specs.Calls.{AreServing};
 
-use crate::answers::{Failing, Outcome, outcome_of};
+use crate::answers::{Failing, Outcome, come};
 use crate::games::THREE;
 use hook_table::Hooks;
 use nwq_top::Status;
@@ -48,11 +48,22 @@ fn all_but<'a>(
     Ok(rest)
 }
 
-/// Whether words ended with this status and line, which is all, and left no area.
-fn is_stop(found: &Outcome, status: Status, text: &str) -> bool {
+/// Whether a line is this word and this name.
+fn is_line(line: &[u8], word: &str, name: &str) -> bool {
+    match line.strip_prefix(word.as_bytes()) {
+        None => false,
+        Some(rest) => match rest.strip_prefix(name.as_bytes()) {
+            None => false,
+            Some(rest) => rest == b"\n".as_slice(),
+        },
+    }
+}
+
+/// Whether words ended with this status and a line, which is all, and left no area.
+fn is_stop(found: &Outcome, status: Status, word: &str, name: &str) -> bool {
     found.status == status
         && found.out.calls() == 1
-        && found.out.bytes() == text.as_bytes()
+        && is_line(found.out.bytes(), word, name)
         && found.files.get("f.git").is_none()
 }
 
@@ -68,9 +79,14 @@ fn stops(
 ) -> Result<bool, NoMemory>
     requires hooks { AreServing (map (λ h. h.known) hooks.now.all.items) }
 {
-    let text = format!(in alloc; "{word} {name}\n")?;
-    let found = outcome_of(alloc, line, before, Failing::Nothing, hooks)?;
-    Ok(is_stop(&found, status, text.as_str()))
+    let mut found = Outcome::new(alloc);
+    let done = come(alloc, line, before, Failing::Nothing, &mut found, hooks);
+    let is = is_stop(&found, status, word, name);
+    drop(found);
+    match done {
+        Ok(()) => Ok(is),
+        Err(NoMemory) => Err(NoMemory),
+    }
 }
 
 /// The place of the first words of which something else comes where the file isn't there.
@@ -84,7 +100,7 @@ pub fn first_missing(alloc: Global, hooks: &Hooks) -> Result<Option<usize>, NoMe
             line,
             rest.as_slice(),
             Status::Missing,
-            "missing",
+            "missing ",
             name,
             hooks,
         )? {
@@ -94,26 +110,25 @@ pub fn first_missing(alloc: Global, hooks: &Hooks) -> Result<Option<usize>, NoMe
     Ok(None)
 }
 
-/// The place of the first words of which something else comes where the file is too long.
-pub fn first_long(alloc: Global, hooks: &Hooks) -> Result<Option<usize>, NoMemory>
+/// The place of the first words of which something else comes where the file holds these bytes,
+/// which are too many.
+fn first_of(alloc: Global, long: &[u8], hooks: &Hooks) -> Result<Option<usize>, NoMemory>
     requires hooks { AreServing (map (λ h. h.known) hooks.now.all.items) }
 {
-    let long = vec![in alloc; b' '; 16_777_217]?;
     let [plan, header, a, include, b, c, area] = THREE;
     for (place, (line, name)) in READS.iter().enumerate() {
-        let before = [
-            plan,
-            header,
-            a,
-            include,
-            b,
-            c,
-            area,
-            (*name, long.as_slice()),
-        ];
-        if !stops(alloc, line, &before, Status::Long, "long", name, hooks)? {
+        let before = [plan, header, a, include, b, c, area, (*name, long)];
+        if !stops(alloc, line, &before, Status::Long, "long ", name, hooks)? {
             return Ok(Some(place));
         }
     }
     Ok(None)
+}
+
+/// The same where the file is one byte too long.
+pub fn first_long(alloc: Global, hooks: &Hooks) -> Result<Option<usize>, NoMemory>
+    requires hooks { AreServing (map (λ h. h.known) hooks.now.all.items) }
+{
+    let long = vec![in alloc; b' '; 16_777_217]?;
+    first_of(alloc, long.as_slice(), hooks)
 }

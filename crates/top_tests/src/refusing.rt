@@ -29,12 +29,18 @@ fn add_table(files: &mut MemFiles) -> Result<(), NoMemory> {
     files.add(table, text)
 }
 
+fn tables_in(alloc: Global, found: &mut Outcome) -> Result<Result<Tables, Status>, NoMemory> {
+    add_table(&mut found.files)?;
+    let words = words_of(alloc, LINE)?;
+    Ok(tables_given(alloc, words.as_slice(), found))
+}
+
 /// The tables of the list, or how the program stops there.
 pub fn tables(alloc: Global) -> Result<Result<Tables, Status>, NoMemory> {
-    let words = words_of(alloc, LINE)?;
     let mut found = Outcome::new(alloc);
-    add_table(&mut found.files)?;
-    Ok(tables_given(alloc, words.as_slice(), &mut found))
+    let tables = tables_in(alloc, &mut found);
+    drop(found);
+    tables
 }
 
 pub const ROWS: &[Row] = &[

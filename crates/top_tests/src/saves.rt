@@ -4,7 +4,7 @@
 ghost use Rattle.std.specs.Prelude.{map};
 ghost use Rattle.world_core.specs.Calls.{AreServing};
 
-use crate::answers::{Failing, Held, Outcome, Row, begun, carry_on, is_as, outcome_of};
+use crate::answers::{Failing, Held, Outcome, Row, begin, carry_on, come, is_as};
 use crate::plans::NOTIFIED;
 use crate::samples::{GUARD, ROUNDS};
 use hook_table::Hooks;
@@ -156,6 +156,22 @@ pub fn goes_on(
     )
 }
 
+/// Whether a play that is saved by one line and resumed by another goes as the unbroken one.
+fn goes_as_in(
+    alloc: Global,
+    lines: [&str; 2],
+    game: &Game,
+    unbroken: &Outcome,
+    found: &mut Outcome,
+    hooks: &Hooks,
+) -> Result<bool, NoMemory>
+    requires hooks { AreServing (map (λ h. h.known) hooks.now.all.items) }
+{
+    let (text, area) = (unbroken.out.bytes(), unbroken.files.get("f.git"));
+    begin(found, game.files, Failing::Nothing)?;
+    goes_on(alloc, lines, found, text, area, hooks)
+}
+
 /// Whether a play that is saved after so many entries and resumed goes as the unbroken one.
 fn goes_as(
     alloc: Global,
@@ -168,26 +184,49 @@ fn goes_as(
 {
     let save = format!(in alloc; "save {} {n} s.nwq", game.given)?;
     let lines = [save.as_str(), "resume s.nwq f.git"];
-    let (text, area) = (unbroken.out.bytes(), unbroken.files.get("f.git"));
-    let mut found = begun(alloc, game.files, Failing::Nothing)?;
-    goes_on(alloc, lines, &mut found, text, area, hooks)
+    let mut found = Outcome::new(alloc);
+    let goes = goes_as_in(alloc, lines, game, unbroken, &mut found, hooks);
+    drop(found);
+    goes
 }
 
-/// After how many entries a saved play goes on otherwise, if it does so anywhere.
-fn first_broken(alloc: Global, game: &Game, hooks: &Hooks) -> Result<Option<u64>, NoMemory>
+/// Plays without a break.
+fn play(alloc: Global, game: &Game, unbroken: &mut Outcome, hooks: &Hooks) -> Result<(), NoMemory>
     requires hooks { AreServing (map (λ h. h.known) hooks.now.all.items) }
 {
     let line = format!(in alloc; "play {} f.git", game.given)?;
-    let unbroken = outcome_of(alloc, &line, game.files, Failing::Nothing, hooks)?;
+    come(alloc, &line, game.files, Failing::Nothing, unbroken, hooks)
+}
+
+/// After how many entries a saved play goes on otherwise than this one, if it does so anywhere.
+fn first_other(
+    alloc: Global,
+    game: &Game,
+    unbroken: &mut Outcome,
+    hooks: &Hooks,
+) -> Result<Option<u64>, NoMemory>
+    requires hooks { AreServing (map (λ h. h.known) hooks.now.all.items) }
+{
+    play(alloc, game, unbroken, hooks)?;
     if unbroken.status != Status::Done {
         return Ok(Some(0));
     }
     for n in 1..game.below {
-        if !goes_as(alloc, game, n, &unbroken, hooks)? {
+        if !goes_as(alloc, game, n, unbroken, hooks)? {
             return Ok(Some(n));
         }
     }
     Ok(None)
+}
+
+/// The same of the play without a break.
+fn first_broken(alloc: Global, game: &Game, hooks: &Hooks) -> Result<Option<u64>, NoMemory>
+    requires hooks { AreServing (map (λ h. h.known) hooks.now.all.items) }
+{
+    let mut unbroken = Outcome::new(alloc);
+    let broken = first_other(alloc, game, &mut unbroken, hooks);
+    drop(unbroken);
+    broken
 }
 
 /// The place of the first play that goes on otherwise once it was saved, and after how many
@@ -266,15 +305,29 @@ const RESUMES: &[(Failing, u64, &str, &[(&str, Held)])] = &[
 ];
 
 /// Whether a play that was saved and is resumed comes to what a row says.
-fn comes_back(alloc: Global, row: &Row, hooks: &Hooks) -> Result<bool, NoMemory>
+fn comes_back_in(
+    alloc: Global,
+    row: &Row,
+    found: &mut Outcome,
+    hooks: &Hooks,
+) -> Result<bool, NoMemory>
     requires hooks { AreServing (map (λ h. h.known) hooks.now.all.items) }
 {
-    let mut found = outcome_of(alloc, FIRST, row.before, row.failing, hooks)?;
+    come(alloc, FIRST, row.before, row.failing, found, hooks)?;
     if found.status != Status::Done {
         return Ok(false);
     }
-    carry_on(alloc, row.line, &mut found, hooks)?;
-    Ok(is_as(&found, row))
+    carry_on(alloc, row.line, found, hooks)?;
+    Ok(is_as(found, row))
+}
+
+fn comes_back(alloc: Global, row: &Row, hooks: &Hooks) -> Result<bool, NoMemory>
+    requires hooks { AreServing (map (λ h. h.known) hooks.now.all.items) }
+{
+    let mut found = Outcome::new(alloc);
+    let comes = comes_back_in(alloc, row, &mut found, hooks);
+    drop(found);
+    comes
 }
 
 /// The place of the first call of `resume` that fails otherwise, if there is one.

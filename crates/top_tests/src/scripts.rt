@@ -3,7 +3,7 @@
 ghost use Rattle.std.specs.Prelude.{map};
 ghost use Rattle.world_core.specs.Calls.{AreServing};
 
-use crate::answers::{Failing, Held, Row, comes, outcome_of};
+use crate::answers::{Failing, Held, Outcome, Row, come, comes};
 use crate::samples::{FIRST_SUM, NOTHING, SUM, repeated};
 use hook_table::Hooks;
 use nwq_top::Status;
@@ -359,6 +359,28 @@ fn is_traced(text: &[u8], lines: &str) -> bool {
     }
 }
 
+/// Whether the play of a script is done, and its trace is these lines.
+fn traces(alloc: Global, source: &str, lines: &str, hooks: &Hooks) -> Result<bool, NoMemory>
+    requires hooks { AreServing (map (λ h. h.known) hooks.now.all.items) }
+{
+    let mut found = Outcome::new(alloc);
+    let before = [("p.nss", source.as_bytes())];
+    let done = come(
+        alloc,
+        "run - p",
+        &before,
+        Failing::Nothing,
+        &mut found,
+        hooks,
+    );
+    let is = found.status == Status::Done && is_traced(found.out.bytes(), lines);
+    drop(found);
+    match done {
+        Ok(()) => Ok(is),
+        Err(NoMemory) => Err(NoMemory),
+    }
+}
+
 /// The place of the first script whose trace is another, if there is one.
 pub fn first_traced(
     alloc: Global,
@@ -368,9 +390,7 @@ pub fn first_traced(
     requires hooks { AreServing (map (λ h. h.known) hooks.now.all.items) }
 {
     for (place, (source, lines)) in rows.iter().enumerate() {
-        let before = [("p.nss", source.as_bytes())];
-        let found = outcome_of(alloc, "run - p", &before, Failing::Nothing, hooks)?;
-        if found.status != Status::Done || !is_traced(found.out.bytes(), lines) {
+        if !traces(alloc, source, lines, hooks)? {
             return Ok(Some(place));
         }
     }

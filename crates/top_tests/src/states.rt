@@ -3,7 +3,7 @@
 ghost use Rattle.std.specs.Prelude.{map};
 ghost use Rattle.world_core.specs.Calls.{AreServing};
 
-use crate::answers::{Failing, Held, Outcome, Row, carry_on, comes};
+use crate::answers::{Failing, Held, Outcome, Row, come, comes};
 use crate::samples::{EMPTY, repeated};
 use hook_table::Hooks;
 use nwq_top::Status;
@@ -68,13 +68,35 @@ fn resumes(
     requires hooks { AreServing (map (λ h. h.known) hooks.now.all.items) }
 {
     let mut found = Outcome::new(alloc);
-    found.files.add("s.nwq", state)?;
-    carry_on(alloc, "resume s.nwq f.git", &mut found, hooks)?;
-    Ok(
-        found.status == status
-            && found.out.bytes() == text.as_bytes()
-            && found.files.get("f.git") == area,
-    )
+    let before = [("s.nwq", state)];
+    let line = "resume s.nwq f.git";
+    let done = come(alloc, line, &before, Failing::Nothing, &mut found, hooks);
+    let is = found.status == status
+        && found.out.bytes() == text.as_bytes()
+        && found.files.get("f.git") == area;
+    drop(found);
+    match done {
+        Ok(()) => Ok(is),
+        Err(NoMemory) => Err(NoMemory),
+    }
+}
+
+/// Whether the play is saved as a state, the state is resumed, and another one is refused.
+fn are_states(
+    alloc: Global,
+    state: &[u8],
+    moved: &[u8],
+    hooks: &Hooks,
+) -> Result<[bool; 3], NoMemory>
+    requires hooks { AreServing (map (λ h. h.known) hooks.now.all.items) }
+{
+    let text = "1000 #0 print 1\nend done clock 1000 entries 2 instructions 17\n";
+    let refusal = "refused s.nwq unfit 6\n";
+    Ok([
+        saves(alloc, state, hooks)?,
+        resumes(alloc, state, Status::Done, text, Some(EMPTY), hooks)?,
+        resumes(alloc, moved, Status::Area, refusal, None, hooks)?,
+    ])
 }
 
 /// Whether the play is saved as this state, the state is resumed, and it is refused where the place
@@ -84,18 +106,5 @@ pub fn are_as_told(alloc: Global, hooks: &Hooks) -> Result<[bool; 3], NoMemory>
 {
     let state = repeated(alloc, FRONT, PLACE, 1, REST)?;
     let moved = repeated(alloc, FRONT, PLACE + 1, 1, REST)?;
-    let text = "1000 #0 print 1\nend done clock 1000 entries 2 instructions 17\n";
-    let refusal = "refused s.nwq unfit 6\n";
-    Ok([
-        saves(alloc, state.as_slice(), hooks)?,
-        resumes(
-            alloc,
-            state.as_slice(),
-            Status::Done,
-            text,
-            Some(EMPTY),
-            hooks,
-        )?,
-        resumes(alloc, moved.as_slice(), Status::Area, refusal, None, hooks)?,
-    ])
+    are_states(alloc, state.as_slice(), moved.as_slice(), hooks)
 }
