@@ -174,8 +174,8 @@ fn put_used_up(
     put_note(out, name, sentence, digits.as_slice())
 }
 
-/// Whether the play of a plan, or the part of it that was saved, has left no random numbers. A state
-/// that was written tells it; none is where a limit stopped an entry.
+/// Whether the play of a plan, or the part of it that was saved, has left no random numbers. A
+/// state that was written tells it; none is where a limit stopped an entry.
 fn used_up<F: Files>(alloc: Global, inputs: Inputs<'_>, end: End<'_>, files: &mut F) -> bool
     ensures same { F.contents files.new ≡ F.contents files.old }
 {

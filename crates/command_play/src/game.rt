@@ -138,7 +138,8 @@ pub fn play_files<F: Files, S: Sink>(
     requires hooks { AreServing (map (λ h. h.known) hooks.now.all.items) }
     ensures does { IsTrue F.tells → IsTrue S.tells → DoesOn F.contents S.taken (plays
         (cells_of (map (λ h. h.known) hooks.now.all.items)) game.entry.header.now
-        game.entry.area.now game.entry.plan.now game.entry.to.now) files.old out.old result files.new out.new }
+        game.entry.area.now game.entry.plan.now game.entry.to.now)
+        files.old out.old result files.new out.new }
     ensures counts { TalliesOn F.counts S.faults result files.old out.old files.new out.new }
     // The files of bytecode of scripts, and the file of the area that is left, alone are written.
     ensures names { KeepsBut (IsGameFile game.entry.to.now)
