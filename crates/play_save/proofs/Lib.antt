@@ -13,3 +13,5 @@ pub mod Opening
 pub mod Accepting
 pub mod Saving
 pub mod Holding
+pub mod Making
+pub mod States

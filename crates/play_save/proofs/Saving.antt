@@ -37,7 +37,7 @@ rests_too scripts area w may = record {
   fit = record { agenda = may.fit.agenda; queues = may.fit.queues };
 }
 
-world_too : (w : World Saved) → IsWorld w → IsWorld (resting w)
+pub world_too : (w : World Saved) → IsWorld w → IsWorld (resting w)
 world_too w is = record { counted = is.counted; agenda = is.agenda; placed = is.placed; due = is.due; turns = is.turns }
 
 count_too : (limits : Limits) (w : World Saved) (taken done : ℕ) → MayCount limits w taken done → MayCount limits (resting w) taken done
@@ -100,7 +100,7 @@ made clock area things entries next random version = record {
   version = version;
 }
 
-world_saved : (s : Parts) (w : World Saved) → IsArea w.area → Tells s (resting w) → resting w ≡ world_of w.area.tree s
+pub world_saved : (s : Parts) (w : World Saved) → IsArea w.area → Tells s (resting w) → resting w ≡ world_of w.area.tree s
 world_saved s w is tells =
     let area : w.area ≡ area_from w.area.tree s =
     ap (λ (l : List AreaObject). record w.area { objects = l }) (objects_told w.area.objects (objects_of w.area.tree.top) s.objects is.same tells.objects.variables) in
