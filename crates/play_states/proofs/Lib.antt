@@ -1,0 +1,4 @@
+mod Calls
+mod Keeping
+mod Counting
+mod Resting

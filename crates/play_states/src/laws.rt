@@ -1,0 +1,34 @@
+//! Laws of plays of files between two entries, each the contract of a function that does nothing.
+ghost use Rattle.play_states.specs.Resting.{PlaysComeToStates, PlaysCountFew, PlaysRest};
+
+use local_variables::variables_tell;
+use ncs_machine::{Scene, calls_keep_fits, entries_keep_fits, runs_lead};
+use play_save::plays_have_states;
+use saved_state::Saved;
+use stack_rules::{runs_are_sound, tables_type_execute_script};
+use world_core::answers_have_types;
+use world_rules::plays_settle;
+
+/// A play of files that goes on from a world that rests comes to one that rests, unless it is
+/// stopped inside an entry; and there is a state of it, where that world has room in one.
+pub fn plays_rest()
+    ensures rest { PlaysRest }
+    ensures states { PlaysComeToStates }
+{
+    variables_tell();
+    runs_are_sound::<Scene>();
+    calls_keep_fits();
+    entries_keep_fits();
+    runs_lead();
+    plays_settle::<Saved>();
+    answers_have_types::<Saved>();
+    tables_type_execute_script();
+    plays_have_states();
+}
+
+/// How many instructions a play executes at most, and how many entries it posts.
+pub fn counts_are_few()
+    ensures few { PlaysCountFew }
+{
+    variables_tell();
+}
