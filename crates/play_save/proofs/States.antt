@@ -9,7 +9,7 @@ use Rattle.nwq_text.specs.Names.{is_script_name}
 use Rattle.nwq_value.specs.Engine.{EngineTable}
 use Rattle.engine_table.specs.Headers.{OneHeader}
 use Rattle.ncs_code.specs.File.{IsCode, file_bytes}
-use Rattle.ncs_code.specs.Laws.{SpellingLaws}
+use Rattle.ncs_code.specs.Laws.{SpellingLaws, FileLength}
 use Rattle.plan_text.specs.Plans.{Limits}
 use Rattle.area_rules.specs.Objects.{objects_of}
 use Rattle.action_queue.specs.Queued.{Queued}
@@ -44,6 +44,7 @@ use Rattle.play_save.proofs.CapturedLemmas.{one_table, one_file}
 use Rattle.play_save.proofs.Keeping.{all_got}
 use Rattle.play_save.proofs.Accepting.{all_back, length_map, map_map, same_count, own_variables, queue_here, no_items, agenda_there}
 use Rattle.play_save.proofs.Saving.{world_saved, world_too}
+use Rattle.play_save.proofs.FileBytes.{name_blob, file_blob}
 use Rattle.play_save.proofs.Making.{made_all, object_parts, objects_made, parts_few, entry_part, entry_made, entries_few, all_ready, IsReady}
 
 -- ---- tables of shapes, by the numbers of scripts
@@ -145,9 +146,10 @@ named_parts : (scripts : List Script) → AllByRecursion (λ (x : Script). IsTru
 named_parts [] all = tt
 named_parts (x ∷ xs) all = (all.0, named_parts xs all.1)
 
-blob_parts : (scripts : List Script) → AllByRecursion (λ (x : Script). IsBlob x.name × IsBlob (file_bytes x.code)) scripts → AllByRecursion IsScript (map listed_part scripts)
-blob_parts [] all = tt
-blob_parts (x ∷ xs) all = (all.0, blob_parts xs all.1)
+blob_parts : FileLength → (scripts : List Script) → AllByRecursion (λ (x : Script). IsTrue (is_script_name x.name)) scripts
+    → AllByRecursion (λ (x : Script). IsCode x.code) scripts → AllByRecursion IsScript (map listed_part scripts)
+blob_parts sizes [] names code = tt
+blob_parts sizes (x ∷ xs) names code = ((name_blob x.name names.0, file_blob sizes x.code code.0), blob_parts sizes xs names.1 code.1)
 
 -- ---- the parts
 
@@ -174,7 +176,7 @@ module _ (header : Option (List ℕ)) (scripts : List Script) (area : List ℕ) 
     entries_made : ArePartsOf entry_of IsEntry is_short_entry w.agenda.entries (map entry_part w.agenda.entries)
     entries_made =
         let world = rests.between.world in
-        let few : length w.area.objects < 4294967296 = rests.kept.few in
+        let few : length w.area.objects < 4294967296 = (let few = room.objects in omega (arith, few)) in
         made_all entry_of IsEntry is_short_entry (IsReady w.agenda.next (length w.area.objects)) entry_part
         (entry_made w.agenda.next (length w.area.objects) rests.next few) w.agenda.entries
         (all_ready w.agenda.next (length w.area.objects) w.agenda.entries world.agenda.below rests.due world.placed room.agenda.1)
@@ -190,10 +192,10 @@ module _ (header : Option (List ℕ)) (scripts : List Script) (area : List ℕ) 
       objects = objects_made w.area.objects w.things rests.between.world.counted room.variables room.things;
     }
 
-    has_form : HasForm parts
-    has_form = record {
+    has_form : FileLength → HasForm parts
+    has_form sizes = record {
       header = listed.text;
-      scripts = (let few = listed.few in omega (arith, length_map listed_part scripts), blob_parts scripts listed.blobs);
+      scripts = (let few = listed.few in omega (arith, length_map listed_part scripts), blob_parts sizes scripts listed.names listed.code);
       area = rests.blob;
       version = small_version rests.version;
       limit = (let most = limited.limit.1 in omega arith);
@@ -205,7 +207,7 @@ module _ (header : Option (List ℕ)) (scripts : List Script) (area : List ℕ) 
       next = (let here = rests.next in omega arith);
       random = (let few = rests.random in omega arith, room.random);
       objects = (
-        let few = rests.kept.few in let fewer = parts_few w.area.objects w.things in omega arith,
+        let few = room.objects in let fewer = parts_few w.area.objects w.things in omega arith,
         (objects_made w.area.objects w.things rests.between.world.counted room.variables room.things).form,
       );
       agenda = (entries_few w.agenda.entries room.agenda.0, entries_made.form);
@@ -280,16 +282,16 @@ module _ (header : Option (List ℕ)) (scripts : List Script) (area : List ℕ) 
       ),
     )
 
-pub plays_have_states : OneHeader → SpellingLaws → PlaysHaveStates
-plays_have_states one spellings header scripts area limits taken done w listed rests limited counted room = record {
+pub plays_have_states : OneHeader → SpellingLaws → FileLength → PlaysHaveStates
+plays_have_states one spellings sizes header scripts area limits taken done w listed rests limited counted room = record {
   state = parts header scripts area limits taken done w;
-  form = has_form header scripts area limits taken done w listed rests limited counted room;
+  form = has_form header scripts area limits taken done w listed rests limited counted room sizes;
   accepted = is_accepted header scripts area limits taken done w listed rests limited counted room one spellings;
   play = record { header = refl; scripts = refl; area = refl; limit = refl; entries = refl; until = refl };
   come = record { taken = refl; done = refl };
   world = record {
     tree = w.area.tree;
     area = rests.file;
-    world = world_saved (parts header scripts area limits taken done w) w rests.kept (tells header scripts area limits taken done w listed rests limited counted room);
+    world = world_saved (parts header scripts area limits taken done w) w rests.kept.same (tells header scripts area limits taken done w listed rests limited counted room);
   };
 }

@@ -14,8 +14,8 @@ use Rattle.saved_state.specs.declared.cell.Cell.{Cell}
 use Rattle.saved_state.specs.declared.cell.Cell.TheVariants.{Value as Holds, Base}
 use Rattle.saved_state.specs.declared.saved.Saved.{Saved}
 use Rattle.local_variables.specs.Variables.{Variable, IntVar, TextVar}
-use Rattle.area_rules.specs.Objects.{AreaObject}
-use Rattle.area_rules.specs.Area.{IsArea}
+use Rattle.area_rules.specs.Objects.{AreaObject, objects_of}
+use Rattle.area_rules.specs.Area.{PlainArea, HaveDistinct, bare}
 use Rattle.action_queue.specs.declared.queue.Item.{Item}
 use Rattle.action_queue.specs.declared.queue.Item.TheVariants.{Do, Wait, Speak}
 use Rattle.delay_agenda.specs.declared.entry.Entry.{Entry}
@@ -100,6 +100,7 @@ EntryHasRoom e = KindHasRoom e.kind
 -- every number, text and list of the world has a field of a state that holds it
 pub record HasRoom (w : World Saved) : Type 0 where
   pub random : AllByRecursion (IsNumber 4) w.random
+  pub objects : IsNumber 4 (length w.area.objects)
   pub variables : AllByRecursion ObjectHasRoom w.area.objects
   pub things : AllByRecursion ThingsHaveRoom w.things
   pub agenda : IsList EntryHasRoom w.agenda.entries
@@ -118,16 +119,21 @@ pub record AreListed (header : Option (List ℕ)) (scripts : List Script) : Type
   pub few : length scripts ≤ script_limit
   pub names : AllByRecursion (λ (s : Script). IsTrue (is_script_name s.name)) scripts
   pub distinct : IsDistinct bytes_eq (map (λ (s : Script). s.name) scripts)
-  pub blobs : AllByRecursion (λ (s : Script). IsBlob s.name × IsBlob (file_bytes s.code)) scripts
   pub code : AllByRecursion (λ (s : Script). IsCode s.code) scripts
   pub stacked : AllByRecursion (λ (s : Script). WellStacked table s.code) scripts
+
+-- the objects of an area are its tree's but for their variables, and no two variables of an object
+-- have one type and name
+pub record KeepsObjects (area : PlainArea) : Type 0 where
+  pub same : map bare area.objects ≡ map bare (objects_of area.tree.top)
+  pub distinct : HaveDistinct area.objects
 
 -- the world of a play of these scripts between two of its entries, whose area is that of these
 -- bytes
 pub record Rests (table : EngineTable) (scripts : List Script) (area : List ℕ) (w : World Saved) : Type 0 where
   pub file : IsAreaOf w.area.tree area
   pub blob : IsBlob area
-  pub kept : IsArea w.area
+  pub kept : KeepsObjects w.area
   pub between : IsBetween w
   pub version : (w.version ≡ 1) ⊎ (w.version ≡ 2)
   pub random : length w.random ≤ random_limit

@@ -2,7 +2,7 @@
 ghost use Rattle.play_save.specs.Written.{PlaysHaveStates};
 
 use engine_table::laws::one_header;
-use ncs_code::spelling_laws;
+use ncs_code::{size_laws, spelling_laws};
 
 /// There is a state of each play that rests between two of its entries, where each number, text and
 /// list of its world has a field that holds it.
@@ -11,4 +11,5 @@ pub fn plays_have_states()
 {
     one_header();
     spelling_laws();
+    size_laws();
 }
