@@ -8,6 +8,7 @@ use Rattle.nwq_value.specs.Limits.{text_limit, script_limit, random_limit}
 use Rattle.nwq_value.specs.declared.value.Value.{Value}
 use Rattle.nwq_value.specs.declared.value.Value.TheVariants as value
 use Rattle.nwq_text.specs.Names.{is_script_name}
+use Rattle.ncs_code.specs.Plain.{PlainOp}
 use Rattle.ncs_code.specs.File.{IsCode, file_bytes}
 use Rattle.plan_text.specs.Plans.{Limits}
 use Rattle.saved_state.specs.declared.cell.Cell.{Cell}
@@ -104,6 +105,12 @@ pub record HasRoom (w : World Saved) : Type 0 where
   pub variables : AllByRecursion ObjectHasRoom w.area.objects
   pub things : AllByRecursion ThingsHaveRoom w.things
   pub agenda : IsList EntryHasRoom w.agenda.entries
+
+-- ---- files of bytecode
+
+-- the file of code is bytes
+abbrev pub CodeIsBytes : Type 0
+CodeIsBytes = (ops : List PlainOp) → IsCode ops → AreBytes (file_bytes ops)
 
 -- ---- plays
 

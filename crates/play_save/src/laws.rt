@@ -1,5 +1,5 @@
 //! A law about states, as the contract of a function that does nothing.
-ghost use Rattle.play_save.specs.Written.{PlaysHaveStates};
+ghost use Rattle.play_save.specs.Written.{CodeIsBytes, PlaysHaveStates};
 
 use engine_table::laws::one_header;
 use ncs_code::{size_laws, spelling_laws};
@@ -11,5 +11,12 @@ pub fn plays_have_states()
 {
     one_header();
     spelling_laws();
+    size_laws();
+}
+
+/// The file of code is bytes.
+pub fn code_is_bytes()
+    ensures bytes { CodeIsBytes }
+{
     size_laws();
 }

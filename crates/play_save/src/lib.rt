@@ -31,6 +31,6 @@ mod waiting;
 mod world;
 
 pub use fault::StateFault;
-pub use laws::plays_have_states;
+pub use laws::{code_is_bytes, plays_have_states};
 pub use state::{Opened, State, put_state, read_state};
 pub use state_format::SaveFault;

@@ -10,7 +10,8 @@ use Rattle.nwq_value.specs.declared.engine.Routine.{Routine}
 use Rattle.local_variables.specs.Variables.{Variable, IntVar, TextVar, same_variable, put, is_int, is_text}
 use Rattle.local_variables.specs.Laws.{PutKeepsDistinct, FilterKeepsDistinct}
 use Rattle.area_rules.specs.Objects.{AreaObject}
-use Rattle.area_rules.specs.Area.{PlainArea, IsArea, HaveDistinct, bare, changed, changed_at}
+use Rattle.area_rules.specs.Area.{PlainArea, HaveDistinct, bare, changed, changed_at}
+use Rattle.play_save.specs.Written.{KeepsObjects}
 use Rattle.action_queue.specs.declared.queue.Item.{Item}
 use Rattle.saved_state.specs.declared.saved.Saved.{Saved}
 use Rattle.world_rules.specs.Pure.{CellLookup}
@@ -22,7 +23,7 @@ use Rattle.world_rules.specs.Engine.{engine, by_role, by_row, by_routine, row_nu
 
 -- a call leaves an area one, and posts one entry at most
 pub record Leaves (w v : World Saved) : Type 0 where
-  pub area : IsArea w.area → IsArea v.area
+  pub area : KeepsObjects w.area → KeepsObjects v.area
   pub posts : v.agenda.next ≤ w.agenda.next + 1
 
 -- whichever is done
@@ -40,11 +41,6 @@ bare_stays i change [] = refl
 bare_stays zero change (o ∷ os) = refl
 bare_stays (suc i) change (o ∷ os) = ap (λ (l : List AreaObject). bare o ∷ l) (bare_stays i change os)
 
-count_stays : (i : ℕ) (change : List Variable → List Variable) (os : List AreaObject) → length (changed_at i change os) ≡ length os
-count_stays i change [] = refl
-count_stays zero change (o ∷ os) = refl
-count_stays (suc i) change (o ∷ os) = ap suc (count_stays i change os)
-
 abbrev KeepsDistinct : (List Variable → List Variable) → Type 0
 KeepsDistinct change = (vars : List Variable) → IsDistinct same_variable vars → IsDistinct same_variable (change vars)
 
@@ -53,13 +49,10 @@ distinct_stay i change keeps [] all = tt
 distinct_stay zero change keeps (o ∷ os) all = (keeps o.vars all.0, all.1)
 distinct_stay (suc i) change keeps (o ∷ os) all = (all.0, distinct_stay i change keeps os all.1)
 
-area_stays : (area : PlainArea) (o : ℕ) (change : List Variable → List Variable) → KeepsDistinct change → IsArea area → IsArea (changed area o change)
+area_stays : (area : PlainArea) (o : ℕ) (change : List Variable → List Variable) → KeepsDistinct change → KeepsObjects area → KeepsObjects (changed area o change)
 area_stays area o change keeps is = record {
-  sound = is.sound;
-  whole = is.whole;
   same = bare_stays (o - 1) change area.objects ∙ is.same;
   distinct = distinct_stay (o - 1) change keeps area.objects is.distinct;
-  few = subst (λ n. n < 4294967296) (sym (count_stays (o - 1) change area.objects)) is.few;
 }
 
 variables_leave : (o : ℕ) (change : List Variable → List Variable) → KeepsDistinct change → (w : World Saved) → Leaves w (changed_variables o change w)
@@ -122,7 +115,7 @@ signalled_leaves : (o : ℕ) (user : ℤ) (w : World Saved) → Leaves w (signal
 signalled_leaves o user w = either_leaves (is_valid o w) w _ w (record { area = λ is. is; posts = omega arith }) (same_leaves w)
 
 told_leaves : (w v : World Saved) → v.area ≡ w.area → v.agenda.next ≡ w.agenda.next → Leaves w v
-told_leaves w v area next = record { area = λ is. subst IsArea (sym area) is; posts = omega (arith, next) }
+told_leaves w v area next = record { area = λ is. subst KeepsObjects (sym area) is; posts = omega (arith, next) }
 
 -- ---- the rows
 

@@ -13,7 +13,7 @@ use Rattle.nwq_value.specs.declared.engine.Role.TheVariants.{Uncallable}
 use Rattle.nwq_value.specs.declared.engine.Routine.{Routine}
 use Rattle.nwq_value.specs.Engine.{EngineTable, IsTable}
 use Rattle.local_variables.specs.Laws.{PutKeepsDistinct, FilterKeepsDistinct}
-use Rattle.area_rules.specs.Area.{IsArea}
+use Rattle.play_save.specs.Written.{KeepsObjects}
 use Rattle.action_queue.specs.declared.queue.Item.{Item}
 use Rattle.action_queue.specs.declared.queue.Item.TheVariants.{Do, Wait, Speak}
 use Rattle.delay_agenda.specs.declared.entry.Entry.{Entry}
@@ -93,7 +93,7 @@ named_listed scripts name number h = first_listed scripts (λ s. bytes_eq (map t
 -- ---- what entries do leaves the area as it is
 
 abbrev SameArea : World Saved → World Saved → Type 0
-SameArea w v = IsArea w.area → IsArea v.area
+SameArea w v = KeepsObjects w.area → KeepsObjects v.area
 
 abbrev BegunSame : World Saved → Option (Begun Saved) → Type 0
 BegunSame w None = Unit {0}
@@ -125,7 +125,7 @@ expired_same o number (Some s) w is = is
 
 pub record KeepsFit (scripts : List Script) (tables : Tables) (w : World Saved) : Type 0 where
   pub fits : StatesFit scripts tables w
-  pub area : IsArea w.area
+  pub area : KeepsObjects w.area
 
 module _ (puts : PutKeepsDistinct) (filters : FilterKeepsDistinct)
     (scripts : List Script) (tables : Tables) (e : EngineView) (sound : (first : World Saved) → IsWellStackedHost (host scripts e) tables first)

@@ -2,3 +2,4 @@ mod Calls
 mod Keeping
 mod Counting
 mod Resting
+mod Beginning

@@ -1,9 +1,12 @@
 //! Laws of plays of files between two entries, each the contract of a function that does nothing.
-ghost use Rattle.play_states.specs.Resting.{PlaysComeToStates, PlaysCountFew, PlaysRest};
+ghost use Rattle.play_states.specs.Resting.{FirstEntriesHaveStates, PlaysComeToStates};
+ghost use Rattle.play_states.specs.Resting.{PlaysCountFew, PlaysRest};
 
+use area_rules::objects_tell;
 use local_variables::variables_tell;
 use ncs_machine::{Scene, calls_keep_fits, entries_keep_fits, runs_lead};
 use play_save::plays_have_states;
+use play_worlds::plan_worlds_are_fresh;
 use saved_state::Saved;
 use stack_rules::{runs_are_sound, tables_type_execute_script};
 use world_core::answers_have_types;
@@ -31,4 +34,15 @@ pub fn counts_are_few()
     ensures few { PlaysCountFew }
 {
     variables_tell();
+}
+
+/// There is a state of the first entries of every plan, unless they are stopped inside one, and
+/// where their world has room in a state.
+pub fn first_entries_have_states()
+    ensures states { FirstEntriesHaveStates }
+{
+    objects_tell();
+    plan_worlds_are_fresh();
+    plays_rest();
+    counts_are_few();
 }

@@ -10,4 +10,4 @@
 
 mod laws;
 
-pub use laws::{counts_are_few, plays_rest};
+pub use laws::{counts_are_few, first_entries_have_states, plays_rest};
