@@ -34,7 +34,7 @@ use Rattle.state_format.specs.declared.parts.Object.{Object}
 use Rattle.state_format.specs.declared.parts.Entry.{Entry as Part}
 use Rattle.state_format.specs.declared.parts.Script.{Script as ScriptPart}
 use Rattle.state_format.specs.declared.parts.Parts.{Parts}
-use Rattle.state_format.specs.Parts.{HasForm, IsBlob, IsEntry, IsNumber, IsScript}
+use Rattle.state_format.specs.Parts.{HasForm, IsEntry, IsNumber, IsScript}
 use Rattle.play_save.specs.World.{saved_of, item_of, things_of, kind_of, entry_of}
 use Rattle.play_save.specs.Rules.{IsHeaderOf, IsSound, IsAccepted, HasArea, KeepsLimits, HasStates, HasTurns, IsCapturedIn, ItemHolds, KindHolds, is_short_entry, count_limit}
 use Rattle.play_save.specs.States.{resting, MayLimit, MayCount}

@@ -1,17 +1,16 @@
 -- The first entries of a plan have a state.
-use Rattle.std.proofs.Common.{◌≡◌, ◌<◌, ◌≤◌, ◌+◌, ◌*◌, ◌-◌, ℕ, zero, suc, Bool, true, false, List, [], ◌∷◌, refl, sym, subst, arith}
-use Rattle.std.specs.Prelude.{min, pos, map, length, replicate, if◌then◌else◌, Option}
+use Rattle.std.proofs.Common.{◌<◌, ◌≤◌, ◌+◌, ◌*◌, ◌-◌, ℕ, zero, suc, Bool, true, false, List, [], ◌∷◌, refl, sym, subst, arith}
+use Rattle.std.specs.Prelude.{min, pos, map, length, replicate, if◌then◌else◌}
 use Rattle.std.specs.List.{AllByRecursion, fold}
 use Rattle.std.proofs.Math.Nat.{mul-le-mul_left, mul-le-mul_right}
-use Rattle.nwq_value.specs.Limits.{event_limit, time_limit}
+use Rattle.nwq_value.specs.Limits.{time_limit}
 use Rattle.gff_tree.specs.Whole.{PlainGff}
 use Rattle.area_rules.specs.Area.{PlainArea, area_of}
 use Rattle.area_rules.specs.Laws.{ObjectsAreDistinct}
 use Rattle.delay_agenda.specs.declared.entry.Entry.{Entry}
 use Rattle.delay_agenda.specs.declared.entry.Kind.TheVariants.{Event}
 use Rattle.delay_agenda.specs.Order.{put_entry, is_before}
-use Rattle.plan_text.specs.declared.plan.Plan.{Plan}
-use Rattle.plan_text.specs.Plans.{IsPlan, limits_of}
+use Rattle.plan_text.specs.Plans.{limits_of}
 use Rattle.saved_state.specs.declared.saved.Saved.{Saved}
 use Rattle.machine_rules.specs.Machine.{Script}
 use Rattle.stack_rules.specs.Fits.{Tables}
@@ -20,11 +19,9 @@ use Rattle.world_rules.specs.Turns.{Planned, idle, new_world, still, with_planne
 use Rattle.ncs_machine.specs.Stored.{StatesFit, EntryFits, ThingsFit}
 use Rattle.play_worlds.specs.Worlds.{begun_by, plan_world}
 use Rattle.play_worlds.specs.Fresh.{IsFresh, PlanWorldsAreFresh}
-use Rattle.state_format.specs.Parts.{IsBlob}
 use Rattle.play_save.specs.Rules.{IsAreaOf, count_limit}
-use Rattle.play_save.specs.States.{MayCount, MayLimit}
-use Rattle.play_save.specs.Written.{KeepsObjects, Rests}
-use Rattle.play_states.specs.Resting.{first_played, FirstEntriesHaveStates, PlaysComeToStates, PlaysCountFew}
+use Rattle.play_save.specs.Written.{KeepsObjects}
+use Rattle.play_states.specs.Resting.{FirstEntriesHaveStates, PlaysComeToStates, PlaysCountFew}
 
 -- ---- a world in which nothing but events is planned
 

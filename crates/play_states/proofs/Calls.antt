@@ -1,5 +1,5 @@
 -- What each call leaves of a world's area, and how many entries it posts.
-use Rattle.std.proofs.Common.{◌≡◌, ◌<◌, ◌≤◌, ◌+◌, ◌-◌, ℕ, ℤ, pos, negsuc, zero, suc, List, [], ◌∷◌, length, map, sym, ap, refl, ◌∙◌, subst, arith}
+use Rattle.std.proofs.Common.{◌≡◌, ◌≤◌, ◌+◌, ◌-◌, ℕ, ℤ, pos, negsuc, zero, suc, List, [], ◌∷◌, map, sym, ap, refl, ◌∙◌, subst, arith}
 use Rattle.std.specs.Prelude.{Bool, true, false, ◌==◌, not, filter, if◌then◌else◌, cond, Option, Some, None, slice_get}
 use Rattle.std.specs.List.{AllByRecursion, IsDistinct, find, list_any}
 use Rattle.nwq_value.specs.Engine.{EngineTable}

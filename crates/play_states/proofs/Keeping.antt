@@ -1,5 +1,5 @@
 -- What every play keeps: its area is one, and each captured state fits.
-use Rattle.std.proofs.Common.{ap, ◌∙◌, ◌≡◌, ◌≢◌, ℕ, zero, suc, Bool, true, false, List, [], ◌∷◌, map, Option, Some, None, refl, sym, subst}
+use Rattle.std.proofs.Common.{ap, ◌∙◌, ◌≡◌, ◌≢◌, ℕ, zero, suc, Bool, true, false, List, [], ◌∷◌, map, Option, Some, None, refl, sym}
 use Rattle.std.specs.Prelude.{get_or, not, ◌&&◌, ◌==◌, nat_le, if◌then◌else◌}
 use Rattle.std.specs.Char.{to_ascii_lowercase}
 use Rattle.std.specs.Str.{bytes_eq}
@@ -11,7 +11,7 @@ use Rattle.nwq_value.specs.declared.value.Ty.TheVariants.{Void, Int, Text, Objec
 use Rattle.nwq_value.specs.declared.value.Value.{Value}
 use Rattle.nwq_value.specs.declared.engine.Role.TheVariants.{Uncallable}
 use Rattle.nwq_value.specs.declared.engine.Routine.{Routine}
-use Rattle.nwq_value.specs.Engine.{EngineTable, IsTable}
+use Rattle.nwq_value.specs.Engine.{IsTable}
 use Rattle.local_variables.specs.Laws.{PutKeepsDistinct, FilterKeepsDistinct}
 use Rattle.play_save.specs.Written.{KeepsObjects}
 use Rattle.action_queue.specs.declared.queue.Item.{Item}
@@ -23,21 +23,19 @@ use Rattle.saved_state.specs.declared.saved.Saved.{Saved}
 use Rattle.stack_shape.specs.Calls.{is_callable, is_uncallable, is_void}
 use Rattle.machine_rules.specs.Machine.{Script, script_named}
 use Rattle.machine_rules.specs.Runs.{run_script, run_stored}
-use Rattle.machine_rules.specs.Runs as runs
 use Rattle.stack_rules.specs.Fits.{Tables, IsListed, FitsOne, FitsAction}
 use Rattle.stack_rules.specs.Laws.{AllMeet, HasType, IsReached, Unchanged, ByCall, ByMissing, ByDepth, IsWellStackedHost, ScriptsAreSound, StatesAreSound, TablesTypeExecuteScript}
 use Rattle.world_rules.specs.declared.data.Stood.{Stood}
 use Rattle.world_rules.specs.World.{World, queue_of, effects_of}
 use Rattle.world_rules.specs.Changes.{is_numbered}
 use Rattle.world_rules.specs.AlikeLaws.{call}
-use Rattle.world_rules.specs.Engine.{no_script}
-use Rattle.world_rules.specs.Turns.{Begun, begin, begun, turn, turned, turn_done, next_turn, unapply, expired, fault, drained}
+use Rattle.world_rules.specs.Turns.{Begun, begin, begun, turn, turned, turn_done, next_turn, expired, fault}
 use Rattle.world_rules.specs.Plays as plays
 use Rattle.world_rules.specs.Plays.{Ending, Over, Divided, Stopped, Bounds, Progress, Played, Run, Entered, entered, entered_as, event_entry, turn_entry, named_entry, finished_as, further, after_entry, next_entry, full}
 use Rattle.world_core.specs.Answers.{AnswersHaveTypes, IsOfType}
 use Rattle.ncs_machine.specs.Host.{EngineView, engine_answer, host}
 use Rattle.ncs_machine.specs.Stored.{StatesFit, KindFits, BegunFits, EngineKeepsFits, LinesKeepFits, BeginKeepsFits, TurnKeepsFits, TurnDoneKeepsFits, UnapplyKeepsFits}
-use Rattle.module_player.specs.CodePlays.{code_runner, ending_of, run_of}
+use Rattle.module_player.specs.CodePlays.{code_runner, run_of}
 use Rattle.play_states.proofs.Calls.{engine_leaves}
 
 -- ---- the engine's answers

@@ -1,10 +1,9 @@
 -- Plays of files come to worlds that rest, of which there is a state.
-use Rattle.std.proofs.Common.{◌≡◌, ◌≢◌, ◌<◌, ◌≤◌, ◌+◌, ◌-◌, ℕ, zero, suc, List, [], ◌∷◌, sym, subst, arith}
-use Rattle.std.specs.Prelude.{◌⊎◌, Option, Some, slice_get}
+use Rattle.std.proofs.Common.{◌≡◌, ◌<◌, ◌≤◌, ◌-◌, ℕ, zero, suc, List, [], ◌∷◌, sym, subst, arith}
+use Rattle.std.specs.Prelude.{◌⊎◌}
 use Rattle.std.specs.List.{AllByRecursion}
-use Rattle.nwq_value.specs.Engine.{EngineTable, IsTable}
-use Rattle.nwq_value.specs.Limits.{random_limit, time_limit}
-use Rattle.plan_text.specs.Plans.{Limits}
+use Rattle.nwq_value.specs.Engine.{EngineTable}
+use Rattle.nwq_value.specs.Limits.{random_limit}
 use Rattle.gff_tree.specs.Whole.{PlainGff}
 use Rattle.local_variables.specs.Laws.{PutKeepsDistinct, FilterKeepsDistinct}
 use Rattle.delay_agenda.specs.declared.entry.Entry.{Entry}
@@ -13,9 +12,8 @@ use Rattle.machine_rules.specs.Machine.{Script}
 use Rattle.stack_rules.specs.Rules.{MeetsRules, WellStacked}
 use Rattle.stack_rules.specs.Fits.{Tables}
 use Rattle.stack_rules.specs.Laws.{AllMeet, ScriptsAreSound, StatesAreSound, TablesTypeExecuteScript}
-use Rattle.world_rules.specs.Changes.{longest_delay}
 use Rattle.world_rules.specs.World.{World}
-use Rattle.world_rules.specs.Plays.{Bounds, Progress, Played, StoppedInside}
+use Rattle.world_rules.specs.Plays.{Bounds, Progress, Played}
 use Rattle.world_rules.specs.Settled.{HasSettled, KeepsToEngine, PlaysSettle}
 use Rattle.world_core.specs.Answers.{AnswersHaveTypes}
 use Rattle.ncs_machine.specs.declared.scripts.Begin.TheVariants.{Start, Stored}
@@ -24,9 +22,8 @@ use Rattle.ncs_machine.specs.Leading.{RunsLead}
 use Rattle.ncs_machine.specs.Stored.{EngineKeepsFits, LinesKeepFits, BeginKeepsFits, TurnKeepsFits, TurnDoneKeepsFits, UnapplyKeepsFits}
 use Rattle.module_player.specs.CodePlays.{code_runner, played_before}
 use Rattle.play_save.specs.Rules.{IsAreaOf, count_limit}
-use Rattle.play_save.specs.States.{MayLimit, MayCount}
-use Rattle.play_save.specs.Written.{AreListed, Rests, PlaysHaveStates}
-use Rattle.play_states.specs.Resting.{play_from, MayCountOn, PlaysRest, PlaysComeToStates}
+use Rattle.play_save.specs.Written.{PlaysHaveStates}
+use Rattle.play_states.specs.Resting.{play_from, PlaysRest, PlaysComeToStates}
 use Rattle.play_states.proofs.Keeping.{KeepsFit, host_is_sound, plays_kept}
 
 -- ---- a table of shapes for each script

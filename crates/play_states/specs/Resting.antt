@@ -1,5 +1,5 @@
 -- Plays of files between two of their entries: they stay such that there is a state of them.
-use Rattle.std.specs.Prelude.{◌≡◌, ◌≢◌, ◌<◌, ◌≤◌, ◌+◌, ◌*◌, ◌-◌, min, ℕ, List, Option}
+use Rattle.std.specs.Prelude.{◌≢◌, ◌<◌, ◌≤◌, ◌+◌, ◌*◌, ◌-◌, min, ℕ, List, Option}
 use Rattle.nwq_value.specs.Engine.{EngineTable, IsTable}
 use Rattle.gff_tree.specs.Whole.{PlainGff}
 use Rattle.area_rules.specs.Area.{area_of}
@@ -8,7 +8,7 @@ use Rattle.plan_text.specs.Plans.{Limits, limits_of, IsPlan}
 use Rattle.play_worlds.specs.Worlds.{plan_world}
 use Rattle.state_format.specs.Parts.{IsBlob}
 use Rattle.saved_state.specs.declared.saved.Saved.{Saved}
-use Rattle.machine_rules.specs.Machine.{Script, Host}
+use Rattle.machine_rules.specs.Machine.{Script}
 use Rattle.world_rules.specs.Pure.{CellLookup}
 use Rattle.world_rules.specs.World.{World}
 use Rattle.world_rules.specs.Plays.{Progress, Played, StoppedInside}
