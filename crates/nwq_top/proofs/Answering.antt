@@ -12,6 +12,9 @@ use Rattle.engine_table.specs.KeptTables.{HeadersHaveTables, BuiltInIsTable}
 use Rattle.typing_rules.specs.Laws.{VerdictsAreRight, NoneKeptIsTyped}
 use Rattle.ncs_code.specs.Laws.{SizeLaws, PlaceLaws}
 use Rattle.generator_laws.specs.Scripts.{SourcesCompile}
+use Rattle.plan_text.specs.Plans.{PlansKeep}
+use Rattle.play_save.specs.Written.{CodeIsBytes}
+use Rattle.play_states.specs.Resting.{FirstEntriesHaveStates}
 use Rattle.play_generator.specs.Made.{number_limit}
 use Rattle.world_rules.specs.Pure.{CellLookup}
 use Rattle.table_2da.specs.declared.tables.Named.{Named}
@@ -81,7 +84,8 @@ numbered words = one_of (list_any is_option words) NoForm (command_form words) t
 -- ---- the forms
 
 module _ (header : OneHeader) (some : SomeSplit) (trees : TreeOrPlace) (right : VerdictsAreRight) (settled : NoneKeptIsTyped) (pass : UnitsPass) (have : ScriptsHaveUnits)
-    (reads : HeadersHaveTables) (own : BuiltInIsTable) (made : SourcesCompile) (sizes : SizeLaws) (places : PlaceLaws) where
+    (reads : HeadersHaveTables) (own : BuiltInIsTable) (made : SourcesCompile) (sizes : SizeLaws) (places : PlaceLaws) (code : CodeIsBytes)
+    (states : FirstEntriesHaveStates) (plans : PlansKeep) where
   plain_goes : (cell : CellLookup) (form : Form) → IsNumbered form → IsPlainForm form → (c : Contents) → AreBytes c → Goes (work_of cell form) c Anything
   plain_goes cell (Run word script) small plain c held = run_goes header some trees right settled pass have reads own cell word script c held
   plain_goes cell (Compile word script) small plain c held = compile_goes header some trees right settled pass have reads own word script c
@@ -110,7 +114,7 @@ module _ (header : OneHeader) (some : SomeSplit) (trees : TreeOrPlace) (right : 
       play_goes header some trees right settled pass have reads own sizes places cell word area to c held plan
   form_goes cell (Generate number) small c can held = surely (plain_goes cell (Generate number) small tt c held)
   form_goes cell (Save word area plan entries state list) small c can held =
-      save_goes header some trees right settled pass have reads own sizes places cell word area plan entries state c held can
+      save_goes header some trees right settled pass have reads own sizes places code states plans cell word area plan entries state c held can
   form_goes cell (Resume state to list) small c can held = resume_goes cell state to c
   form_goes cell NoForm small c can held = surely tt
 

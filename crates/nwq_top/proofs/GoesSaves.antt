@@ -1,4 +1,5 @@
--- The command `save`: where the play can be saved, it can't be that it comes to no end.
+-- The command `save`: where the play's world has room in a state, it can't be that it comes to no
+-- end.
 use Rattle.std.proofs.Common.{◌≡◌, ◌≢◌, ℕ, nat_lt, Bool, true, false, List, [], ◌∷◌, length, codes, bytes_eq, refl, sym, subst}
 use Rattle.nwq_value.specs.Limits.{file_limit}
 use Rattle.nwq_value.specs.Engine.{IsTable}
@@ -13,6 +14,9 @@ use Rattle.engine_table.specs.KeptTables.{HeadersHaveTables, BuiltInIsTable}
 use Rattle.typing_rules.specs.Laws.{VerdictsAreRight, NoneKeptIsTyped}
 use Rattle.ncs_code.specs.Laws.{SizeLaws, PlaceLaws}
 use Rattle.plan_text.specs.declared.plan.Plan.{Plan}
+use Rattle.plan_text.specs.Plans.{PlansKeep}
+use Rattle.play_save.specs.Written.{CodeIsBytes}
+use Rattle.play_states.specs.Resting.{FirstEntriesHaveStates}
 use Rattle.machine_rules.specs.Machine.{Script}
 use Rattle.saved_state.specs.declared.saved.Saved.{Saved}
 use Rattle.state_format.specs.declared.parts.Parts.{Parts}
@@ -35,13 +39,14 @@ use Rattle.command_plays.specs.Plays.{played_first}
 use Rattle.command_save.specs.declared.inputs.HeaderFile.{HeaderFile}
 use Rattle.command_save.specs.Inputs as inputs
 use Rattle.command_save.specs.Inputs.{header_file, header_in, header_named, header_unless, header_of}
-use Rattle.command_save.specs.Saves.{state_told, state_by, state_written, saves_at, saves_by, saves_plan, saves_area, saves_scripts, saves_under, saves}
+use Rattle.command_save.specs.Saves.{IsStateAt, state_told, state_by, state_written, saves_at, saves_by, saves_plan, saves_area, saves_scripts, saves_under, saves}
 use Rattle.command_meaning.specs.Units.{UnitsPass}
 use Rattle.command_meaning.specs.Scripts.{ScriptsHaveUnits}
 use Rattle.nwq_top.specs.Accepting.{HasScripts, ReadsPlan}
 use Rattle.nwq_top.specs.Saves as saving
-use Rattle.nwq_top.specs.Saves.{HasHeaderFile, HasAreaFile}
-use Rattle.nwq_top.specs.Answers.{StateIsThere, PlaysCanBeSaved}
+use Rattle.nwq_top.specs.Saves.{HasHeaderFile, HasAreaFile, AcceptsSave}
+use Rattle.nwq_top.specs.Answers.{SavedHasRoom}
+use Rattle.nwq_top.proofs.SaveStates.{state_there}
 use Rattle.nwq_top.proofs.Headers.{header_of_file, is_table}
 use Rattle.nwq_top.proofs.Undeniable.{Undeniable, surely, with_it}
 use Rattle.nwq_top.proofs.Going.{Goes, Anything, Still, goes_next, goes_both, file_goes}
@@ -102,6 +107,10 @@ area_file_goes name c =
 
 -- ---- the state
 
+-- it is refuted that there is none from which the play can go on as it stands at its end
+abbrev StateIsThere : HeaderFile → List ℕ → Plan → List Script → Played Saved → Type 0
+StateIsThere header file plan scripts played = ((s : Parts) × IsStateAt header file plan scripts played.last s → ⊥) → ⊥
+
 written_goes : (name : List ℕ) (s : Parts) (c : Contents) → Goes (state_written name s) c Anything
 unfolding state_written state_told writes puts
 written_goes name s c = by_size (nat_lt file_limit (length (parts_bytes s)))
@@ -125,8 +134,8 @@ module _ (h : HeaderFile) (file : List ℕ) (p : Plan) (scripts : List Script) (
 -- ---- the command
 
 module _ (header : OneHeader) (some : SomeSplit) (trees : TreeOrPlace) (right : VerdictsAreRight) (settled : NoneKeptIsTyped) (pass : UnitsPass) (have : ScriptsHaveUnits)
-    (reads : HeadersHaveTables) (own : BuiltInIsTable) (sizes : SizeLaws) (places : PlaceLaws)
-    (cell : CellLookup) (word area plan : List ℕ) (n : ℕ) (name : List ℕ) (c : Contents) (held : AreBytes c) (can : PlaysCanBeSaved cell word area plan n c) where
+    (reads : HeadersHaveTables) (own : BuiltInIsTable) (sizes : SizeLaws) (places : PlaceLaws) (code : CodeIsBytes) (states : FirstEntriesHaveStates) (plans : PlansKeep)
+    (cell : CellLookup) (word area plan : List ℕ) (n : ℕ) (name : List ℕ) (c : Contents) (held : AreBytes c) (room : SavedHasRoom cell word area plan n c) where
   area_saves : (p : Plan) → ReadsPlan c plan p → (h : HeaderFile) → HasHeaderFile c word h → (scripts : List Script) (left : Contents) → HasScripts h.table p.scripts c scripts left
       → Undeniable (Goes (saves_area cell h area p n name scripts) left Anything)
   unfolding saves_area saves_plan
@@ -134,7 +143,9 @@ module _ (header : OneHeader) (some : SomeSplit) (trees : TreeOrPlace) (right : 
       goes_both (inputs.area_named area) (saves_plan cell h p scripts n name) left (λ a d. HasAreaFile left area a) Anything (surely (area_file_goes area left))
       (λ a d is_area.
       saved_goes h a.bytes p scripts name d (played_first cell h.table p scripts n (plan_world a.area p)).ending (played_first cell h.table p scripts n (plan_world a.area p))
-      (can h p scripts a left (record { reads_plan = is_plan; has_header = is_header; lists = listed; reads_area = is_area })))
+      (λ whole none.
+      let all : AcceptsSave word area plan c h p scripts a left = record { reads_plan = is_plan; has_header = is_header; lists = listed; reads_area = is_area } in
+      none (state_there code states plans reads own cell word area plan n c held h p scripts a left all whole (room h p scripts a left all whole))))
 
   scripts_save : (p : Plan) → ReadsPlan c plan p → (h : HeaderFile) → HasHeaderFile c word h → Undeniable (Goes (saves_scripts cell area p n name h) c Anything)
   unfolding saves_scripts

@@ -38,5 +38,6 @@ mod GoesSources
 mod GoesFiles
 mod GoesTables
 mod GoesPlays
+mod SaveStates
 mod GoesSaves
 mod Answering

@@ -6,15 +6,13 @@ use Rattle.table_2da.specs.declared.tables.Named.{Named}
 use Rattle.table_2da.specs.Look.{cell_of}
 use Rattle.plan_text.specs.declared.plan.Plan.{Plan}
 use Rattle.machine_rules.specs.Machine.{Script}
-use Rattle.saved_state.specs.declared.saved.Saved.{Saved}
-use Rattle.state_format.specs.declared.parts.Parts.{Parts}
 use Rattle.world_rules.specs.Pure.{CellLookup}
-use Rattle.world_rules.specs.Plays.{StoppedInside, Played}
+use Rattle.world_rules.specs.Plays.{StoppedInside}
+use Rattle.play_save.specs.Written.{HasRoom}
 use Rattle.play_worlds.specs.Worlds.{plan_world}
 use Rattle.command_plays.specs.Plays.{played_first}
 use Rattle.command_save.specs.declared.inputs.HeaderFile.{HeaderFile}
 use Rattle.command_save.specs.declared.inputs.AreaFile.{AreaFile}
-use Rattle.command_save.specs.Saves.{IsStateAt}
 use Rattle.command_work.specs.declared.status.Status.{Status}
 use Rattle.command_work.specs.Work.{Work, IsCut, Does, Finished}
 use Rattle.command_words.specs.Words.{Form, Run, Compile, Tree, Disassemble, Generate, Save, NoForm, form_of}
@@ -35,20 +33,19 @@ HasOutcome w c t = (Outcome w c t → ⊥) → ⊥
 
 -- ---- plays that can be saved
 
--- there is a state from which the play can go on as it stands at its end
-abbrev pub StateIsThere : HeaderFile → List ℕ → Plan → List Script → Played Saved → Type 0
-StateIsThere header file plan scripts played = ((s : Parts) × IsStateAt header file plan scripts played.last s → ⊥) → ⊥
-
--- So it is of the first entries of every play that `save` accepts, unless they are stopped.
-abbrev pub PlaysCanBeSaved : CellLookup → List ℕ → List ℕ → List ℕ → ℕ → Contents → Type 0
-PlaysCanBeSaved cell header area plan n c =
+-- The world in which the first entries of a play end that `save` accepts has room in a state, unless
+-- they are stopped: each number, text and list in it has a field that holds it. A list has less than
+-- 2 ^ 32 members there, and a plan may allow more: of an object's actions, effects and variables,
+-- and of entries that wait.
+abbrev pub SavedHasRoom : CellLookup → List ℕ → List ℕ → List ℕ → ℕ → Contents → Type 0
+SavedHasRoom cell header area plan n c =
     (h : HeaderFile) (p : Plan) (scripts : List Script) (a : AreaFile) (left : Contents) → AcceptsSave header area plan c h p scripts a left
     → (played_first cell h.table p scripts n (plan_world a.area p)).ending ≢ StoppedInside
-    → StateIsThere h a.bytes p scripts (played_first cell h.table p scripts n (plan_world a.area p))
+    → HasRoom (played_first cell h.table p scripts n (plan_world a.area p)).last.world
 
--- what is asked of a form of words: of `save` alone, that its play can be saved
+-- what is asked of a form of words: of `save` alone, that its play's world has room in a state
 abbrev pub CanSave : CellLookup → Contents → Form → Type 0
-CanSave cell c (Save header area plan entries state list) = PlaysCanBeSaved cell header area plan entries c
+CanSave cell c (Save header area plan entries state list) = SavedHasRoom cell header area plan entries c
 CanSave cell c _ = Unit {0}
 
 -- ---- the law

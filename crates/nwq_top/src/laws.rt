@@ -23,6 +23,9 @@ use generator_laws::sources_compile;
 use ncs_code::{place_laws, size_laws};
 use nss_lexer::laws::some_split;
 use nss_parser::laws::tree_or_place;
+use plan_text::laws::plans_keep;
+use play_save::code_is_bytes;
+use play_states::first_entries_have_states;
 use typing_rules::laws::verdicts_are_right;
 
 /// A command that isn't cut has one outcome, and one that is cut has put a prefix of what it puts
@@ -47,10 +50,10 @@ pub fn one_outcome()
 }
 
 /// Each input has an answer: whatever the words are, whatever bytes the files hold, and whatever
-/// was taken, the work has an outcome that isn't cut; that of `save` has one where the play that it
-/// accepts can be saved. So has the whole program. Of words for which no code is checked, and
-/// neither a text by its lines nor a state is read, it is there; of all others it is refuted that
-/// there is none, which is the same by excluded middle.
+/// was taken, the work has an outcome that isn't cut; that of `save` has one where the world of the
+/// play that it accepts has room in a state's fields. So has the whole program. Of words for which
+/// no code is checked, and neither a text by its lines nor a state is read, it is there; of all
+/// others it is refuted that there is none, which is the same by excluded middle.
 pub fn each_has_outcome()
     ensures each { EachHasOutcome }
     ensures whole { EachWholeHasOutcome }
@@ -66,6 +69,9 @@ pub fn each_has_outcome()
     sources_compile();
     size_laws();
     place_laws();
+    code_is_bytes();
+    first_entries_have_states();
+    plans_keep();
 }
 
 /// Which names a command changes: of those that it may write, `play` and `save` change the files of

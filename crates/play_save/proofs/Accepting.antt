@@ -1,19 +1,17 @@
 -- The state of a play that may be saved keeps all rules.
-use Rattle.std.proofs.Common.{◌≡◌, ◌<◌, ◌≤◌, ℕ, zero, suc, Bool, true, false, ◌⊎◌, List, [], ◌∷◌, length, map, sym, ap, refl, ◌∙◌, subst, arith}
-use Rattle.std.specs.Prelude.{Option, Some, None, slice_get, IsTrue}
-use Rattle.std.specs.List.{AllByRecursion, IsDistinct, list_all}
+use Rattle.std.proofs.Common.{◌≡◌, ◌<◌, ◌≤◌, ℕ, zero, suc, ◌⊎◌, List, [], ◌∷◌, length, map, sym, ap, refl, ◌∙◌, subst, arith}
+use Rattle.std.specs.Prelude.{Option, Some, slice_get, IsTrue}
+use Rattle.std.specs.List.{AllByRecursion, IsDistinct}
 use Rattle.std.specs.Str.{bytes_eq}
 use Rattle.nwq_text.specs.Names.{is_script_name}
 use Rattle.nwq_value.specs.Engine.{EngineTable}
 use Rattle.nwq_value.specs.Limits.{instruction_limit, entry_limit, time_limit, script_limit, random_limit}
 use Rattle.ncs_code.specs.File.{IsCode, file_bytes}
-use Rattle.ncs_code.specs.Plain.{PlainOp}
 use Rattle.local_variables.specs.Variables.{same_variable}
 use Rattle.area_rules.specs.Objects.{AreaObject, objects_of}
 use Rattle.area_rules.specs.Area.{IsArea, bare, HaveDistinct}
 use Rattle.delay_agenda.specs.declared.entry.Entry.{Entry}
 use Rattle.delay_agenda.specs.Waiting.{IsAgenda, turn_count}
-use Rattle.stack_rules.specs.Laws.{AllMeet}
 use Rattle.stack_rules.specs.Rules.{MeetsRules, WellStacked}
 use Rattle.stack_rules.specs.Fits.{FitsOne}
 use Rattle.machine_rules.specs.Machine.{Script as MachineScript}
@@ -36,7 +34,7 @@ use Rattle.state_format.specs.declared.parts.Script.{Script}
 use Rattle.state_format.specs.declared.parts.Parts.{Parts}
 use Rattle.plan_text.specs.Plans.{Limits}
 use Rattle.play_save.specs.World.{saved_of, item_of, things_of, variables_of, kind_of, entry_of, entries_of}
-use Rattle.play_save.specs.Rules.{IsHeaderOf, IsAreaOf, IsFileOf, IsSound, HasHeader, HasScripts, HasArea, HasBounds, HasCounts, AreNamed, HasTexts, KeepsLimits, HasAgenda, HasStates, HasTurns, IsCapturedIn, ItemHolds, KindHolds, count_limit}
+use Rattle.play_save.specs.Rules.{IsHeaderOf, IsAreaOf, IsSound, HasHeader, HasScripts, HasArea, AreNamed, KeepsLimits, HasAgenda, HasStates, HasTurns, IsCapturedIn, ItemHolds, KindHolds, count_limit}
 use Rattle.play_save.specs.States.{script_part, script_parts, MayLimit, MayList, MayRest, MayCount, IsPlayOf, HasCome}
 use Rattle.play_save.specs.Keeping.{Tells}
 use Rattle.play_save.proofs.CapturedLemmas.{Laws, one_table, one_file}
@@ -49,15 +47,15 @@ all_mapped : {A B : Type 0} (f : A → B) (P : B → Type 0) (xs : List A) → A
 all_mapped f P [] all = tt
 all_mapped f P (x ∷ xs) all = (all.0, all_mapped f P xs all.1)
 
-all_back : {A B : Type 0} (f : A → B) (P : B → Type 0) (xs : List A) → AllByRecursion P (map f xs) → AllByRecursion (λ x. P (f x)) xs
+pub all_back : {A B : Type 0} (f : A → B) (P : B → Type 0) (xs : List A) → AllByRecursion P (map f xs) → AllByRecursion (λ x. P (f x)) xs
 all_back f P [] all = tt
 all_back f P (x ∷ xs) all = (all.0, all_back f P xs all.1)
 
-length_map : {A B : Type 0} (f : A → B) (xs : List A) → length (map f xs) ≡ length xs
+pub length_map : {A B : Type 0} (f : A → B) (xs : List A) → length (map f xs) ≡ length xs
 length_map f [] = refl
 length_map f (x ∷ xs) = ap suc (length_map f xs)
 
-map_map : {A B C : Type 0} (f : A → B) (g : B → C) (xs : List A) → map g (map f xs) ≡ map (λ x. g (f x)) xs
+pub map_map : {A B C : Type 0} (f : A → B) (g : B → C) (xs : List A) → map g (map f xs) ≡ map (λ x. g (f x)) xs
 map_map f g [] = refl
 map_map f g (x ∷ xs) = ap (λ (l : List _). g (f x) ∷ l) (map_map f g xs)
 
@@ -86,7 +84,7 @@ scripts_there s header scripts same parts may code = record {
 
 -- ---- 3
 
-same_count : (xs ys : List AreaObject) → map bare xs ≡ map bare ys → length xs ≡ length ys
+pub same_count : (xs ys : List AreaObject) → map bare xs ≡ map bare ys → length xs ≡ length ys
 same_count xs ys e = sym (length_map bare xs) ∙ ap length e ∙ length_map bare ys
 
 pub area_there : (s : Parts) (scripts : List Loaded) (area : List ℕ) (w : World Saved) → s.area ≡ area → MayRest scripts area w → IsArea w.area → IsWorld w → Tells s w → HasArea s
@@ -102,7 +100,7 @@ named : (ls : List Loaded) → AllByRecursion (λ (l : Loaded). IsTrue (is_scrip
 named [] all = tt
 named (l ∷ ls) all = (all.0, named ls all.1)
 
-own_variables : (os : List AreaObject) (parts : List Object) → map variables_of parts ≡ map (λ (o : AreaObject). o.vars) os → HaveDistinct os
+pub own_variables : (os : List AreaObject) (parts : List Object) → map variables_of parts ≡ map (λ (o : AreaObject). o.vars) os → HaveDistinct os
     → AllByRecursion (λ (o : Object). IsDistinct same_variable (variables_of o)) parts
 own_variables [] [] e all = tt
 own_variables [] (p ∷ parts) e all = absurd cc
@@ -157,10 +155,10 @@ agenda_there s w world tells = record {
       (sym (sym (length_map things_of s.objects) ∙ ap length tells.objects.kept ∙ world.counted)) world.placed));
 }
 
-queue_here : (objects : List Object) (things : List (Things Saved)) (i : ℕ) (o : Object) → map things_of objects ≡ things → slice_get objects i ≡ Some o → slice_get things i ≡ Some (things_of o)
+pub queue_here : (objects : List Object) (things : List (Things Saved)) (i : ℕ) (o : Object) → map things_of objects ≡ things → slice_get objects i ≡ Some o → slice_get things i ≡ Some (things_of o)
 queue_here objects things i o same at = ap (λ (ts : List (Things Saved)). slice_get ts i) (sym same) ∙ slice_get-map things_of objects i ∙ ap (option_map things_of) at
 
-no_items : (items : List Item) → map item_of items ≡ [] → items ≡ []
+pub no_items : (items : List Item) → map item_of items ≡ [] → items ≡ []
 no_items [] e = refl
 no_items (x ∷ items) e = absurd cc
 

@@ -13,3 +13,6 @@ pub mod Opening
 pub mod Accepting
 pub mod Saving
 pub mod Holding
+pub mod FileBytes
+pub mod Making
+pub mod States

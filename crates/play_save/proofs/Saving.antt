@@ -37,7 +37,7 @@ rests_too scripts area w may = record {
   fit = record { agenda = may.fit.agenda; queues = may.fit.queues };
 }
 
-world_too : (w : World Saved) → IsWorld w → IsWorld (resting w)
+pub world_too : (w : World Saved) → IsWorld w → IsWorld (resting w)
 world_too w is = record { counted = is.counted; agenda = is.agenda; placed = is.placed; due = is.due; turns = is.turns }
 
 count_too : (limits : Limits) (w : World Saved) (taken done : ℕ) → MayCount limits w taken done → MayCount limits (resting w) taken done
@@ -100,10 +100,10 @@ made clock area things entries next random version = record {
   version = version;
 }
 
-world_saved : (s : Parts) (w : World Saved) → IsArea w.area → Tells s (resting w) → resting w ≡ world_of w.area.tree s
+pub world_saved : (s : Parts) (w : World Saved) → map bare w.area.objects ≡ map bare (objects_of w.area.tree.top) → Tells s (resting w) → resting w ≡ world_of w.area.tree s
 world_saved s w is tells =
     let area : w.area ≡ area_from w.area.tree s =
-    ap (λ (l : List AreaObject). record w.area { objects = l }) (objects_told w.area.objects (objects_of w.area.tree.top) s.objects is.same tells.objects.variables) in
+    ap (λ (l : List AreaObject). record w.area { objects = l }) (objects_told w.area.objects (objects_of w.area.tree.top) s.objects is tells.objects.variables) in
     ap (λ (n : ℕ). made n w.area w.things w.agenda.entries w.agenda.next w.random w.version) (sym tells.clock)
     ∙ ap (λ (a : PlainArea). made s.clock a w.things w.agenda.entries w.agenda.next w.random w.version) area
     ∙ ap (λ (l : List (Things Saved)). made s.clock (area_from w.area.tree s) l w.agenda.entries w.agenda.next w.random w.version) (sym tells.objects.kept)
@@ -117,5 +117,5 @@ pub world_is : (s : Parts) (scripts : List Loaded) (area : List ℕ) (w : World 
 world_is s scripts area w objects parts file rests is same told = record {
   tree = w.area.tree;
   area = subst (IsAreaOf w.area.tree) (sym file) rests.file;
-  world = world_saved s w (subst IsArea (ap (λ (x : World Saved). x.area) same) is) (subst (Tells s) same told);
+  world = world_saved s w (subst IsArea (ap (λ (x : World Saved). x.area) same) is).same (subst (Tells s) same told);
 }

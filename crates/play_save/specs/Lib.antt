@@ -3,3 +3,4 @@ pub mod Rules
 pub mod States
 pub mod Breaking
 pub mod Keeping
+pub mod Written

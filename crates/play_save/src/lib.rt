@@ -19,6 +19,7 @@ mod keep;
 mod kept_entries;
 mod kept_objects;
 mod kept_values;
+mod laws;
 mod limits;
 mod prepare;
 mod rules;
@@ -30,5 +31,6 @@ mod waiting;
 mod world;
 
 pub use fault::StateFault;
+pub use laws::{code_is_bytes, plays_have_states};
 pub use state::{Opened, State, put_state, read_state};
 pub use state_format::SaveFault;

@@ -1,0 +1,228 @@
+-- The parts of a world that has room in a state.
+use Rattle.std.proofs.Common.{◌≡◌, ◌<◌, ◌≤◌, ℕ, List, [], ◌∷◌, length, map, ap, ap₂, refl, arith}
+use Rattle.std.specs.Prelude.{pos, Bool, true, false, ◌&&◌, IsTrue}
+use Rattle.std.specs.List.{AllByRecursion, list_all}
+use Rattle.std.proofs.lemmas.Bool.Decides.{nat_tests}
+use Rattle.nwq_value.specs.Effect.{Effect}
+use Rattle.nwq_value.specs.Limits.{text_limit}
+use Rattle.nwq_value.specs.declared.value.Value.TheVariants as value
+use Rattle.saved_state.specs.declared.cell.Cell.{Cell}
+use Rattle.saved_state.specs.declared.cell.Cell.TheVariants.{Value as Holds, Base}
+use Rattle.saved_state.specs.declared.saved.Saved.{Saved}
+use Rattle.local_variables.specs.Variables.{Variable, IntVar, TextVar}
+use Rattle.area_rules.specs.Objects.{AreaObject}
+use Rattle.action_queue.specs.declared.queue.Item.{Item}
+use Rattle.action_queue.specs.declared.queue.Item.TheVariants.{Do, Wait, Speak}
+use Rattle.delay_agenda.specs.declared.entry.Entry.{Entry}
+use Rattle.delay_agenda.specs.Order.{AreBelow}
+use Rattle.delay_agenda.specs.declared.entry.Kind.{Kind}
+use Rattle.delay_agenda.specs.declared.entry.Kind.TheVariants.{Event, Stored, Turn, Unapply}
+use Rattle.world_rules.specs.declared.data.Stood.{Stood}
+use Rattle.world_rules.specs.declared.data.Things.{Things}
+use Rattle.world_rules.specs.Kept.{IsPlaced}
+use Rattle.state_format.specs.declared.parts.Effect.{Effect as EffectPart}
+use Rattle.state_format.specs.declared.parts.Cell.{Cell as CellPart}
+use Rattle.state_format.specs.declared.parts.Cell.TheVariants as cell
+use Rattle.state_format.specs.declared.parts.Captured.{Captured}
+use Rattle.state_format.specs.declared.parts.Variable.{Variable as VariablePart}
+use Rattle.state_format.specs.declared.parts.Variable.TheVariants as variable
+use Rattle.state_format.specs.declared.parts.Standing.{Standing}
+use Rattle.state_format.specs.declared.parts.Item.{Item as ItemPart}
+use Rattle.state_format.specs.declared.parts.Item.TheVariants as item
+use Rattle.state_format.specs.declared.parts.Object.{Object}
+use Rattle.state_format.specs.declared.parts.Kind.{Kind as KindPart}
+use Rattle.state_format.specs.declared.parts.Kind.TheVariants as kind
+use Rattle.state_format.specs.declared.parts.Entry.{Entry as EntryPart}
+use Rattle.state_format.specs.Parts.{IsBlob, IsCaptured, IsCell, IsEntry, IsItem, IsKind, IsNumber, IsStanding, IsVariable}
+use Rattle.play_save.specs.World.{cell_of, saved_of, variable_of, stood_of, item_of, kind_of, entry_of}
+use Rattle.play_save.specs.Rules.{is_short, is_short_cell, has_short_cells, is_short_item, has_short_items, is_short_kind, is_short_entry, count_limit}
+use Rattle.play_save.specs.Keeping.{IsPartOf, ArePartsOf, AreObjectsOf, any_text}
+use Rattle.play_save.specs.Written.{IsText, CellHasRoom, SavedHasRoom, VariableHasRoom, StoodHasRoom, ItemHasRoom, ThingsHaveRoom, ObjectHasRoom, KindHasRoom, EntryHasRoom}
+use Rattle.play_save.proofs.Keeping.{mapped_few}
+
+-- ---- lists
+
+both_true : (a b : Bool) → IsTrue a → IsTrue b → IsTrue (a && b)
+both_true true b x y = y
+both_true false b x y = absurd cc
+
+pub made_all : {A B : Type 0} (tells : B → A) (Is : B → Type 0) (is_short : B → Bool) (Has : A → Type 0) (part : A → B)
+    → ((x : A) → Has x → IsPartOf tells Is is_short x (part x)) → (xs : List A) → AllByRecursion Has xs → ArePartsOf tells Is is_short xs (map part xs)
+made_all tells Is is_short Has part made [] all = record { same = refl; form = tt; short = refl }
+made_all tells Is is_short Has part made (x ∷ xs) all =
+    let p = made x all.0 in
+    let rest = made_all tells Is is_short Has part made xs all.1 in
+    record {
+      same = ap₂ (λ y (l : List _). y ∷ l) p.same rest.same;
+      form = (p.form, rest.form);
+      short = both_true (is_short (part x)) (list_all is_short (map part xs)) p.short rest.short;
+    }
+
+made_few : {A B : Type 0} (part : A → B) (xs : List A) → IsNumber 4 (length xs) → IsNumber 4 (length (map part xs))
+made_few part xs few = mapped_few part xs (map part xs) refl (omega (arith, few))
+
+-- ---- values
+
+short_text : (text : List ℕ) → length text ≤ text_limit → IsTrue (is_short text)
+short_text text few = grind (arith, nat_tests)
+
+text_blob : (text : List ℕ) → IsText text → IsBlob text
+text_blob text is = (omega (arith, is.0), is.1)
+
+abbrev effect_part : Effect → EffectPart
+effect_part e = record { routine = e.routine; ints = e.ints }
+
+abbrev pub cell_part : Cell → CellPart
+cell_part (Holds (value.Int n)) = cell.Int n
+cell_part (Holds (value.Text text)) = cell.Text text
+cell_part (Holds (value.Object o)) = cell.Object o
+cell_part (Holds (value.Effect e)) = cell.Effect (effect_part e)
+cell_part (Holds (value.Event n)) = cell.Event n
+cell_part (Base bp) = cell.Int (pos 0)
+
+cell_made : (c : Cell) → CellHasRoom c → IsPartOf cell_of IsCell is_short_cell c (cell_part c)
+cell_made (Holds (value.Int n)) room = record { same = refl; form = room; short = refl }
+cell_made (Holds (value.Text text)) room = record { same = refl; form = text_blob text room; short = short_text text room.0 }
+cell_made (Holds (value.Object o)) room = record { same = refl; form = room; short = refl }
+cell_made (Holds (value.Effect e)) room = record { same = refl; form = room; short = refl }
+cell_made (Holds (value.Event n)) room = record { same = refl; form = room; short = refl }
+cell_made (Base bp) room = absurd room
+
+abbrev pub saved_part : Saved → Captured
+saved_part s = record { script = s.script; place = s.place; globals = map cell_part s.globals; locals = map cell_part s.locals }
+
+pub saved_made : (s : Saved) → SavedHasRoom s → IsPartOf saved_of IsCaptured has_short_cells s (saved_part s)
+saved_made s room =
+    let globals = made_all cell_of IsCell is_short_cell CellHasRoom cell_part cell_made s.globals room.globals.1 in
+    let locals = made_all cell_of IsCell is_short_cell CellHasRoom cell_part cell_made s.locals room.locals.1 in
+    record {
+      same = ap₂ (λ (g l : List Cell). record { script = s.script; place = s.place; globals = g; locals = l }) globals.same locals.same;
+      form = record {
+        script = room.script;
+        place = room.place;
+        globals = (made_few cell_part s.globals room.globals.0, globals.form);
+        locals = (made_few cell_part s.locals room.locals.0, locals.form);
+      };
+      short = both_true (list_all is_short_cell (map cell_part s.globals)) (list_all is_short_cell (map cell_part s.locals)) globals.short locals.short;
+    }
+
+-- ---- objects
+
+abbrev variable_part : Variable → VariablePart
+variable_part (IntVar name n) = variable.Int name n
+variable_part (TextVar name text) = variable.Text name text
+
+variable_made : (v : Variable) → VariableHasRoom v → IsPartOf variable_of IsVariable any_text v (variable_part v)
+variable_made (IntVar name n) room = record { same = refl; form = room; short = refl }
+variable_made (TextVar name text) room = record { same = refl; form = room; short = refl }
+
+abbrev stood_part : Stood → Standing
+stood_part s = record { number = s.number; effect = effect_part s.effect }
+
+stood_made : (s : Stood) → StoodHasRoom s → IsPartOf stood_of IsStanding any_text s (stood_part s)
+stood_made s room = record { same = refl; form = room; short = refl }
+
+abbrev item_part : Item Saved → ItemPart
+item_part (Do s) = item.Do (saved_part s)
+item_part (Wait ms) = item.Wait ms
+item_part (Speak text) = item.Speak text
+
+item_made : (i : Item Saved) → ItemHasRoom i → IsPartOf item_of IsItem is_short_item i (item_part i)
+item_made (Do s) room = let made = saved_made s room in record { same = ap (λ (x : Saved). Do x) made.same; form = made.form; short = made.short }
+item_made (Wait ms) room = record { same = refl; form = room; short = refl }
+item_made (Speak text) room = record { same = refl; form = text_blob text room; short = short_text text room.0 }
+
+abbrev object_part : AreaObject → Things Saved → Object
+object_part o t = record {
+  busy = t.queue.busy;
+  variables = map variable_part o.vars;
+  effects = map stood_part t.effects;
+  items = map item_part t.queue.actions;
+}
+
+abbrev pub object_parts : List AreaObject → List (Things Saved) → List Object
+object_parts [] ts = []
+object_parts (o ∷ os) [] = []
+object_parts (o ∷ os) (t ∷ ts) = object_part o t ∷ object_parts os ts
+
+pub parts_few : (os : List AreaObject) (ts : List (Things Saved)) → length (object_parts os ts) ≤ length os
+parts_few [] ts = omega arith
+parts_few (o ∷ os) [] = omega arith
+parts_few (o ∷ os) (t ∷ ts) = let rest = parts_few os ts in omega arith
+
+pub objects_made : (os : List AreaObject) (ts : List (Things Saved)) → length ts ≡ length os → AllByRecursion ObjectHasRoom os → AllByRecursion ThingsHaveRoom ts
+    → AreObjectsOf os ts (object_parts os ts)
+objects_made [] [] same variables things = record { kept = refl; variables = refl; form = tt; short = refl }
+objects_made [] (t ∷ ts) same variables things = absurd (omega (arith, same))
+objects_made (o ∷ os) [] same variables things = absurd (omega (arith, same))
+objects_made (o ∷ os) (t ∷ ts) same variables things =
+    let rest = objects_made os ts (omega (arith, same)) variables.1 things.1 in
+    let vars = made_all variable_of IsVariable any_text VariableHasRoom variable_part variable_made o.vars variables.0.1 in
+    let effects = made_all stood_of IsStanding any_text StoodHasRoom stood_part stood_made t.effects things.0.effects.1 in
+    let items = made_all item_of IsItem is_short_item ItemHasRoom item_part item_made t.queue.actions things.0.items.1 in
+    record {
+      kept = ap₂ (λ (x : Things Saved) (l : List (Things Saved)). x ∷ l)
+          (ap₂ (λ (a : List (Item Saved)) (e : List Stood). record { queue = record { actions = a; busy = t.queue.busy }; effects = e }) items.same effects.same) rest.kept;
+      variables = ap₂ (λ (x : List Variable) (l : List (List Variable)). x ∷ l) vars.same rest.variables;
+      form = (
+        record {
+          variables = (made_few variable_part o.vars variables.0.0, vars.form);
+          effects = (made_few stood_part t.effects things.0.effects.0, effects.form);
+          items = (made_few item_part t.queue.actions things.0.items.0, items.form);
+        },
+        rest.form,
+      );
+      short = both_true (list_all is_short_item (map item_part t.queue.actions)) (list_all has_short_items (object_parts os ts)) items.short rest.short;
+    }
+
+-- ---- the agenda
+
+-- an entry that waits between two of a play has numbers that fit
+pub record IsReady (next objects : ℕ) (e : Entry Saved) : Type 0 where
+  pub number : e.number < next
+  pub due : e.due < count_limit
+  pub placed : IsPlaced objects e.kind
+  pub room : EntryHasRoom e
+
+pub all_ready : (next objects : ℕ) (es : List (Entry Saved)) → AreBelow next es
+    → AllByRecursion (λ (e : Entry Saved). e.due < count_limit) es → AllByRecursion (λ (e : Entry Saved). IsPlaced objects e.kind) es → AllByRecursion EntryHasRoom es
+    → AllByRecursion (IsReady next objects) es
+all_ready next objects [] number due placed room = tt
+all_ready next objects (e ∷ es) number due placed room = (
+  record { number = number.0; due = due.0; placed = placed.0; room = room.0 },
+  all_ready next objects es number.1 due.1 placed.1 room.1,
+)
+
+abbrev kind_part : Kind Saved → KindPart
+kind_part (Event o script user) = kind.Event o script user
+kind_part (Stored o s) = kind.Stored o (saved_part s)
+kind_part (Turn o) = kind.Turn o
+kind_part (Unapply o) = kind.Unapply o
+
+kind_made : (objects : ℕ) → objects < 4294967296 → (k : Kind Saved) → IsPlaced objects k → KindHasRoom k → IsPartOf kind_of IsKind is_short_kind k (kind_part k)
+kind_made objects few (Event o script user) placed room = record {
+  same = refl;
+  form = (omega (arith, placed, few), (text_blob script room.0, room.1));
+  short = short_text script room.0.0;
+}
+kind_made objects few (Stored o s) placed room =
+    let made = saved_made s room in
+    record { same = ap (λ (x : Saved). Stored o x) made.same; form = (omega (arith, placed, few), made.form); short = made.short }
+kind_made objects few (Turn o) placed room = record { same = refl; form = omega (arith, placed.1, few); short = refl }
+kind_made objects few (Unapply o) placed room = record { same = refl; form = omega (arith, placed.1, few); short = refl }
+
+abbrev pub entry_part : Entry Saved → EntryPart
+entry_part e = record { due = e.due; number = e.number; kind = kind_part e.kind }
+
+pub entry_made : (next objects : ℕ) → next < count_limit → objects < 4294967296 → (e : Entry Saved) → IsReady next objects e
+    → IsPartOf entry_of IsEntry is_short_entry e (entry_part e)
+entry_made next objects small few e ready =
+    let made = kind_made objects few e.kind ready.placed ready.room in
+    record {
+      same = ap (λ (k : Kind Saved). record { due = e.due; number = e.number; kind = k }) made.same;
+      form = record { due = omega (arith, ready.due); number = omega (arith, ready.number, small); kind = made.form };
+      short = made.short;
+    }
+
+pub entries_few : (es : List (Entry Saved)) → IsNumber 4 (length es) → IsNumber 4 (length (map entry_part es))
+entries_few es few = made_few entry_part es few

@@ -1,0 +1,5 @@
+mod Calls
+mod Keeping
+mod Counting
+mod Resting
+mod Beginning
