@@ -214,11 +214,15 @@ fn object(
 }
 
 fn put_objects(alloc: Global, sketch: &Sketch, out: &mut Items<Object>) -> Result<(), NoMemory> {
-    let (mut further, mut more) = (sketch.besides.variables, sketch.besides.items);
+    let mut first = true;
     for part in sketch.objects {
-        out.push(object(alloc, part, further, more)?)?;
-        further = &[];
-        more = &[];
+        let made = if first {
+            object(alloc, part, sketch.besides.variables, sketch.besides.items)?
+        } else {
+            object(alloc, part, &[], &[])?
+        };
+        out.push(made)?;
+        first = false;
     }
     Ok(())
 }
