@@ -1,5 +1,5 @@
 //! What an engine call takes from its frame.
-ghost use Rattle.std.specs.Prelude.{◌≡◌, ◌≢◌, ◌+◌, ◌≤◌, ◌++◌, None, Some, IfOk, OnOk};
+ghost use Rattle.std.specs.Prelude.{◌≡◌, ◌≢◌, ◌+◌, ◌≤◌, ◌++◌, [], None, Some, OnOk};
 ghost use Rattle.std.specs.Prelude.{drop, slice_get};
 ghost use Rattle.nwq_value.specs.Limits.{file_limit};
 ghost use Rattle.ncs_code.specs.Plain.{Action};
@@ -24,6 +24,16 @@ pub struct Arguments {
 }
 
 impl Arguments {
+    /// Nothing was taken yet.
+    pub fn new(alloc: Global) -> Arguments
+        ensures none { result ≡ record { values = []; action = None } }
+    {
+        Arguments {
+            values: Args::new(alloc),
+            action: None,
+        }
+    }
+
     /// The state becomes the action, unless there is one.
     fn keep_first(&mut self, saved: Saved)
         ensures first { self.new
@@ -96,7 +106,8 @@ impl Frame {
         }
     }
 
-    /// ACTION, of this size: the arguments of the routine, which has this number.
+    /// ACTION, of this size: the arguments of the routine, which has this number, where none were
+    /// taken yet.
     #[tactic(auto, using(crate::proofs::TakeLemmas::call_lemmas))]
     pub fn take_arguments(
         &mut self,
@@ -105,26 +116,17 @@ impl Frame {
         number: u16,
         count: u8,
         size: u32,
-    ) -> Result<Arguments, NoMemory>
+        args: &mut Arguments,
+    ) -> Result<(), NoMemory>
+        requires none { args.old ≡ record { values = []; action = None } }
         requires case { arguments routine.now count self.old.stack.cells self.old.pending
             ≢ None }
         requires size { size ≡ op_size (Action number count) }
         requires small { self.old.place + size ≤ file_limit }
-        ensures call { IfOk result (λ a. IsCall routine.now number count self.old self.new a) }
+        ensures call { OnOk result (IsCall routine.now number count self.old self.new args.new) }
     {
-        let mut args = Arguments {
-            values: Args::new(alloc),
-            action: None,
-        };
-        match self.take_all(alloc, routine.params.as_slice(), &mut args) {
-            Err(error) => {
-                drop(args);
-                Err(error)
-            }
-            Ok(()) => {
-                self.step_over(size);
-                Ok(args)
-            }
-        }
+        self.take_all(alloc, routine.params.as_slice(), args)?;
+        self.step_over(size);
+        Ok(())
     }
 }

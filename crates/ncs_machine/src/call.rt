@@ -127,13 +127,14 @@ impl Machine {
         match table.routine(number) {
             None => unreachable!(),
             Some(routine) => {
-                let other_script = executes(routine.role);
-                let args = self.take(alloc, routine, number, count, size)?;
-                let Arguments { values, action } = args;
-                if other_script {
-                    self.execute_named(alloc, scripts, world, &values)?;
+                let mut args = Arguments::new(alloc);
+                self.take(alloc, routine, number, count, size, &mut args)?;
+                if executes(routine.role) {
+                    self.execute_named(alloc, scripts, world, &args.values)?;
                     Ok(())
                 } else {
+                    // The arguments stay in their place until here, since moves of them are dear.
+                    let Arguments { values, action } = args;
                     self.ask(world, hooks, table, number, values, action)?;
                     Ok(())
                 }

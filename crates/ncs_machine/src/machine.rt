@@ -136,7 +136,7 @@ impl Machine {
     }
 
     /// The arguments of a call of the routine, which has this number, by an instruction of this
-    /// size.
+    /// size, where none were taken yet.
     pub(crate) fn take(
         &mut self,
         alloc: Global,
@@ -144,17 +144,19 @@ impl Machine {
         number: u16,
         count: u8,
         size: u32,
-    ) -> Result<Arguments, NoMemory>
+        args: &mut Arguments,
+    ) -> Result<(), NoMemory>
+        requires none { args.old ≡ record { values = []; action = None } }
         requires case { arguments routine.now count self.old.running.stack.cells
             self.old.running.pending ≢ None }
         requires size { size ≡ op_size (Action number count) }
         requires small { self.old.running.place + size ≤ file_limit }
-        ensures call { IfOk result (λ a.
-            IsCall routine.now number count self.old.running self.new.running a) }
+        ensures call { OnOk result
+            (IsCall routine.now number count self.old.running self.new.running args.new) }
         ensures others { self.new ≡ record self.old { running = self.new.running } }
     {
         self.running
-            .take_arguments(alloc, routine, number, count, size)
+            .take_arguments(alloc, routine, number, count, size, args)
     }
 
     /// The running script is over: the newest of those that wait goes on.

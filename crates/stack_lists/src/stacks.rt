@@ -37,7 +37,8 @@ pub struct Agreed {
 /// number, so one that is made again takes no room.
 pub struct Stacks {
     links: Items<Link>,
-    /// By a list's number: the newest list of one slot on it.
+    /// By a list's number: the newest list of one slot on it, but for the list with the next
+    /// number, which needs no note.
     newest: Places,
     /// By a list's number: the one on the same list that was made before it.
     older: Places,
@@ -175,6 +176,19 @@ impl Stacks {
             read self.now number ≡ slot ∷ read self.now below) }
         ensures inside { IfSome result (λ number. number ≤ length self.now) }
     {
+        let next = below.saturating_add(1);
+        if self.is_on(next, below, slot) {
+            return Some(next);
+        }
+        self.search(below, slot)
+    }
+
+    /// The same, among those that are noted.
+    fn search(&self, below: u32, slot: Slot) -> Option<u32>
+        ensures reads { IfSome result (λ number.
+            read self.now number ≡ slot ∷ read self.now below) }
+        ensures inside { IfSome result (λ number. number ≤ length self.now) }
+    {
         let mut at = self.newest.get(below);
         while at > 0 {
             if self.is_on(at, below, slot) {
@@ -237,11 +251,15 @@ impl Stacks {
         Ok(count as u32 + 1)
     }
 
-    /// Has a list found that was added on another one.
+    /// Has a list found that was added on another one. The one with the next number is found
+    /// without a note.
     fn note(&mut self, below: u32, number: u32) -> Result<(), NoMemory>
         ensures same { self.new ≡ self.old }
     {
         let _ = &self.links;
+        if number.saturating_sub(1) == below {
+            return Ok(());
+        }
         let older = self.newest.get(below);
         if older > 0 {
             self.older.put(number, older)?;

@@ -1,4 +1,4 @@
-use Rattle.stack_lists.proofs.stacks.Stacks.find.Given as goal
+use Rattle.stack_lists.proofs.stacks.Stacks.search.Given as goal
 
 abbrev pub invariant-loop-at : goal.invariant-loop-at
 invariant-loop-at l = Unit {0}
