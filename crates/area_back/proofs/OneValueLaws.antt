@@ -12,8 +12,8 @@ use Rattle.local_variables.specs.Variables.{Variable, same_variable, matching, p
 use Rattle.area_rules.specs.Objects.{AreaObject, Entry, Broken, Unread, Tells, entry_of, with_entry, variables_in, structs_in, object_of, list_labels, objects_under}
 use Rattle.area_rules.specs.Broken.{tag_places, table_places, member_places, members_places, list_places, lists_places}
 use Rattle.area_back.specs.Back.{with_value, entries_back, others, table_back, fields_back, member_back, members_back, list_back, lists_back}
-use Rattle.area_rules.specs.Area.{object_at, changed_at}
-use Rattle.area_back.specs.Laws.{changed_node, changed_list, changed_in, with_new_value, EntryFor, table_of, PutChangesOneValue}
+use Rattle.area_rules.specs.Area.{object_at, variables_changed_at}
+use Rattle.area_back.specs.Laws.{changed_node, changed_list, changed_in, with_new_value, EntryFor, variable_table, PutChangesOneValue}
 use Rattle.area_back.proofs.UnchangedLaws.{Laws, none_parts, AllFound, all_found, found_any, one_back, entries_one, one_same, entries_same, later_all, some_back, member_same, members_same, list_same, lists_same, taken, dropped}
 use Rattle.area_back.proofs.ReadBackLaws.{AllOther, under_same, places_same, labels_distinct}
 
@@ -96,7 +96,7 @@ table_changed law v entries d any =
 -- ---- a member
 
 abbrev pub MemberChanged : Variable → PlainNode → PlainNode → Type 0
-MemberChanged v before after = (e : EntryFor v (table_of before)) × (after ≡ changed_in (codes "VarTable") e.place (with_new_value v) before)
+MemberChanged v before after = (e : EntryFor v (variable_table before)) × (after ≡ changed_in (codes "VarTable") e.place (with_new_value v) before)
 
 fields_changed : Laws → (n m : ℕ) (v : Variable) (table : Option PlainLeaf) (fields : List PlainField) → found (codes "VarTable") fields ≡ table → table_places n m table ≡ [] →
     list_any (same_variable v) (variables_in (structs_in table)) ≡ true →
@@ -119,11 +119,11 @@ record NodesChanged (i : ℕ) (v : Variable) (before after : List PlainNode) : T
   node : PlainNode
   at : slice_get before i ≡ Some node
   object : object_at (map object_of before) i ≡ object_of node
-  entry : EntryFor v (table_of node)
+  entry : EntryFor v (variable_table node)
   is : after ≡ changed_node i (changed_in (codes "VarTable") entry.place (with_new_value v)) before
 
 members_changed : Laws → (n m : ℕ) (i : ℕ) (v : Variable) (nodes : List PlainNode) → members_places n m nodes ≡ [] → i < length nodes → list_any (same_variable v) (object_at (map object_of nodes) i).vars ≡ true →
-    NodesChanged i v nodes (members_back (changed_at i (put v) (map object_of nodes)) nodes)
+    NodesChanged i v nodes (members_back (variables_changed_at i (put v) (map object_of nodes)) nodes)
 members_changed law n m i v [] none lt any = absurd (omega (arith, lt))
 members_changed law n m zero v (node ∷ nodes) none lt any =
     let parts = none_parts (member_places n m node) (members_places n (m + 1) nodes) none in
@@ -152,12 +152,12 @@ record ListChanged (label : List ℕ) (i : ℕ) (v : Variable) (leaf : Option Pl
   node : PlainNode
   at : slice_get (structs_in leaf) i ≡ Some node
   object : object_at (map object_of (structs_in leaf)) i ≡ object_of node
-  entry : EntryFor v (table_of node)
+  entry : EntryFor v (variable_table node)
   is : after ≡ changed_list label i (changed_in (codes "VarTable") entry.place (with_new_value v)) leaf before
 
 list_changed : Laws → (n : ℕ) (label : List ℕ) (i : ℕ) (v : Variable) (leaf : Option PlainLeaf) (fields : List PlainField) → list_places n leaf ≡ [] → i < length (structs_in leaf) →
     list_any (same_variable v) (object_at (map object_of (structs_in leaf)) i).vars ≡ true →
-    ListChanged label i v leaf fields (list_back label (changed_at i (put v) (map object_of (structs_in leaf))) leaf fields)
+    ListChanged label i v leaf fields (list_back label (variables_changed_at i (put v) (map object_of (structs_in leaf))) leaf fields)
 list_changed law n label i v None fields none lt any = absurd (omega (arith, lt))
 list_changed law n label i v (Some (Holds scalar)) fields none lt any = absurd cc
 list_changed law n label i v (Some (Child node)) fields none lt any = absurd cc
@@ -174,7 +174,7 @@ list_changed law n label i v (Some (Children nodes)) fields none lt any =
 -- ---- lists
 
 taken_changed : (i : ℕ) (change : List Variable → List Variable) (nodes : List PlainNode) (rest : List AreaObject) → i < length nodes →
-    (take (length nodes) (changed_at i change (map object_of nodes ++ rest)) ≡ changed_at i change (map object_of nodes)) × (drop (length nodes) (changed_at i change (map object_of nodes ++ rest)) ≡ rest)
+    (take (length nodes) (variables_changed_at i change (map object_of nodes ++ rest)) ≡ variables_changed_at i change (map object_of nodes)) × (drop (length nodes) (variables_changed_at i change (map object_of nodes ++ rest)) ≡ rest)
 taken_changed i change [] rest lt = absurd (omega (arith, lt))
 taken_changed zero change (node ∷ nodes) rest lt = (rw (taken nodes rest) refl, dropped nodes rest)
 taken_changed (suc i) change (node ∷ nodes) rest lt =
@@ -191,7 +191,7 @@ behind_is [] i = omega arith
 behind_is (node ∷ nodes) i = omega (arith, behind_is nodes i)
 
 behind_changed : (i : ℕ) (change : List Variable → List Variable) (nodes : List PlainNode) (rest : List AreaObject) →
-    changed_at (behind nodes i) change (map object_of nodes ++ rest) ≡ map object_of nodes ++ changed_at i change rest
+    variables_changed_at (behind nodes i) change (map object_of nodes ++ rest) ≡ map object_of nodes ++ variables_changed_at i change rest
 behind_changed i change [] rest = refl
 behind_changed i change (node ∷ nodes) rest = ap (λ (os : List AreaObject). object_of node ∷ os) (behind_changed i change nodes rest)
 
@@ -215,11 +215,11 @@ pub record FieldsChanged (i : ℕ) (v : Variable) (objects : List AreaObject) (b
   pub node : PlainNode
   pub at : slice_get (structs_in (found label before)) place ≡ Some node
   pub object : object_at objects i ≡ object_of node
-  pub entry : EntryFor v (table_of node)
+  pub entry : EntryFor v (variable_table node)
   pub is : after ≡ changed_list label place (changed_in (codes "VarTable") entry.place (with_new_value v)) (found label before) before
 
 abbrev pub ListsChanged : ℕ → Variable → List (List ℕ) → List PlainField → Type 0
-ListsChanged i v labels fields = FieldsChanged i v (objects_under labels fields) fields (lists_back labels (changed_at i (put v) (objects_under labels fields)) fields)
+ListsChanged i v labels fields = FieldsChanged i v (objects_under labels fields) fields (lists_back labels (variables_changed_at i (put v) (objects_under labels fields)) fields)
 
 first_changed : Laws → (n : ℕ) (label : List ℕ) (labels : List (List ℕ)) (i : ℕ) (v : Variable) (fields : List PlainField) → AllOther label labels → list_places n (found label fields) ≡ [] → lists_places (n + 1) labels fields ≡ [] →
     i < length (structs_in (found label fields)) → list_any (same_variable v) (object_at (objects_under (label ∷ labels) fields) i).vars ≡ true → ListsChanged i v (label ∷ labels) fields
@@ -230,7 +230,7 @@ first_changed law n label labels i v fields apart none later lt any =
     let taken_here = taken_changed i (put v) nodes rest lt in
     let object = object_first i nodes rest lt in
     let c = list_changed law n label i v leaf fields none lt (sym (ap (λ (o : AreaObject). list_any (same_variable v) o.vars) object) ∙ any) in
-    let objects = changed_at i (put v) (map object_of nodes) in
+    let objects = variables_changed_at i (put v) (map object_of nodes) in
     let new = list_back label objects leaf fields in
     let same : lists_back labels rest new ≡ new =
     sym (ap (λ (os : List AreaObject). lists_back labels os new) (under_same label labels objects leaf fields apart))
@@ -257,7 +257,7 @@ later_changed law n label labels i k v fields none is more =
       at = more.at;
       object = ap (object_at (map object_of nodes ++ rest)) is ∙ (object_behind k nodes rest ∙ more.object);
       entry = more.entry;
-      is = rw (is, behind_changed k (put v) nodes rest, taken nodes (changed_at k (put v) rest), dropped nodes (changed_at k (put v) rest), list_same law n label (found label fields) fields refl none) more.is;
+      is = rw (is, behind_changed k (put v) nodes rest, taken nodes (variables_changed_at k (put v) rest), dropped nodes (variables_changed_at k (put v) rest), list_same law n label (found label fields) fields refl none) more.is;
     }
 
 either_changed : Laws → (n : ℕ) (label : List ℕ) (labels : List (List ℕ)) (i : ℕ) (v : Variable) (fields : List PlainField) → AllOther label labels → list_places n (found label fields) ≡ [] → lists_places (n + 1) labels fields ≡ [] →

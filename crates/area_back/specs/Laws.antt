@@ -8,7 +8,7 @@ use Rattle.local_variables.specs.Variables.{Variable, same_variable, matching, p
 use Rattle.area_rules.specs.Objects.{AreaObject, Tells, entry_of, structs_in, object_of, objects_of}
 use Rattle.area_rules.specs.Broken.{broken_places}
 use Rattle.area_back.specs.Back.{value_of, back, tree_back}
-use Rattle.area_rules.specs.Area.{PlainArea, object_at, changed_at, IsArea}
+use Rattle.area_rules.specs.Area.{PlainArea, object_at, variables_changed_at, IsArea}
 
 -- The area that nobody changed goes back as the tree it was read from.
 abbrev pub UnchangedGoesBack : Type 0
@@ -76,15 +76,15 @@ pub record MemberFor (object : AreaObject) (top : PlainNode) : Type 0 where
   pub at : slice_get (structs_in (found label (fields_of top))) place ≡ Some member
   pub is : object_of member ≡ object
 
-abbrev pub table_of : PlainNode → List PlainNode
-table_of member = structs_in (found (codes "VarTable") (fields_of member))
+abbrev pub variable_table : PlainNode → List PlainNode
+variable_table member = structs_in (found (codes "VarTable") (fields_of member))
 
 -- Where a variable that an object has is given another value, that value alone differs in the tree.
 pub record OneValueDiffers (tree : PlainGff) (i : ℕ) (v : Variable) : Type 0 where
   pub member : MemberFor (object_at (objects_of tree.top) i) tree.top
-  pub entry : EntryFor v (table_of member.member)
+  pub entry : EntryFor v (variable_table member.member)
   pub is :
-      back tree (changed_at i (put v) (objects_of tree.top))
+      back tree (variables_changed_at i (put v) (objects_of tree.top))
       ≡ record tree { top = changed_in member.label member.place (changed_in (codes "VarTable") entry.place (with_new_value v)) tree.top }
 
 abbrev pub PutChangesOneValue : Type 0

@@ -56,13 +56,13 @@ abbrev pub with_vars : (List Variable → List Variable) → AreaObject → Area
 with_vars change object = record object { vars = change object.vars }
 
 -- the area where the variables of one object alone are others
-abbrev pub changed_at : ℕ → (List Variable → List Variable) → List AreaObject → List AreaObject
-changed_at i change [] = []
-changed_at zero change (object ∷ objects) = with_vars change object ∷ objects
-changed_at (suc i) change (object ∷ objects) = object ∷ changed_at i change objects
+abbrev pub variables_changed_at : ℕ → (List Variable → List Variable) → List AreaObject → List AreaObject
+variables_changed_at i change [] = []
+variables_changed_at zero change (object ∷ objects) = with_vars change object ∷ objects
+variables_changed_at (suc i) change (object ∷ objects) = object ∷ variables_changed_at i change objects
 
 abbrev pub changed : PlainArea → ℕ → (List Variable → List Variable) → PlainArea
-changed area o change = record area { objects = changed_at (o - 1) change area.objects }
+changed area o change = record area { objects = variables_changed_at (o - 1) change area.objects }
 
 -- an object but for its variables
 abbrev pub bare : AreaObject → AreaObject

@@ -8,7 +8,7 @@ use Rattle.gff_tree.specs.Tree.{is_sound}
 use Rattle.gff_tree.specs.Whole.{PlainGff}
 use Rattle.local_variables.specs.Variables.{Variable, IntVar, put, same_variable}
 use Rattle.area_rules.specs.Objects.{AreaObject}
-use Rattle.area_rules.specs.Area.{PlainArea, empty_tree, object_at, tagged, with_vars, changed_at, bare, HaveDistinct, IsArea}
+use Rattle.area_rules.specs.Area.{PlainArea, empty_tree, object_at, tagged, with_vars, variables_changed_at, bare, HaveDistinct, IsArea}
 use Rattle.area_tree.specs.Index.{Places, Lists, Indexes}
 
 pub empty_sound : is_sound empty_tree.top ≡ true
@@ -21,28 +21,28 @@ object_read (o ∷ objects) zero object lt is = sym is
 object_read (o ∷ objects) (suc i) object lt is = object_read objects i object (omega (arith, lt)) is
 
 pub object_changed : (objects : List AreaObject) (i : ℕ) (old new : AreaObject) (change : List Variable → List Variable) → i < length objects → old ≡ get_or objects i old → new ≡ with_vars change old →
-    set objects i new ≡ changed_at i change objects
+    set objects i new ≡ variables_changed_at i change objects
 object_changed [] i old new change lt is made = absurd (omega (arith, lt))
 object_changed (o ∷ objects) zero old new change lt is made = ap (λ (x : AreaObject). x ∷ objects) (made ∙ ap (λ (x : AreaObject). with_vars change x) is)
 object_changed (o ∷ objects) (suc i) old new change lt is made = ap (λ (os : List AreaObject). o ∷ os) (object_changed objects i old new change (omega (arith, lt)) is made)
 
-bare_changed : (objects : List AreaObject) (i : ℕ) (change : List Variable → List Variable) → map bare (changed_at i change objects) ≡ map bare objects
+bare_changed : (objects : List AreaObject) (i : ℕ) (change : List Variable → List Variable) → map bare (variables_changed_at i change objects) ≡ map bare objects
 bare_changed [] i change = refl
 bare_changed (o ∷ objects) zero change = refl
 bare_changed (o ∷ objects) (suc i) change = ap (λ (os : List AreaObject). bare o ∷ os) (bare_changed objects i change)
 
-long_changed : (objects : List AreaObject) (i : ℕ) (change : List Variable → List Variable) → length (changed_at i change objects) ≡ length objects
+long_changed : (objects : List AreaObject) (i : ℕ) (change : List Variable → List Variable) → length (variables_changed_at i change objects) ≡ length objects
 long_changed [] i change = refl
 long_changed (o ∷ objects) zero change = refl
 long_changed (o ∷ objects) (suc i) change = ap suc (long_changed objects i change)
 
-tagged_changed : (tag : List ℕ) (n : ℕ) (objects : List AreaObject) (i : ℕ) (change : List Variable → List Variable) → tagged tag n (changed_at i change objects) ≡ tagged tag n objects
+tagged_changed : (tag : List ℕ) (n : ℕ) (objects : List AreaObject) (i : ℕ) (change : List Variable → List Variable) → tagged tag n (variables_changed_at i change objects) ≡ tagged tag n objects
 tagged_changed tag n [] i change = refl
 tagged_changed tag n (o ∷ objects) zero change = refl
 tagged_changed tag n (o ∷ objects) (suc i) change = ap (λ (ns : List ℕ). cond (bytes_eq tag o.tag) (n ∷ ns) ns) (tagged_changed tag (suc n) objects i change)
 
 distinct_changed : (objects : List AreaObject) (i : ℕ) (change : List Variable → List Variable) → ((vars : List Variable) → IsDistinct same_variable vars → IsDistinct same_variable (change vars)) →
-    HaveDistinct objects → HaveDistinct (changed_at i change objects)
+    HaveDistinct objects → HaveDistinct (variables_changed_at i change objects)
 distinct_changed [] i change keeps all = tt
 distinct_changed (o ∷ objects) zero change keeps all = (keeps o.vars all.0, all.1)
 distinct_changed (o ∷ objects) (suc i) change keeps all = (all.0, distinct_changed objects i change keeps all.1)
@@ -52,7 +52,7 @@ abbrev pub Facts : PlainGff → List AreaObject → Type 0
 Facts tree objects = IsArea (record { tree = tree; objects = objects })
 
 pub facts_changed : (tree : PlainGff) (objects : List AreaObject) (i : ℕ) (change : List Variable → List Variable) → ((vars : List Variable) → IsDistinct same_variable vars → IsDistinct same_variable (change vars)) →
-    Facts tree objects → Facts tree (changed_at i change objects)
+    Facts tree objects → Facts tree (variables_changed_at i change objects)
 facts_changed tree objects i change keeps area = record {
   sound = area.sound;
   whole = area.whole;
@@ -85,9 +85,9 @@ tried_left tree objects i old new change (Err e) keeps area lt is made same = sa
 
 pub tried_ok : (tree : PlainGff) (objects : List AreaObject) (i : ℕ) (old new : AreaObject) (change : List Variable → List Variable) (area : PlainArea) (r : Result (Unit {0}) NoMemory) →
     record { tree = tree; objects = objects } ≡ area → i < length objects → old ≡ get_or objects i old → OnOk r (new ≡ with_vars change old) →
-    OnOk r (record { tree = tree; objects = set objects i new } ≡ record area { objects = changed_at i change area.objects })
+    OnOk r (record { tree = tree; objects = set objects i new } ≡ record area { objects = variables_changed_at i change area.objects })
 tried_ok tree objects i old new change area (Ok u) view lt is made =
-    ap (λ (os : List AreaObject). record { tree = tree; objects = os }) (object_changed objects i old new change lt is made) ∙ ap (λ (a : PlainArea). record a { objects = changed_at i change a.objects }) view
+    ap (λ (os : List AreaObject). record { tree = tree; objects = os }) (object_changed objects i old new change lt is made) ∙ ap (λ (a : PlainArea). record a { objects = variables_changed_at i change a.objects }) view
 tried_ok tree objects i old new change area (Err e) view lt is made = tt
 
 pub tried_err : (tree : PlainGff) (objects : List AreaObject) (i : ℕ) (old new : AreaObject) (area : PlainArea) (r : Result (Unit {0}) NoMemory) →
@@ -96,14 +96,14 @@ tried_err tree objects i old new area (Ok u) view lt is same = tt
 tried_err tree objects i old new area (Err e) view lt is same =
     ap (λ (os : List AreaObject). record { tree = tree; objects = os }) (object_changed objects i old new (λ vars. vars) lt is same ∙ unchanged objects i) ∙ view
   where
-    unchanged : (os : List AreaObject) (k : ℕ) → changed_at k (λ vars. vars) os ≡ os
+    unchanged : (os : List AreaObject) (k : ℕ) → variables_changed_at k (λ vars. vars) os ≡ os
     unchanged [] k = refl
     unchanged (o ∷ os) zero = refl
     unchanged (o ∷ os) (suc k) = ap (λ (rest : List AreaObject). o ∷ rest) (unchanged os k)
 
 pub made_view : (tree : PlainGff) (objects : List AreaObject) (i : ℕ) (old new : AreaObject) (change : List Variable → List Variable) (area : PlainArea) →
     record { tree = tree; objects = objects } ≡ area → i < length objects → old ≡ get_or objects i old → new ≡ with_vars change old →
-    record { tree = tree; objects = set objects i new } ≡ record area { objects = changed_at i change area.objects }
+    record { tree = tree; objects = set objects i new } ≡ record area { objects = variables_changed_at i change area.objects }
 made_view tree objects i old new change area view lt is made = tried_ok tree objects i old new change area (Ok tt) view lt is made
 
 -- where an object stands among those of an area

@@ -6,13 +6,13 @@ use Rattle.nwq_value.specs.Index.{number_under}
 use Rattle.area_rules.specs.Objects.{Script}
 
 -- the place of the first script under a label
-abbrev pub place_of : List ℕ → List Script → Option ℕ
-place_of label [] = None
-place_of label (script ∷ scripts) = if bytes_eq label script.label then Some 0 else option_map suc (place_of label scripts)
+abbrev pub script_place : List ℕ → List Script → Option ℕ
+script_place label [] = None
+script_place label (script ∷ scripts) = if bytes_eq label script.label then Some 0 else option_map suc (script_place label scripts)
 
 -- the index has under each label the place of its first script
 abbrev pub HasFirst : List Script → List (List ℕ × ℕ) → Type 0
-HasFirst scripts index = (label : List ℕ) → number_under label index ≡ place_of label scripts
+HasFirst scripts index = (label : List ℕ) → number_under label index ≡ script_place label scripts
 
 -- the place that stands there, or else this one
 abbrev pub place_or : Option ℕ → Option ℕ → Option ℕ

@@ -16,10 +16,10 @@ use Rattle.typing_rules.specs.declared.places.Callee.TheVariants.{Unit as InUnit
 use Rattle.typing_rules.specs.Reading.{plain, plain_all}
 use Rattle.typing_rules.specs.Typed.{TypedExpr, TypedExprs, literal, name, call, member, prefix, postfix, binary, assign, no_typed, more_typed, type_of}
 use Rattle.typing_rules.specs.Cells.{cells, is_captured}
-use Rattle.emission_rules.specs.Bounds.{depth_limit, weight, all_weight, IsType, IsCallee, IsOperator, IsExpr, AreExprs}
+use Rattle.emission_rules.specs.Bounds.{frame_limit, weight, all_weight, IsType, IsCallee, IsOperator, IsExpr, AreExprs}
 use Rattle.emission_rules.specs.Layout.{Layout}
-use Rattle.emission_rules.specs.Expressions.{Shortcut, labels, all_labels, shortcut, shortcut_labels, is_set, cells_first, result_room, argument_labels, count_arguments, arguments_cells, called}
-use Rattle.codegen_expr.specs.Emitted.{AreReady, IsReady}
+use Rattle.emission_rules.specs.Expressions.{Shortcut, labels, all_labels, shortcut, shortcut_labels, is_set, cells_first, result_room, argument_labels, count_arguments, arguments_cells, call_line}
+use Rattle.codegen_expr.specs.Emitted.{AreReady, CanBeEmitted}
 use Rattle.codegen_expr.specs.Parts.{offsets}
 
 -- ---- more functions have labels
@@ -86,31 +86,31 @@ offsets_few n l (postfix t o x) is = omega arith
 offsets_few n l (binary t o x y) is = omega arith
 offsets_few n l (assign t o x y) is = omega arith
 
-pub ready_near : {n d : ℕ} {l : Layout} {x : TypedExpr} → IsReady n l d x → offsets x ≤ depth_limit
+pub ready_near : {n d : ℕ} {l : Layout} {x : TypedExpr} → CanBeEmitted n l d x → offsets x ≤ frame_limit
 ready_near {n = n} {l = l} {x = x} ready = omega (arith, ready.deep, offsets_few n l x ready.bounded)
 
 -- ---- parts of a node
 
-pub same_ready : (n : ℕ) (l : Layout) (d : ℕ) (the : Expression) (x : TypedExpr) → plain the ≡ x → IsReady n l d (plain the) → IsReady n l d x
-same_ready n l d the x is ready = subst (IsReady n l d) is ready
+pub same_ready : (n : ℕ) (l : Layout) (d : ℕ) (the : Expression) (x : TypedExpr) → plain the ≡ x → CanBeEmitted n l d (plain the) → CanBeEmitted n l d x
+same_ready n l d the x is ready = subst (CanBeEmitted n l d) is ready
 
-pub name_type : {n d : ℕ} {l : Layout} {t : Ty} {p : Place} → IsReady n l d (name t p) → IsType l t
+pub name_type : {n d : ℕ} {l : Layout} {t : Ty} {p : Place} → CanBeEmitted n l d (name t p) → IsType l t
 name_type ready = ready.bounded.0
 
-pub small_depth : (n : ℕ) (l : Layout) (d : ℕ) (x : TypedExpr) → IsReady n l d x → d < 2 ^ 29
+pub small_depth : (n : ℕ) (l : Layout) (d : ℕ) (x : TypedExpr) → CanBeEmitted n l d x → d < 2 ^ 29
 small_depth n l d x ready = omega (arith, ready.deep)
 
-pub member_ready : (n : ℕ) (l : Layout) (d : ℕ) (t : Ty) (x : TypedExpr) (offset : ℕ) → IsReady n l d (member t x offset) → IsReady n l d x
+pub member_ready : (n : ℕ) (l : Layout) (d : ℕ) (t : Ty) (x : TypedExpr) (offset : ℕ) → CanBeEmitted n l d (member t x offset) → CanBeEmitted n l d x
 member_ready n l d t x offset r = record { bounded = r.bounded.3; deep = omega (arith, r.deep); globals = r.globals; labelled = r.labelled }
 
-pub prefix_ready : (n : ℕ) (l : Layout) (d : ℕ) (t : Ty) (o : PrefixOperator) (x : TypedExpr) → IsReady n l d (prefix t o x) → IsReady n l d x
+pub prefix_ready : (n : ℕ) (l : Layout) (d : ℕ) (t : Ty) (o : PrefixOperator) (x : TypedExpr) → CanBeEmitted n l d (prefix t o x) → CanBeEmitted n l d x
 prefix_ready n l d t o x r = record { bounded = r.bounded.1; deep = omega (arith, r.deep); globals = r.globals; labelled = r.labelled }
 
-pub postfix_ready : (n : ℕ) (l : Layout) (d : ℕ) (t : Ty) (o : PostfixOperator) (x : TypedExpr) → IsReady n l d (postfix t o x) → IsReady n l d x
+pub postfix_ready : (n : ℕ) (l : Layout) (d : ℕ) (t : Ty) (o : PostfixOperator) (x : TypedExpr) → CanBeEmitted n l d (postfix t o x) → CanBeEmitted n l d x
 postfix_ready n l d t o x r = record { bounded = r.bounded.1; deep = omega (arith, r.deep); globals = r.globals; labelled = r.labelled }
 
-pub first_ready : (n : ℕ) (l : Layout) (d : ℕ) (t : Ty) (o : BinaryOperator) (x y : TypedExpr) → IsReady n l d (binary t o x y)
-    → IsReady (n + shortcut_labels (shortcut o)) l d x
+pub first_ready : (n : ℕ) (l : Layout) (d : ℕ) (t : Ty) (o : BinaryOperator) (x y : TypedExpr) → CanBeEmitted n l d (binary t o x y)
+    → CanBeEmitted (n + shortcut_labels (shortcut o)) l d x
 first_ready n l d t o x y r = record {
   bounded = grows n (n + shortcut_labels (shortcut o)) l x (omega arith) r.bounded.3;
   deep = omega (arith, r.deep);
@@ -118,8 +118,8 @@ first_ready n l d t o x y r = record {
   labelled = omega (arith, r.labelled);
 }
 
-pub second_ready : (n : ℕ) (l : Layout) (d : ℕ) (t : Ty) (o : BinaryOperator) (x y : TypedExpr) → IsReady n l d (binary t o x y)
-    → IsReady (n + shortcut_labels (shortcut o) + labels x) l (d + cells l.structs (type_of x)) y
+pub second_ready : (n : ℕ) (l : Layout) (d : ℕ) (t : Ty) (o : BinaryOperator) (x y : TypedExpr) → CanBeEmitted n l d (binary t o x y)
+    → CanBeEmitted (n + shortcut_labels (shortcut o) + labels x) l (d + cells l.structs (type_of x)) y
 second_ready n l d t o x y r = record {
   bounded = grows n (n + shortcut_labels (shortcut o) + labels x) l y (omega arith) r.bounded.4;
   deep = omega (arith, r.deep, r.bounded.1.few);
@@ -131,8 +131,8 @@ first_few : (b : Bool) (count : ℕ) → cells_first b count ≤ count
 first_few true count = omega arith
 first_few false count = omega arith
 
-pub value_ready : (n : ℕ) (l : Layout) (d : ℕ) (t : Ty) (o : AssignOperator) (x y : TypedExpr) → IsReady n l d (assign t o x y)
-    → IsReady n l (d + cells_first (is_set o) (cells l.structs t)) y
+pub value_ready : (n : ℕ) (l : Layout) (d : ℕ) (t : Ty) (o : AssignOperator) (x y : TypedExpr) → CanBeEmitted n l d (assign t o x y)
+    → CanBeEmitted n l (d + cells_first (is_set o) (cells l.structs t)) y
 value_ready n l d t o x y r = record {
   bounded = r.bounded.2;
   deep = omega (arith, r.deep, r.bounded.0.few, first_few (is_set o) (cells l.structs t));
@@ -144,7 +144,7 @@ room_few : (l : Layout) (f : Callee) (t : Ty) → cells l.structs t ≤ struct_c
 room_few l (InUnit f) t few = few
 room_few l (Engine routine) t few = omega arith
 
-pub arguments_ready : (n : ℕ) (l : Layout) (d : ℕ) (t : Ty) (f : Callee) (xs : TypedExprs) (ks : List Const) → IsReady n l d (call t f xs ks)
+pub arguments_ready : (n : ℕ) (l : Layout) (d : ℕ) (t : Ty) (f : Callee) (xs : TypedExprs) (ks : List Const) → CanBeEmitted n l d (call t f xs ks)
     → AreReady n l (d + length (result_room l f t) + length ks) xs
 arguments_ready n l d t f xs ks r = record {
   bounded = r.bounded.3;
@@ -156,7 +156,7 @@ arguments_ready n l d t f xs ks r = record {
 -- ---- arguments, the last one first
 
 pub last_ready : (n : ℕ) (l : Layout) (d : ℕ) (x : TypedExpr) (xs : TypedExprs) → AreReady n l d (more_typed x xs)
-    → IsReady (n + all_labels xs + argument_labels (is_captured x)) l (d + arguments_cells l xs) x
+    → CanBeEmitted (n + all_labels xs + argument_labels (is_captured x)) l (d + arguments_cells l xs) x
 last_ready n l d x xs r = record {
   bounded = grows n (n + all_labels xs + argument_labels (is_captured x)) l x (omega arith) r.bounded.0;
   deep = omega (arith, r.deep, arguments_few n l xs r.bounded.1);
@@ -181,14 +181,14 @@ drop_weight (x ∷ xs) (suc i) = omega (arith, drop_weight xs i)
 
 -- the same of a node that is known, with how its parts weigh less
 
-pub at_labels : (n m : ℕ) (l : Layout) (d : ℕ) (x : TypedExpr) → n ≡ m → IsReady n l d x → IsReady m l d x
-at_labels n m l d x is = subst (λ k. IsReady k l d x) is
+pub at_labels : (n m : ℕ) (l : Layout) (d : ℕ) (x : TypedExpr) → n ≡ m → CanBeEmitted n l d x → CanBeEmitted m l d x
+at_labels n m l d x is = subst (λ k. CanBeEmitted k l d x) is
 
-pub captured_ready : (n : ℕ) (l : Layout) (d : ℕ) (x : TypedExpr) → is_captured x ≡ true → IsReady (n + argument_labels (is_captured x)) l d x → IsReady (n + 1) l d x
-captured_ready n l d x is = subst (λ b. IsReady (n + argument_labels b) l d x) is
+pub captured_ready : (n : ℕ) (l : Layout) (d : ℕ) (x : TypedExpr) → is_captured x ≡ true → CanBeEmitted (n + argument_labels (is_captured x)) l d x → CanBeEmitted (n + 1) l d x
+captured_ready n l d x is = subst (λ b. CanBeEmitted (n + argument_labels b) l d x) is
 
-pub plain_ready : (n : ℕ) (l : Layout) (d : ℕ) (x : TypedExpr) → is_captured x ≡ false → IsReady (n + argument_labels (is_captured x)) l d x → IsReady n l d x
-plain_ready n l d x is r = at_labels (n + 0) n l d x (omega arith) (subst (λ b. IsReady (n + argument_labels b) l d x) is r)
+pub plain_ready : (n : ℕ) (l : Layout) (d : ℕ) (x : TypedExpr) → is_captured x ≡ false → CanBeEmitted (n + argument_labels (is_captured x)) l d x → CanBeEmitted n l d x
+plain_ready n l d x is r = at_labels (n + 0) n l d x (omega arith) (subst (λ b. CanBeEmitted (n + argument_labels b) l d x) is r)
 
 pub falls_one : (a t : ℕ) → a + 1 ≡ t → a < t
 falls_one a t is = omega arith
@@ -206,7 +206,7 @@ pub falls_arguments : (a t : ℕ) → a + 3 ≡ t → a + 2 < t
 falls_arguments a t is = omega arith
 
 pub member_parts : (n : ℕ) (l : Layout) (d t : ℕ) (the : Expression) (ty : Ty) (x y : Expression) (offset : ℕ) → plain the ≡ member ty (plain x) offset → y ≡ x → weight (plain the) ≡ t
-    → IsReady n l d (plain the) → (weight (plain y) + 1 < t) × (IsReady n l d (plain y) × (IsType l ty × (IsType l (type_of (plain y)) × (offset ≤ struct_cell_limit))))
+    → CanBeEmitted n l d (plain the) → (weight (plain y) + 1 < t) × (CanBeEmitted n l d (plain y) × (IsType l ty × (IsType l (type_of (plain y)) × (offset ≤ struct_cell_limit))))
 member_parts n l d t the ty x y offset is same falls ready =
     let e : plain the ≡ member ty (plain y) offset = is ∙ ap (λ z. member ty (plain z) offset) (sym same) in
     let r = same_ready n l d the (member ty (plain y) offset) e ready in
@@ -214,14 +214,14 @@ member_parts n l d t the ty x y offset is same falls ready =
     (omega arith, (member_ready n l d ty (plain y) offset r, (r.bounded.0, (r.bounded.1, r.bounded.2))))
 
 pub prefix_parts : (n : ℕ) (l : Layout) (d t : ℕ) (the : Expression) (ty : Ty) (o : PrefixOperator) (x y : Expression) → plain the ≡ prefix ty o (plain x) → y ≡ x → weight (plain the) ≡ t
-    → IsReady n l d (plain the) → (weight (plain y) + 1 < t) × IsReady n l d (plain y)
+    → CanBeEmitted n l d (plain the) → (weight (plain y) + 1 < t) × CanBeEmitted n l d (plain y)
 prefix_parts n l d t the ty o x y is same falls ready =
     let e : plain the ≡ prefix ty o (plain y) = is ∙ ap (λ z. prefix ty o (plain z)) (sym same) in
     let w : weight (plain the) ≡ struct_cell_limit + weight (plain y) = ap weight e in
     (omega arith, prefix_ready n l d ty o (plain y) (same_ready n l d the (prefix ty o (plain y)) e ready))
 
 pub postfix_parts : (n : ℕ) (l : Layout) (d t : ℕ) (the : Expression) (ty : Ty) (o : PostfixOperator) (x y : Expression) → plain the ≡ postfix ty o (plain x) → y ≡ x → weight (plain the) ≡ t
-    → IsReady n l d (plain the) → (weight (plain y) + 1 < t) × IsReady n l d (plain y)
+    → CanBeEmitted n l d (plain the) → (weight (plain y) + 1 < t) × CanBeEmitted n l d (plain y)
 postfix_parts n l d t the ty o x y is same falls ready =
     let e : plain the ≡ postfix ty o (plain y) = is ∙ ap (λ z. postfix ty o (plain z)) (sym same) in
     let w : weight (plain the) ≡ struct_cell_limit + weight (plain y) = ap weight e in
@@ -252,25 +252,25 @@ assign_is_of the ty o x y left right is e f =
     is ∙ (ap (λ z. assign ty o (plain z) (plain y)) (sym e) ∙ ap (λ z. assign ty o (plain left) (plain z)) (sym f))
 
 pub binary_parts : (n : ℕ) (l : Layout) (d t : ℕ) (the : Expression) (ty : Ty) (o : BinaryOperator) (x y : Expression) → plain the ≡ binary ty o (plain x) (plain y) → weight (plain the) ≡ t
-    → IsReady n l d (plain the)
+    → CanBeEmitted n l d (plain the)
     → (weight (plain x) + weight (plain y) + 2 < t) × ((cells l.structs (type_of (plain x)) ≤ struct_cell_limit) × (IsOperator o (type_of (plain x))
-    × (IsReady (n + shortcut_labels (shortcut o)) l d (plain x)
-    × IsReady (n + shortcut_labels (shortcut o) + labels (plain x)) l (d + cells l.structs (type_of (plain x))) (plain y))))
+    × (CanBeEmitted (n + shortcut_labels (shortcut o)) l d (plain x)
+    × CanBeEmitted (n + shortcut_labels (shortcut o) + labels (plain x)) l (d + cells l.structs (type_of (plain x))) (plain y))))
 binary_parts n l d t the ty o x y is falls ready =
     let r = same_ready n l d the (binary ty o (plain x) (plain y)) is ready in
     let w : weight (plain the) ≡ struct_cell_limit + weight (plain x) + weight (plain y) = ap weight is in
     (omega arith, (r.bounded.1.few, (r.bounded.2, (first_ready n l d ty o (plain x) (plain y) r, second_ready n l d ty o (plain x) (plain y) r))))
 
 pub assign_parts : (n : ℕ) (l : Layout) (d t : ℕ) (the : Expression) (ty : Ty) (o : AssignOperator) (x y : Expression) → plain the ≡ assign ty o (plain x) (plain y) → weight (plain the) ≡ t
-    → IsReady n l d (plain the)
-    → (weight (plain y) + 1 < t) × (IsType l ty × (IsReady n l (d + cells_first (is_set o) (cells l.structs ty)) (plain y) × (offsets (plain x) ≤ depth_limit)))
+    → CanBeEmitted n l d (plain the)
+    → (weight (plain y) + 1 < t) × (IsType l ty × (CanBeEmitted n l (d + cells_first (is_set o) (cells l.structs ty)) (plain y) × (offsets (plain x) ≤ frame_limit)))
 assign_parts n l d t the ty o x y is falls ready =
     let r = same_ready n l d the (assign ty o (plain x) (plain y)) is ready in
     let w : weight (plain the) ≡ struct_cell_limit + weight (plain x) + weight (plain y) = ap weight is in
     (omega arith, (r.bounded.0, (value_ready n l d ty o (plain x) (plain y) r, omega (arith, r.deep, offsets_few n l (plain x) r.bounded.1))))
 
 pub call_parts : (n : ℕ) (l : Layout) (d t : ℕ) (the : Expression) (ty : Ty) (f : Callee) (xs given : List Expression) (ks filled : List Const) → plain the ≡ call ty f (plain_all xs) ks
-    → given ≡ xs → filled ≡ ks → weight (plain the) ≡ t → IsReady n l d (plain the)
+    → given ≡ xs → filled ≡ ks → weight (plain the) ≡ t → CanBeEmitted n l d (plain the)
     → (all_weight (plain_all given) + 3 < t) × (IsType l ty × (IsCallee n (count_arguments (plain_all given) + length filled) f
     × AreReady n l (d + length (result_room l f ty) + length filled) (plain_all given)))
 call_parts n l d t the ty f xs given ks filled is same same-filled falls ready =
@@ -296,7 +296,7 @@ next_left xs i x some le is =
 
 pub argument_ready : (n : ℕ) (l : Layout) (d : ℕ) (xs : List Expression) (i : ℕ) (x : Expression) (made depth : ℕ) → AreReady n l d (plain_all xs) → 0 < i → i ≤ length xs → x ≡ get_or xs (i - 1) x
     → made ≡ n + all_labels (plain_all (drop i xs)) → depth ≡ d + arguments_cells l (plain_all (drop i xs))
-    → IsReady (made + argument_labels (is_captured (plain x))) l depth (plain x)
+    → CanBeEmitted (made + argument_labels (is_captured (plain x))) l depth (plain x)
 argument_ready n l d xs i x made depth ready some le is made-is depth-is =
     let r = subst (AreReady n l d) (next_left xs i x some le is) (drop_ready n l d xs (i - 1) ready) in
     rw (made-is, depth-is) (last_ready n l d (plain x) (plain_all (drop i xs)) r)
@@ -316,21 +316,21 @@ count_is (x ∷ xs) = omega (arith, count_is xs)
 pub called_ready : (n m : ℕ) (xs : List Expression) (count : ℕ) (f : Callee) → n ≤ m → IsCallee n (count_arguments (plain_all xs) + count) f → IsCallee m (length xs + count) f
 called_ready n m xs count f le is = callee_grows n m (length xs + count) f le (subst (λ k. IsCallee n (k + count) f) (count_is xs) is)
 
-pub counted : (xs : List Expression) (count : ℕ) (f : Callee) → called f (length xs + count) ≡ called f (count_arguments (plain_all xs) + count)
-counted xs count f = ap (λ k. called f (k + count)) (sym (count_is xs))
+pub counted : (xs : List Expression) (count : ℕ) (f : Callee) → call_line f (length xs + count) ≡ call_line f (count_arguments (plain_all xs) + count)
+counted xs count f = ap (λ k. call_line f (k + count)) (sym (count_is xs))
 
 -- ---- by the shortcut of an operator
 
-pub short_first : (n : ℕ) (l : Layout) (d : ℕ) (x : TypedExpr) (s k : Shortcut) → s ≡ k → IsReady (n + shortcut_labels s) l d x → IsReady (n + shortcut_labels k) l d x
-short_first n l d x s k is = subst (λ z. IsReady (n + shortcut_labels z) l d x) is
+pub short_first : (n : ℕ) (l : Layout) (d : ℕ) (x : TypedExpr) (s k : Shortcut) → s ≡ k → CanBeEmitted (n + shortcut_labels s) l d x → CanBeEmitted (n + shortcut_labels k) l d x
+short_first n l d x s k is = subst (λ z. CanBeEmitted (n + shortcut_labels z) l d x) is
 
-pub short_second : (n m : ℕ) (l : Layout) (d : ℕ) (x : TypedExpr) (s k : Shortcut) → s ≡ k → IsReady (n + shortcut_labels s + m) l d x → IsReady (n + shortcut_labels k + m) l d x
-short_second n m l d x s k is = subst (λ z. IsReady (n + shortcut_labels z + m) l d x) is
+pub short_second : (n m : ℕ) (l : Layout) (d : ℕ) (x : TypedExpr) (s k : Shortcut) → s ≡ k → CanBeEmitted (n + shortcut_labels s + m) l d x → CanBeEmitted (n + shortcut_labels k + m) l d x
+short_second n m l d x s k is = subst (λ z. CanBeEmitted (n + shortcut_labels z + m) l d x) is
 
 -- ---- the cells of a value that is ready
 
-pub ready_few : (n : ℕ) (l : Layout) (d : ℕ) (x : TypedExpr) (k : ℕ) → IsReady n l d x → k ≡ cells l.structs (type_of x) → k ≤ struct_cell_limit
+pub ready_few : (n : ℕ) (l : Layout) (d : ℕ) (x : TypedExpr) (k : ℕ) → CanBeEmitted n l d x → k ≡ cells l.structs (type_of x) → k ≤ struct_cell_limit
 ready_few n l d x k ready is = omega (arith, type_few n l x ready.bounded)
 
-pub ready_fits : (n : ℕ) (l : Layout) (d : ℕ) (x : TypedExpr) (k : ℕ) → IsReady n l d x → k ≡ cells l.structs (type_of x) → d + k < 2 ^ 32
+pub ready_fits : (n : ℕ) (l : Layout) (d : ℕ) (x : TypedExpr) (k : ℕ) → CanBeEmitted n l d x → k ≡ cells l.structs (type_of x) → d + k < 2 ^ 32
 ready_fits n l d x k ready is = omega (arith, ready.deep, ready_few n l d x k ready is)

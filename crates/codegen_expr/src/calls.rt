@@ -53,7 +53,7 @@ pub(crate) fn emit_constants(out: &mut Emitter, constants: &[Const]) -> Result<(
 pub(crate) fn emit_called(out: &mut Emitter, callee: Callee, count: usize) -> Result<(), NoMemory>
     requires is_callee { IsCallee out.old.labels count callee }
     ensures { OnOk result (out.new
-        ≡ record out.old { lines = out.old.lines ++ code.called callee count ∷ [] }) }
+        ≡ record out.old { lines = out.old.lines ++ code.call_line callee count ∷ [] }) }
 {
     match callee {
         Callee::Unit(number) => out.jump(Jump::Jsr, number),

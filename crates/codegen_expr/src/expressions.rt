@@ -13,12 +13,12 @@ ghost use Rattle.emission_rules.specs.Bounds.{
   IsExpr,
   IsOperator,
   IsType,
-  depth_limit,
+  frame_limit,
   weight,
 };
 ghost use Rattle.emission_rules.specs.Operations as operations;
 ghost use Rattle.emission_rules.specs.Expressions as code;
-ghost use Rattle.codegen_expr.specs.Emitted.{AreReady, IsReady, extended};
+ghost use Rattle.codegen_expr.specs.Emitted.{AreReady, CanBeEmitted, extended};
 ghost use Rattle.codegen_expr.specs.Parts.{offsets};
 
 use crate::calls::{emit_called, emit_constants, emit_room};
@@ -45,8 +45,8 @@ pub fn emit_expr(
     depth: u32,
 ) -> Result<(), NoMemory>
     requires bounded { IsExpr out.old.labels layout.now (plain e.now) }
-    requires deep { depth + weight (plain e.now) ≤ depth_limit }
-    requires globals { layout.now.globals ≤ depth_limit }
+    requires deep { depth + weight (plain e.now) ≤ frame_limit }
+    requires globals { layout.now.globals ≤ frame_limit }
     requires labelled { out.old.labels + code.labels (plain e.now) < 2 ^ 32 }
     ensures ok { OnOk result (out.new
         ≡ extended out.old (code.emit layout.now out.old.labels depth (plain e.now))
@@ -62,7 +62,7 @@ fn expression(
     e: &Expression,
     depth: u32,
 ) -> Result<(), NoMemory>
-    requires ready { IsReady out.old.labels layout.now depth (plain e.now) }
+    requires ready { CanBeEmitted out.old.labels layout.now depth (plain e.now) }
     ensures { OnOk result (out.new
         ≡ extended out.old (code.emit layout.now out.old.labels depth (plain e.now))
         (code.labels (plain e.now))) }
@@ -113,7 +113,7 @@ fn member(
     before: u32,
     depth: u32,
 ) -> Result<(), NoMemory>
-    requires ready { IsReady out.old.labels layout.now depth (plain of.now) }
+    requires ready { CanBeEmitted out.old.labels layout.now depth (plain of.now) }
     requires is_type { IsType layout.now ty }
     requires whole { IsType layout.now (type_of (plain of.now)) }
     requires inside { before ≤ struct_cell_limit }
@@ -143,7 +143,7 @@ fn prefix(
     of: &Expression,
     depth: u32,
 ) -> Result<(), NoMemory>
-    requires ready { IsReady out.old.labels layout.now depth (plain of.now) }
+    requires ready { CanBeEmitted out.old.labels layout.now depth (plain of.now) }
     ensures { OnOk result (out.new ≡ extended out.old
         (code.prefix_code layout.now depth operator (code.home layout.now (plain of.now))
         (code.emit layout.now out.old.labels depth (plain of.now)))
@@ -163,7 +163,7 @@ fn postfix(
     of: &Expression,
     depth: u32,
 ) -> Result<(), NoMemory>
-    requires ready { IsReady out.old.labels layout.now depth (plain of.now) }
+    requires ready { CanBeEmitted out.old.labels layout.now depth (plain of.now) }
     ensures { OnOk result (out.new ≡ extended out.old
         (code.postfix_code layout.now depth operator (code.home layout.now (plain of.now))
         (code.emit layout.now out.old.labels depth (plain of.now)))
@@ -188,9 +188,9 @@ fn binary(
 ) -> Result<(), NoMemory>
     requires few { cells layout.now.structs (type_of (plain left.now)) ≤ struct_cell_limit }
     requires fits { IsOperator operator (type_of (plain left.now)) }
-    requires first { IsReady (out.old.labels + code.shortcut_labels (code.shortcut operator))
+    requires first { CanBeEmitted (out.old.labels + code.shortcut_labels (code.shortcut operator))
         layout.now depth (plain left.now) }
-    requires second { IsReady
+    requires second { CanBeEmitted
         (out.old.labels + code.shortcut_labels (code.shortcut operator)
         + code.labels (plain left.now))
         layout.now (depth + cells layout.now.structs (type_of (plain left.now)))
@@ -230,8 +230,8 @@ fn or_else(
 ) -> Result<(), NoMemory>
     requires row { HasRow (plain_op op.now) }
     requires few { cells layout.now.structs (type_of (plain left.now)) ≤ struct_cell_limit }
-    requires first { IsReady (out.old.labels + 2) layout.now depth (plain left.now) }
-    requires second { IsReady (out.old.labels + 2 + code.labels (plain left.now)) layout.now
+    requires first { CanBeEmitted (out.old.labels + 2) layout.now depth (plain left.now) }
+    requires second { CanBeEmitted (out.old.labels + 2 + code.labels (plain left.now)) layout.now
         (depth + cells layout.now.structs (type_of (plain left.now))) (plain right.now) }
     ensures { OnOk result (out.new ≡ extended out.old
         (code.binary_code out.old.labels code.WhereTrue (plain_op op.now)
@@ -264,8 +264,8 @@ fn and_then(
 ) -> Result<(), NoMemory>
     requires row { HasRow (plain_op op.now) }
     requires few { cells layout.now.structs (type_of (plain left.now)) ≤ struct_cell_limit }
-    requires first { IsReady (out.old.labels + 1) layout.now depth (plain left.now) }
-    requires second { IsReady (out.old.labels + 1 + code.labels (plain left.now)) layout.now
+    requires first { CanBeEmitted (out.old.labels + 1) layout.now depth (plain left.now) }
+    requires second { CanBeEmitted (out.old.labels + 1 + code.labels (plain left.now)) layout.now
         (depth + cells layout.now.structs (type_of (plain left.now))) (plain right.now) }
     ensures { OnOk result (out.new ≡ extended out.old
         (code.binary_code out.old.labels code.WhereFalse (plain_op op.now)
@@ -298,8 +298,8 @@ fn operands(
 ) -> Result<(), NoMemory>
     requires row { HasRow (plain_op op.now) }
     requires few { cells layout.now.structs (type_of (plain left.now)) ≤ struct_cell_limit }
-    requires first { IsReady (out.old.labels + 0) layout.now depth (plain left.now) }
-    requires second { IsReady (out.old.labels + 0 + code.labels (plain left.now)) layout.now
+    requires first { CanBeEmitted (out.old.labels + 0) layout.now depth (plain left.now) }
+    requires second { CanBeEmitted (out.old.labels + 0 + code.labels (plain left.now)) layout.now
         (depth + cells layout.now.structs (type_of (plain left.now))) (plain right.now) }
     ensures { OnOk result (out.new ≡ extended out.old
         (code.binary_code out.old.labels code.Never (plain_op op.now)
@@ -324,10 +324,10 @@ fn assign(
     depth: u32,
 ) -> Result<(), NoMemory>
     requires is_type { IsType layout.now ty }
-    requires ready { IsReady out.old.labels layout.now
+    requires ready { CanBeEmitted out.old.labels layout.now
         (depth + code.cells_first (code.is_set operator) (cells layout.now.structs ty))
         (plain value.now) }
-    requires near { offsets (plain place.now) ≤ depth_limit }
+    requires near { offsets (plain place.now) ≤ frame_limit }
     ensures { OnOk result (out.new ≡ extended out.old
         (code.emit layout.now out.old.labels depth
         (typed.assign ty operator (plain place.now) (plain value.now)))
@@ -400,7 +400,7 @@ fn argument(
     given: &Expression,
     depth: u32,
 ) -> Result<(), NoMemory>
-    requires ready { IsReady
+    requires ready { CanBeEmitted
         (out.old.labels + code.argument_labels (is_captured (plain given.now)))
         layout.now depth (plain given.now) }
     ensures { OnOk result (out.new ≡ extended out.old

@@ -4,7 +4,7 @@ ghost use Rattle.std.specs.Prelude.{◌≡◌, ◌++◌, ◌∷◌, ◌*◌, ◌
 ghost use Rattle.std.specs.List.{AllByRecursion};
 ghost use Rattle.nwq_value.specs.Limits.{struct_cell_limit};
 ghost use Rattle.typing_rules.specs.Cells.{cell_types};
-ghost use Rattle.emission_rules.specs.Bounds.{IsCell, IsType, depth_limit};
+ghost use Rattle.emission_rules.specs.Bounds.{IsCell, IsType, frame_limit};
 ghost use Rattle.emission_rules.specs.Operations as code;
 ghost use Rattle.ncs_code.specs.Plain as ops;
 ghost use Rattle.ncs_code.specs.Plain.{plain};

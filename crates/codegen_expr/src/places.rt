@@ -4,7 +4,7 @@ ghost use Rattle.std.specs.Prelude.{◌≡◌, ◌++◌, ◌+◌, ◌-◌, ◌<�
 ghost use Rattle.std.specs.Option.{option_map};
 ghost use Rattle.nwq_value.specs.Limits.{struct_cell_limit};
 ghost use Rattle.typing_rules.specs.Reading.{plain as plain_expr};
-ghost use Rattle.emission_rules.specs.Bounds.{IsType, depth_limit};
+ghost use Rattle.emission_rules.specs.Bounds.{IsType, frame_limit};
 ghost use Rattle.emission_rules.specs.Expressions as code;
 ghost use Rattle.emission_rules.specs.Operations as operations;
 ghost use Rattle.ncs_code.specs.Plain.{plain};
@@ -31,7 +31,7 @@ pub enum Home {
 
 /// So many cells above it.
 fn moved(home: Home, offset: u32) -> Home
-    requires near { IsAbove depth_limit home }
+    requires near { IsAbove frame_limit home }
     ensures moved { plain_home result ≡ code.moved offset (plain_home home) }
     ensures above { (cells : ℕ) → IsAbove cells home → IsAbove (offset + cells) result }
 {
@@ -55,7 +55,7 @@ fn name_home(layout: &Layout, place: &Place) -> Option<Home>
 /// Where an expression lies, if it is a place.
 #[tactic(auto, using(typing_rules::specs::Readings::known, crate::proofs::Above::above_more))]
 pub(crate) fn home_of(layout: &Layout, e: &Expression) -> Option<Home>
-    requires near { offsets (plain_expr e.now) ≤ depth_limit }
+    requires near { offsets (plain_expr e.now) ≤ frame_limit }
     ensures home { option_map plain_home result ≡ code.home layout.now (plain_expr e.now) }
     ensures above { IsSomeAbove (offsets (plain_expr e.now)) result }
 {
@@ -77,7 +77,7 @@ pub(crate) fn home_of(layout: &Layout, e: &Expression) -> Option<Home>
 /// Where a member of an expression lies, if it is a place.
 #[tactic(auto, using(crate::proofs::Above::above_more))]
 pub(crate) fn member_home(layout: &Layout, of: &Expression, before: u32) -> Option<Home>
-    requires near { offsets (plain_expr of.now) ≤ depth_limit }
+    requires near { offsets (plain_expr of.now) ≤ frame_limit }
     ensures home { option_map plain_home result
         ≡ option_map (code.moved before) (code.home layout.now (plain_expr of.now)) }
 {
@@ -99,7 +99,7 @@ fn below(cells: u32, at: u64) -> i32
 #[tactic(auto, unfolding(ncs_code::specs::Spelling::has_type))]
 pub(crate) fn read(layout: &Layout, depth: u32, count: u32, home: Home) -> Op<'static>
     requires deep { depth < 2 ^ 29 }
-    requires globals { layout.now.globals ≤ depth_limit }
+    requires globals { layout.now.globals ≤ frame_limit }
     requires few { count ≤ struct_cell_limit }
     ensures op { plain result ≡ code.read layout.now depth count (plain_home home) }
     ensures row { HasRow (plain result) }
@@ -120,7 +120,7 @@ pub(crate) fn read(layout: &Layout, depth: u32, count: u32, home: Home) -> Op<'s
 #[tactic(auto, unfolding(ncs_code::specs::Spelling::has_type))]
 fn write(layout: &Layout, depth: u32, count: u32, home: Home) -> Op<'static>
     requires deep { depth < 2 ^ 29 }
-    requires globals { layout.now.globals ≤ depth_limit }
+    requires globals { layout.now.globals ≤ frame_limit }
     requires few { count ≤ struct_cell_limit }
     ensures op { plain result ≡ code.write layout.now depth count (plain_home home) }
     ensures row { HasRow (plain result) }
@@ -140,7 +140,7 @@ fn write(layout: &Layout, depth: u32, count: u32, home: Home) -> Op<'static>
 #[tactic(auto, unfolding(ncs_code::specs::Spelling::has_type))]
 fn increment(layout: &Layout, depth: u32, home: Home) -> Op<'static>
     requires deep { depth < 2 ^ 29 }
-    requires globals { layout.now.globals ≤ depth_limit }
+    requires globals { layout.now.globals ≤ frame_limit }
     ensures op { plain result ≡ code.increment layout.now depth (plain_home home) }
     ensures row { HasRow (plain result) }
 {
@@ -157,7 +157,7 @@ fn increment(layout: &Layout, depth: u32, home: Home) -> Op<'static>
 #[tactic(auto, unfolding(ncs_code::specs::Spelling::has_type))]
 fn decrement(layout: &Layout, depth: u32, home: Home) -> Op<'static>
     requires deep { depth < 2 ^ 29 }
-    requires globals { layout.now.globals ≤ depth_limit }
+    requires globals { layout.now.globals ≤ frame_limit }
     ensures op { plain result ≡ code.decrement layout.now depth (plain_home home) }
     ensures row { HasRow (plain result) }
 {
@@ -180,7 +180,7 @@ pub(crate) fn emit_read(
     home: Option<Home>,
 ) -> Result<(), NoMemory>
     requires deep { depth < 2 ^ 29 }
-    requires globals { layout.now.globals ≤ depth_limit }
+    requires globals { layout.now.globals ≤ frame_limit }
     requires few { count ≤ struct_cell_limit }
     ensures { OnOk result (out.new ≡ record out.old {
       lines = out.old.lines ++ code.at_home (code.read layout.now depth count)
@@ -202,7 +202,7 @@ pub(crate) fn emit_write(
     home: Option<Home>,
 ) -> Result<(), NoMemory>
     requires deep { depth < 2 ^ 29 }
-    requires globals { layout.now.globals ≤ depth_limit }
+    requires globals { layout.now.globals ≤ frame_limit }
     requires few { count ≤ struct_cell_limit }
     ensures { OnOk result (out.new ≡ record out.old {
       lines = out.old.lines ++ code.at_home (code.write layout.now depth count)
@@ -223,7 +223,7 @@ pub(crate) fn emit_increment(
     home: Option<Home>,
 ) -> Result<(), NoMemory>
     requires deep { depth < 2 ^ 29 }
-    requires globals { layout.now.globals ≤ depth_limit }
+    requires globals { layout.now.globals ≤ frame_limit }
     ensures { OnOk result (out.new ≡ record out.old {
       lines = out.old.lines ++ code.at_home (code.increment layout.now depth)
           (option_map plain_home home);
@@ -243,7 +243,7 @@ pub(crate) fn emit_decrement(
     home: Option<Home>,
 ) -> Result<(), NoMemory>
     requires deep { depth < 2 ^ 29 }
-    requires globals { layout.now.globals ≤ depth_limit }
+    requires globals { layout.now.globals ≤ frame_limit }
     ensures { OnOk result (out.new ≡ record out.old {
       lines = out.old.lines ++ code.at_home (code.decrement layout.now depth)
           (option_map plain_home home);
@@ -264,7 +264,7 @@ pub(crate) fn emit_name(
     depth: u32,
 ) -> Result<(), NoMemory>
     requires deep { depth < 2 ^ 29 }
-    requires globals { layout.now.globals ≤ depth_limit }
+    requires globals { layout.now.globals ≤ frame_limit }
     requires is_type { IsType layout.now ty }
     ensures { OnOk result (out.new ≡ record out.old {
       lines = out.old.lines ++ code.name_code layout.now depth ty place.now;
@@ -293,7 +293,7 @@ pub(crate) fn step_before(
     depth: u32,
 ) -> Result<(), NoMemory>
     requires deep { depth < 2 ^ 29 }
-    requires globals { layout.now.globals ≤ depth_limit }
+    requires globals { layout.now.globals ≤ frame_limit }
     ensures { OnOk result (out.new ≡ record out.old {
       lines = out.old.lines
           ++ prefix_before layout.now depth operator (option_map plain_home home);
@@ -318,7 +318,7 @@ pub(crate) fn emit_first(
     depth: u32,
 ) -> Result<u32, NoMemory>
     requires deep { depth < 2 ^ 29 }
-    requires globals { layout.now.globals ≤ depth_limit }
+    requires globals { layout.now.globals ≤ frame_limit }
     requires few { count ≤ struct_cell_limit }
     ensures lines { OnOk result (out.new ≡ record out.old {
       lines = out.old.lines

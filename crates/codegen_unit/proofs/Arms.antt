@@ -16,11 +16,11 @@ use Rattle.typing_rules.specs.declared.places.Variable.{Variable}
 use Rattle.typing_rules.specs.Reading.{plain}
 use Rattle.typing_rules.specs.Typed.{TypedExpr, TypedName, TypedStmt, TypedStmts}
 use Rattle.typing_rules.specs.UnitReading.{typed_names, typed_stmt, typed_stmts}
-use Rattle.emission_rules.specs.Bounds.{depth_limit, weight, some_weight, stmt_weight, IsExpr, IsSome, IsStmt, AreStmts}
+use Rattle.emission_rules.specs.Bounds.{frame_limit, weight, some_weight, stmt_weight, IsExpr, IsSome, IsStmt, AreStmts}
 use Rattle.emission_rules.specs.Layout.{Layout}
 use Rattle.emission_rules.specs.Expressions.{labels}
 use Rattle.emission_rules.specs.Statements.{Exits, in_loop, in_switch, some_labels, count_labels, stmt_labels, emit_stmt}
-use Rattle.codegen_expr.specs.Emitted.{IsReady, extended}
+use Rattle.codegen_expr.specs.Emitted.{CanBeEmitted, extended}
 use Rattle.codegen_unit.specs.declared.exits.Target.{Target}
 use Rattle.codegen_unit.specs.declared.exits.Exits as code
 use Rattle.codegen_unit.specs.Ready.{IsMade, IsPartReady, LoopReady, NamesReady, StmtReady, StmtsReady, SwitchReady, depth_of, label_of, leads, plain_exits}
@@ -56,14 +56,14 @@ pub made_grows : (n m : ℕ) (t : Option Target) → n ≤ m → IsMade n t → 
 made_grows n m None le is = tt
 made_grows n m (Some t) le is = omega arith
 
-pub expr_ready : (n m : ℕ) (l : Layout) (d : ℕ) (x : TypedExpr) → n ≤ m → IsExpr n l x → d + weight x ≤ depth_limit → l.globals ≤ depth_limit → m + labels x < 2 ^ 32 → IsReady m l d x
+pub expr_ready : (n m : ℕ) (l : Layout) (d : ℕ) (x : TypedExpr) → n ≤ m → IsExpr n l x → d + weight x ≤ frame_limit → l.globals ≤ frame_limit → m + labels x < 2 ^ 32 → CanBeEmitted m l d x
 expr_ready n m l d x le is deep globals few = record { bounded = grows n m l x le is; deep = deep; globals = globals; labelled = few }
 
-pub part_ready : (n m : ℕ) (l : Layout) (d : ℕ) (x : Option TypedExpr) → n ≤ m → IsSome n l x → d + some_weight x ≤ depth_limit → l.globals ≤ depth_limit → m + some_labels x < 2 ^ 32 → IsPartReady m l d x
+pub part_ready : (n m : ℕ) (l : Layout) (d : ℕ) (x : Option TypedExpr) → n ≤ m → IsSome n l x → d + some_weight x ≤ frame_limit → l.globals ≤ frame_limit → m + some_labels x < 2 ^ 32 → IsPartReady m l d x
 part_ready n m l d None le is deep globals few = globals
 part_ready n m l d (Some x) le is deep globals few = expr_ready n m l d x le is deep globals few
 
-stmt_ready : (n m : ℕ) (l : Layout) (d : ℕ) (ex : code.Exits) (x : TypedStmt) → n ≤ m → IsStmt n l (leads ex.break_to) (leads ex.continue_to) x → d + stmt_weight x ≤ depth_limit → l.globals ≤ depth_limit
+stmt_ready : (n m : ℕ) (l : Layout) (d : ℕ) (ex : code.Exits) (x : TypedStmt) → n ≤ m → IsStmt n l (leads ex.break_to) (leads ex.continue_to) x → d + stmt_weight x ≤ frame_limit → l.globals ≤ frame_limit
     → m + stmt_labels x < 2 ^ 32 → IsMade n ex.break_to → IsMade n ex.continue_to → StmtReady m l d ex x
 stmt_ready n m l d ex x le is deep globals few b k = record {
   bounded = stmt_grows n m l (leads ex.break_to) (leads ex.continue_to) x le is;
@@ -74,7 +74,7 @@ stmt_ready n m l d ex x le is deep globals few b k = record {
   continue_made = made_grows n m ex.continue_to le k;
 }
 
-loop_ready : (n m : ℕ) (l : Layout) (d : ℕ) (x : TypedStmt) → n ≤ m → IsStmt n l true true x → d + stmt_weight x ≤ depth_limit → l.globals ≤ depth_limit → m + stmt_labels x < 2 ^ 32 → LoopReady m l d x
+loop_ready : (n m : ℕ) (l : Layout) (d : ℕ) (x : TypedStmt) → n ≤ m → IsStmt n l true true x → d + stmt_weight x ≤ frame_limit → l.globals ≤ frame_limit → m + stmt_labels x < 2 ^ 32 → LoopReady m l d x
 loop_ready n m l d x le is deep globals few = record { bounded = stmt_grows n m l true true x le is; deep = deep; globals = globals; labelled = few }
 
 -- the body of a loop, in it
@@ -119,7 +119,7 @@ module _ (n : ℕ) (l : Layout) (d t : ℕ) (ex : code.Exits) (the : Stmt Expres
       (omega arith, record { bounded = r.bounded; deep = r.deep; globals = r.globals; labelled = r.labelled; break_made = r.break_made; continue_made = r.continue_made })
 
   pub if_only_parts : (i : ℕ) (x : TypedExpr) (a : Stmt Expression Const Ty Variable) → typed_stmt the ≡ s.if_only i x (typed_stmt a) → size (typed_stmt the) ≡ t → StmtReady n l d ex (typed_stmt the)
-      → (size (typed_stmt a) + 1 < t) × (IsReady (n + 1) l d x × StmtReady (n + 1 + labels x) l d ex (typed_stmt a))
+      → (size (typed_stmt a) + 1 < t) × (CanBeEmitted (n + 1) l d x × StmtReady (n + 1 + labels x) l d ex (typed_stmt a))
   if_only_parts i x a is falls ready =
       let r = known (s.if_only i x (typed_stmt a)) is ready in
       let w : size (typed_stmt the) ≡ 3 + size (typed_stmt a) = ap size is in (
@@ -131,7 +131,7 @@ module _ (n : ℕ) (l : Layout) (d t : ℕ) (ex : code.Exits) (the : Stmt Expres
       )
 
   pub if_else_parts : (i : ℕ) (x : TypedExpr) (a b : Stmt Expression Const Ty Variable) → typed_stmt the ≡ s.if_else i x (typed_stmt a) (typed_stmt b) → size (typed_stmt the) ≡ t → StmtReady n l d ex (typed_stmt the)
-      → (size (typed_stmt a) + size (typed_stmt b) + 1 < t) × (IsReady (n + 2) l d x × (StmtReady (n + 2 + labels x) l d ex (typed_stmt a)
+      → (size (typed_stmt a) + size (typed_stmt b) + 1 < t) × (CanBeEmitted (n + 2) l d x × (StmtReady (n + 2 + labels x) l d ex (typed_stmt a)
       × StmtReady (n + 2 + labels x + stmt_labels (typed_stmt a)) l d ex (typed_stmt b)))
   if_else_parts i x a b is falls ready =
       let r = known (s.if_else i x (typed_stmt a) (typed_stmt b)) is ready in
@@ -147,7 +147,7 @@ module _ (n : ℕ) (l : Layout) (d t : ℕ) (ex : code.Exits) (the : Stmt Expres
       )
 
   pub while_parts : (i : ℕ) (x : TypedExpr) (a : Stmt Expression Const Ty Variable) → typed_stmt the ≡ s.while_loop i x (typed_stmt a) → size (typed_stmt the) ≡ t → StmtReady n l d ex (typed_stmt the)
-      → (size (typed_stmt a) + 1 < t) × (IsReady (n + 2) l d x × LoopReady (n + 2 + labels x) l d (typed_stmt a))
+      → (size (typed_stmt a) + 1 < t) × (CanBeEmitted (n + 2) l d x × LoopReady (n + 2 + labels x) l d (typed_stmt a))
   while_parts i x a is falls ready =
       let r = known (s.while_loop i x (typed_stmt a)) is ready in
       let w : size (typed_stmt the) ≡ 3 + size (typed_stmt a) = ap size is in (
@@ -159,7 +159,7 @@ module _ (n : ℕ) (l : Layout) (d t : ℕ) (ex : code.Exits) (the : Stmt Expres
       )
 
   pub do_parts : (i : ℕ) (x : TypedExpr) (a : Stmt Expression Const Ty Variable) → typed_stmt the ≡ s.do_loop i (typed_stmt a) x → size (typed_stmt the) ≡ t → StmtReady n l d ex (typed_stmt the)
-      → (size (typed_stmt a) + 1 < t) × (LoopReady (n + 3) l d (typed_stmt a) × IsReady (n + 3 + stmt_labels (typed_stmt a)) l d x)
+      → (size (typed_stmt a) + 1 < t) × (LoopReady (n + 3) l d (typed_stmt a) × CanBeEmitted (n + 3 + stmt_labels (typed_stmt a)) l d x)
   do_parts i x a is falls ready =
       let r = known (s.do_loop i (typed_stmt a) x) is ready in
       let w : size (typed_stmt the) ≡ 3 + size (typed_stmt a) = ap size is in (
@@ -190,7 +190,7 @@ module _ (n : ℕ) (l : Layout) (d t : ℕ) (ex : code.Exits) (the : Stmt Expres
       )
 
   pub switch_parts : (i : ℕ) (x : TypedExpr) (xs : List (Stmt Expression Const Ty Variable)) → typed_stmt the ≡ s.switch i x (typed_stmts xs) → size (typed_stmt the) ≡ t → StmtReady n l d ex (typed_stmt the)
-      → (all_size (typed_stmts xs) + 2 < t) × (IsReady (n + 1 + count_labels (typed_stmts xs)) l d x
+      → (all_size (typed_stmts xs) + 2 < t) × (CanBeEmitted (n + 1 + count_labels (typed_stmts xs)) l d x
       × SwitchReady (n + 1 + count_labels (typed_stmts xs) + labels x) l (d + 1) ex (typed_stmts xs))
   switch_parts i x xs is falls ready =
       let r = known (s.switch i x (typed_stmts xs)) is ready in
@@ -209,7 +209,7 @@ module _ (n : ℕ) (l : Layout) (d t : ℕ) (ex : code.Exits) (the : Stmt Expres
         ),
       )
 
-  pub effect_part : (i : ℕ) (x : TypedExpr) → typed_stmt the ≡ s.expression i x → StmtReady n l d ex (typed_stmt the) → IsReady n l d x
+  pub effect_part : (i : ℕ) (x : TypedExpr) → typed_stmt the ≡ s.expression i x → StmtReady n l d ex (typed_stmt the) → CanBeEmitted n l d x
   effect_part i x is ready =
       let r = known (s.expression i x) is ready in
       record { bounded = r.bounded; deep = r.deep; globals = r.globals; labelled = r.labelled }
@@ -230,7 +230,7 @@ module _ (n : ℕ) (l : Layout) (d t : ℕ) (ex : code.Exits) (the : Stmt Expres
   pub continue_leads : (i : ℕ) → typed_stmt the ≡ s.continue_on i → StmtReady n l d ex (typed_stmt the) → leads ex.continue_to ≡ true
   continue_leads i is ready = (known (s.continue_on i) is ready).bounded
 
-  pub small : StmtReady n l d ex (typed_stmt the) → d ≤ depth_limit
+  pub small : StmtReady n l d ex (typed_stmt the) → d ≤ frame_limit
   small ready = omega (arith, ready.deep)
 
 -- ---- the code of a statement that is known

@@ -13,7 +13,7 @@ use Rattle.typing_rules.specs.Cells.{cells}
 use Rattle.emission_rules.specs.Bounds.{IsExpr, AreExprs, IsSome, AreNames, IsStmt, AreStmts, IsCallee}
 use Rattle.emission_rules.specs.Expressions.{count_arguments}
 use Rattle.emission_rules.specs.Layout.{Layout}
-use Rattle.codegen_expr.specs.Emitted.{IsReady, extended}
+use Rattle.codegen_expr.specs.Emitted.{CanBeEmitted, extended}
 
 const_few : (l : Layout) (k : Const) → cells l.structs (type_of (literal k)) ≤ struct_cell_limit
 const_few l (const.Int n) = omega arith
@@ -31,7 +31,7 @@ type_few n l (postfix t o x) is = is.0.few
 type_few n l (binary t o x y) is = is.0.few
 type_few n l (assign t o x y) is = is.0.few
 
-pub ready_few : (n : ℕ) (l : Layout) (d : ℕ) (x : TypedExpr) → IsReady n l d x → cells l.structs (type_of x) ≤ struct_cell_limit
+pub ready_few : (n : ℕ) (l : Layout) (d : ℕ) (x : TypedExpr) → CanBeEmitted n l d x → cells l.structs (type_of x) ≤ struct_cell_limit
 ready_few n l d x ready = type_few n l x ready.bounded
 
 -- ---- code that grows

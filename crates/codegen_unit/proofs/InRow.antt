@@ -14,7 +14,7 @@ use Rattle.typing_rules.specs.declared.places.Variable.{Variable}
 use Rattle.typing_rules.specs.Typed.{TypedName, TypedStmt, TypedStmts}
 use Rattle.typing_rules.specs.UnitReading.{typed_stmt, typed_stmts}
 use Rattle.emission_rules.specs.Parts.{StmtPlacesAbove}
-use Rattle.emission_rules.specs.Bounds.{depth_limit, names_weight, stmt_weight, all_stmt_weight, IsStmt, AreStmts, AreNames}
+use Rattle.emission_rules.specs.Bounds.{frame_limit, names_weight, stmt_weight, all_stmt_weight, IsStmt, AreStmts, AreNames}
 use Rattle.emission_rules.specs.Layout.{Layout, names_cells, declared_cells, all_declared_cells}
 use Rattle.emission_rules.specs.Statements.{Exits, is_label, count_labels, placed, placed_on, stmt_labels, all_stmt_labels, emit_stmt, emit_stmts}
 use Rattle.codegen_expr.specs.Emitted.{extended}
@@ -99,10 +99,10 @@ all_declared_few : (n : ℕ) (l : Layout) (b k : Bool) (xs : TypedStmts) → Are
 all_declared_few n l b k s.no_stmt are = omega arith
 all_declared_few n l b k (s.more_stmts x xs) are = omega (arith, declared_few n l b k x are.0, all_declared_few n l b k xs are.1)
 
-pub stmts_few : (n : ℕ) (l : Layout) (d : ℕ) (ex : code.Exits) (xs : TypedStmts) → StmtsReady n l d ex xs → all_declared_cells l.structs xs ≤ depth_limit
+pub stmts_few : (n : ℕ) (l : Layout) (d : ℕ) (ex : code.Exits) (xs : TypedStmts) → StmtsReady n l d ex xs → all_declared_cells l.structs xs ≤ frame_limit
 stmts_few n l d ex xs ready = omega (arith, ready.deep, all_declared_few n l (leads ex.break_to) (leads ex.continue_to) xs ready.bounded)
 
-pub switch_few : (n : ℕ) (l : Layout) (d : ℕ) (ex : code.Exits) (xs : TypedStmts) → SwitchReady n l d ex xs → all_declared_cells l.structs xs ≤ depth_limit
+pub switch_few : (n : ℕ) (l : Layout) (d : ℕ) (ex : code.Exits) (xs : TypedStmts) → SwitchReady n l d ex xs → all_declared_cells l.structs xs ≤ frame_limit
 switch_few n l d ex xs ready = omega (arith, ready.deep, all_declared_few n l true (leads ex.continue_to) xs ready.bounded)
 
 -- ---- one statement more

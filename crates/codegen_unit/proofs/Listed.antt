@@ -17,7 +17,7 @@ use Rattle.typing_rules.specs.declared.places.EntryPoint.TheVariants.{Main, Cond
 use Rattle.typing_rules.specs.Typed.{TypedItem, TypedName, TypedParameter, TypedStmts, TypedUnit}
 use Rattle.typing_rules.specs.UnitReading.{typed_item, typed_items}
 use Rattle.emission_rules.specs.Parts.{NamesPlaceAbove, StmtsPlaceAbove}
-use Rattle.emission_rules.specs.Bounds.{depth_limit, globals_weight, AreItems, IsBounded}
+use Rattle.emission_rules.specs.Bounds.{frame_limit, globals_weight, AreItems, IsBounded}
 use Rattle.emission_rules.specs.Layout.{Layout, layout_of, names_cells, item_cells, global_cells, params_cells, all_declared_cells}
 use Rattle.emission_rules.specs.Operations.{dropped}
 use Rattle.emission_rules.specs.Statements.{Exits, no_exits, names_labels, emit_names, all_stmt_labels, emit_stmts}
@@ -78,7 +78,7 @@ pub globals_few : (n : ℕ) (l : Layout) (ys : List TypedItem) → AreItems n l 
 globals_few n l [] are = omega arith
 globals_few n l (y ∷ ys) are = omega (arith, item_few n l y ys are, globals_few n l ys (tail_bounded n l y ys are))
 
-pub one_few : (n : ℕ) (l : Layout) (d : ℕ) (y : TypedItem) (i : ℕ) (t : Ty) (xs : List TypedName) → y ≡ global i t xs → GlobalsReady n l d (y ∷ []) → d + names_cells l.structs xs ≤ depth_limit
+pub one_few : (n : ℕ) (l : Layout) (d : ℕ) (y : TypedItem) (i : ℕ) (t : Ty) (xs : List TypedName) → y ≡ global i t xs → GlobalsReady n l d (y ∷ []) → d + names_cells l.structs xs ≤ frame_limit
 one_few n l d y i t xs is ready =
     let r = subst (λ z. GlobalsReady n l d (z ∷ [])) is ready in
     omega (arith, r.deep, names_few n l xs r.bounded.0)
@@ -225,7 +225,7 @@ module _ (u : TypedUnit) (l : Layout) (bounded : IsBounded u) (few : (unit_code 
   items_bounded : AreItems (body_count u.items) l u.items
   items_bounded = subst (λ z. AreItems (body_count u.items) z u.items) (sym is) bounded.items
 
-  small_globals : l.globals ≤ depth_limit
+  small_globals : l.globals ≤ frame_limit
   small_globals = omega (arith, ap (λ (z : Layout). z.globals) is, bounded.globals, globals_few (body_count u.items) (layout_of u) u.items bounded.items)
 
   pub unit_globals : (n : ℕ) → n ≡ body_count u.items → GlobalsReady n l 0 u.items

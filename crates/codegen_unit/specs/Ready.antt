@@ -3,11 +3,11 @@ use Rattle.std.specs.Prelude.{◌≡◌, ℕ, ◌+◌, ◌<◌, ◌≤◌, ◌^�
 use Rattle.ncs_emit.specs.Labelled.{Line, placements}
 use Rattle.typing_rules.specs.Typed.{TypedExpr, TypedItem, TypedName, TypedStmt, TypedStmts}
 use Rattle.emission_rules.specs.Layout.{Layout}
-use Rattle.emission_rules.specs.Bounds.{depth_limit, stmt_weight, all_stmt_weight, names_weight, globals_weight, IsStmt, AreStmts, AreNames, AreItems}
+use Rattle.emission_rules.specs.Bounds.{frame_limit, stmt_weight, all_stmt_weight, names_weight, globals_weight, IsStmt, AreStmts, AreNames, AreItems}
 use Rattle.emission_rules.specs.Units.{body_count, functions_labels, globals_labels}
 use Rattle.emission_rules.specs.Statements as code
 use Rattle.emission_rules.specs.Statements.{stmt_labels, all_stmt_labels, names_labels, count_labels}
-use Rattle.codegen_expr.specs.Emitted.{IsReady}
+use Rattle.codegen_expr.specs.Emitted.{CanBeEmitted}
 use Rattle.codegen_unit.specs.declared.exits.Target.{Target}
 use Rattle.codegen_unit.specs.declared.exits.Exits.{Exits}
 
@@ -41,45 +41,45 @@ IsMade made (Some t) = t.label < made
 -- ---- parts that may be absent
 
 abbrev pub IsPartReady : ℕ → Layout → ℕ → Option TypedExpr → Type 0
-IsPartReady made l depth None = l.globals ≤ depth_limit
-IsPartReady made l depth (Some x) = IsReady made l depth x
+IsPartReady made l depth None = l.globals ≤ frame_limit
+IsPartReady made l depth (Some x) = CanBeEmitted made l depth x
 
 -- ---- statements
 
 pub record StmtReady (made : ℕ) (l : Layout) (depth : ℕ) (exits : Exits) (x : TypedStmt) : Type 0 where
   pub bounded : IsStmt made l (leads exits.break_to) (leads exits.continue_to) x
-  pub deep : depth + stmt_weight x ≤ depth_limit
-  pub globals : l.globals ≤ depth_limit
+  pub deep : depth + stmt_weight x ≤ frame_limit
+  pub globals : l.globals ≤ frame_limit
   pub labelled : made + stmt_labels x < 2 ^ 32
   pub break_made : IsMade made exits.break_to
   pub continue_made : IsMade made exits.continue_to
 
 pub record StmtsReady (made : ℕ) (l : Layout) (depth : ℕ) (exits : Exits) (xs : TypedStmts) : Type 0 where
   pub bounded : AreStmts made l (leads exits.break_to) (leads exits.continue_to) xs
-  pub deep : depth + all_stmt_weight xs ≤ depth_limit
-  pub globals : l.globals ≤ depth_limit
+  pub deep : depth + all_stmt_weight xs ≤ frame_limit
+  pub globals : l.globals ≤ frame_limit
   pub labelled : made + all_stmt_labels xs < 2 ^ 32
   pub break_made : IsMade made exits.break_to
   pub continue_made : IsMade made exits.continue_to
 
 pub record NamesReady (made : ℕ) (l : Layout) (depth : ℕ) (xs : List TypedName) : Type 0 where
   pub bounded : AreNames made l xs
-  pub deep : depth + names_weight xs ≤ depth_limit
-  pub globals : l.globals ≤ depth_limit
+  pub deep : depth + names_weight xs ≤ frame_limit
+  pub globals : l.globals ≤ frame_limit
   pub labelled : made + names_labels xs < 2 ^ 32
 
 -- the body of a loop, whose own labels were made
 pub record LoopReady (made : ℕ) (l : Layout) (depth : ℕ) (x : TypedStmt) : Type 0 where
   pub bounded : IsStmt made l true true x
-  pub deep : depth + stmt_weight x ≤ depth_limit
-  pub globals : l.globals ≤ depth_limit
+  pub deep : depth + stmt_weight x ≤ frame_limit
+  pub globals : l.globals ≤ frame_limit
   pub labelled : made + stmt_labels x < 2 ^ 32
 
 -- the body of a switch, whose own labels were made, inside of what is around it
 pub record SwitchReady (made : ℕ) (l : Layout) (depth : ℕ) (around : Exits) (xs : TypedStmts) : Type 0 where
   pub bounded : AreStmts made l true (leads around.continue_to) xs
-  pub deep : depth + all_stmt_weight xs ≤ depth_limit
-  pub globals : l.globals ≤ depth_limit
+  pub deep : depth + all_stmt_weight xs ≤ frame_limit
+  pub globals : l.globals ≤ frame_limit
   pub labelled : made + all_stmt_labels xs < 2 ^ 32
   pub continue_made : IsMade made around.continue_to
 
@@ -103,7 +103,7 @@ IsOpenAt made lines (Some at) x = IsTrue (code.is_label x) → (at < made) × (p
 -- the functions of these items: their own labels were made
 pub record FunctionsReady (made : ℕ) (l : Layout) (items : List TypedItem) : Type 0 where
   pub bounded : AreItems made l items
-  pub globals : l.globals ≤ depth_limit
+  pub globals : l.globals ≤ frame_limit
   pub labelled : made + functions_labels items < 2 ^ 32
 
 -- the labels of the functions of these items, from a number on, were made and are placed nowhere
@@ -114,6 +114,6 @@ pub record AreFunctionsOpen (made : ℕ) (lines : List Line) (at : ℕ) (items :
 -- the globals of these items, at a depth
 pub record GlobalsReady (made : ℕ) (l : Layout) (depth : ℕ) (items : List TypedItem) : Type 0 where
   pub bounded : AreItems made l items
-  pub deep : depth + globals_weight items ≤ depth_limit
-  pub globals : l.globals ≤ depth_limit
+  pub deep : depth + globals_weight items ≤ frame_limit
+  pub globals : l.globals ≤ frame_limit
   pub labelled : made + globals_labels items < 2 ^ 32

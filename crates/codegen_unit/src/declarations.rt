@@ -4,7 +4,7 @@ ghost use Rattle.std.specs.Prelude.{◌≡◌, ◌+◌, ◌≤◌, ◌<◌, ◌^
 ghost use Rattle.std.specs.Option.{option_map};
 ghost use Rattle.typing_rules.specs.Reading.{plain};
 ghost use Rattle.typing_rules.specs.UnitReading.{typed_names, typed_stmt};
-ghost use Rattle.emission_rules.specs.Bounds.{IsType, depth_limit};
+ghost use Rattle.emission_rules.specs.Bounds.{IsType, frame_limit};
 ghost use Rattle.emission_rules.specs.Layout as laid;
 ghost use Rattle.emission_rules.specs.Statements as code;
 ghost use Rattle.codegen_expr.specs.Emitted.{extended};
@@ -58,7 +58,7 @@ pub(crate) fn emit_names(
 
 /// How many cells names have together.
 pub(crate) fn names_cells(layout: &Layout, names: &[TypedName]) -> u32
-    requires few { laid.names_cells layout.now.structs (typed_names names.now) ≤ depth_limit }
+    requires few { laid.names_cells layout.now.structs (typed_names names.now) ≤ frame_limit }
     ensures { result ≡ laid.names_cells layout.now.structs (typed_names names.now) }
 {
     let mut cells = 0;
@@ -71,7 +71,7 @@ pub(crate) fn names_cells(layout: &Layout, names: &[TypedName]) -> u32
 /// By how many cells a statement leaves the frame deeper than it was.
 #[tactic(auto, using(nss_tree::specs::Readings::plain_cases))]
 pub(crate) fn declared_cells(layout: &Layout, stmt: &TypedStmt) -> u32
-    requires few { laid.declared_cells layout.now.structs (typed_stmt stmt.now) ≤ depth_limit }
+    requires few { laid.declared_cells layout.now.structs (typed_stmt stmt.now) ≤ frame_limit }
     ensures { result ≡ laid.declared_cells layout.now.structs (typed_stmt stmt.now) }
 {
     match stmt {

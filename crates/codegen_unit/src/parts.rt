@@ -9,11 +9,11 @@ ghost use Rattle.ncs_emit.specs.declared.jump.Jump.TheVariants.{Jmp};
 ghost use Rattle.typing_rules.specs.Reading.{plain};
 ghost use Rattle.typing_rules.specs.Typed.{type_of};
 ghost use Rattle.typing_rules.specs.Cells.{cells};
-ghost use Rattle.emission_rules.specs.Bounds.{depth_limit};
+ghost use Rattle.emission_rules.specs.Bounds.{frame_limit};
 ghost use Rattle.emission_rules.specs.Expressions as expr;
 ghost use Rattle.emission_rules.specs.Operations.{dropped};
 ghost use Rattle.emission_rules.specs.Statements as code;
-ghost use Rattle.codegen_expr.specs.Emitted.{IsReady, extended};
+ghost use Rattle.codegen_expr.specs.Emitted.{CanBeEmitted, extended};
 ghost use Rattle.codegen_unit.specs.Ready.{IsMade, IsPartReady, depth_of, label_of, leads};
 
 use crate::exits::Target;
@@ -32,7 +32,7 @@ pub(crate) fn emit_effect(
     e: &Expression,
     depth: u32,
 ) -> Result<(), NoMemory>
-    requires ready { IsReady out.old.labels layout.now depth (plain e.now) }
+    requires ready { CanBeEmitted out.old.labels layout.now depth (plain e.now) }
     ensures { OnOk result (out.new ≡ extended out.old
         (expr.emit layout.now out.old.labels depth (plain e.now)
         ++ dropped (cells layout.now.structs (type_of (plain e.now))))
@@ -83,7 +83,7 @@ pub(crate) fn emit_tested(
 /// and the frame.
 #[tactic(auto, unfolding(ncs_code::specs::Spelling::has_type))]
 fn emit_stored(out: &mut Emitter, layout: &Layout, depth: u32, count: u32) -> Result<(), NoMemory>
-    requires small { depth ≤ depth_limit }
+    requires small { depth ≤ frame_limit }
     requires few { count ≤ struct_cell_limit }
     ensures { OnOk result (out.new
         ≡ record out.old { lines = out.old.lines ++ code.stored layout.now depth count }) }
@@ -104,7 +104,7 @@ fn emit_returned(
     depth: u32,
 ) -> Result<(), NoMemory>
     requires ready { IsPartReady out.old.labels layout.now depth (option_map plain e.now) }
-    requires small { depth ≤ depth_limit }
+    requires small { depth ≤ frame_limit }
     ensures { OnOk result (out.new ≡ extended out.old
         (code.returned layout.now out.old.labels depth (option_map plain e.now))
         (code.some_labels (option_map plain e.now))) }
@@ -127,7 +127,7 @@ pub(crate) fn emit_return(
     depth: u32,
 ) -> Result<(), NoMemory>
     requires ready { IsPartReady out.old.labels layout.now depth (option_map plain e.now) }
-    requires small { depth ≤ depth_limit }
+    requires small { depth ≤ frame_limit }
     ensures { OnOk result (out.new ≡ extended out.old
         (code.returned layout.now out.old.labels depth (option_map plain e.now)
         ++ Instruction ops.Retn ∷ [])
@@ -143,7 +143,7 @@ pub(crate) fn emit_leave(
     target: Option<Target>,
     depth: u32,
 ) -> Result<(), NoMemory>
-    requires small { depth ≤ depth_limit }
+    requires small { depth ≤ frame_limit }
     requires leads { IsTrue (leads target) }
     requires made { IsMade out.old.labels target }
     ensures { OnOk result (out.new ≡ record out.old {

@@ -5,12 +5,12 @@ ghost use Rattle.std.specs.Option.{option_map};
 ghost use Rattle.nss_tree.specs.Statements as tree;
 ghost use Rattle.typing_rules.specs.Reading.{plain};
 ghost use Rattle.typing_rules.specs.UnitReading.{typed_stmt, typed_stmts};
-ghost use Rattle.emission_rules.specs.Bounds.{depth_limit};
+ghost use Rattle.emission_rules.specs.Bounds.{frame_limit};
 ghost use Rattle.emission_rules.specs.Expressions as expr;
 ghost use Rattle.emission_rules.specs.Layout.{all_declared_cells};
 ghost use Rattle.emission_rules.specs.Operations.{dropped};
 ghost use Rattle.emission_rules.specs.Statements as code;
-ghost use Rattle.codegen_expr.specs.Emitted.{IsReady, extended};
+ghost use Rattle.codegen_expr.specs.Emitted.{CanBeEmitted, extended};
 ghost use Rattle.codegen_unit.specs.Ready.{
   AreOpenIn,
   IsPartReady,
@@ -149,7 +149,7 @@ fn if_only(
     then: &TypedStmt,
     depth: u32,
 ) -> Result<(), NoMemory>
-    requires test { IsReady (out.old.labels + 1) layout.now depth (plain condition.now) }
+    requires test { CanBeEmitted (out.old.labels + 1) layout.now depth (plain condition.now) }
     requires then { StmtReady (out.old.labels + 1 + expr.labels (plain condition.now)) layout.now
         depth exits (typed_stmt then.now) }
     ensures { OnOk result (out.new ≡ extended out.old
@@ -177,7 +177,7 @@ fn if_else(
     otherwise: &TypedStmt,
     depth: u32,
 ) -> Result<(), NoMemory>
-    requires test { IsReady (out.old.labels + 2) layout.now depth (plain condition.now) }
+    requires test { CanBeEmitted (out.old.labels + 2) layout.now depth (plain condition.now) }
     requires then { StmtReady (out.old.labels + 2 + expr.labels (plain condition.now)) layout.now
         depth exits (typed_stmt then.now) }
     requires otherwise { StmtReady
@@ -212,7 +212,7 @@ fn while_loop(
     body: &TypedStmt,
     depth: u32,
 ) -> Result<(), NoMemory>
-    requires test { IsReady (out.old.labels + 2) layout.now depth (plain condition.now) }
+    requires test { CanBeEmitted (out.old.labels + 2) layout.now depth (plain condition.now) }
     requires body { LoopReady (out.old.labels + 2 + expr.labels (plain condition.now)) layout.now
         depth (typed_stmt body.now) }
     ensures { OnOk result (out.new ≡ extended out.old
@@ -243,7 +243,7 @@ fn do_loop(
     depth: u32,
 ) -> Result<(), NoMemory>
     requires body { LoopReady (out.old.labels + 3) layout.now depth (typed_stmt body.now) }
-    requires test { IsReady (out.old.labels + 3 + code.stmt_labels (typed_stmt body.now))
+    requires test { CanBeEmitted (out.old.labels + 3 + code.stmt_labels (typed_stmt body.now))
         layout.now depth (plain condition.now) }
     ensures { OnOk result (out.new ≡ extended out.old
         (code.emit_stmt layout.now code.no_exits out.old.labels depth
@@ -321,7 +321,7 @@ fn switch(
     body: &[TypedStmt],
     depth: u32,
 ) -> Result<(), NoMemory>
-    requires value { IsReady (out.old.labels + 1 + code.count_labels (typed_stmts body.now))
+    requires value { CanBeEmitted (out.old.labels + 1 + code.count_labels (typed_stmts body.now))
         layout.now depth (plain value.now) }
     requires body { SwitchReady
         (out.old.labels + 1 + code.count_labels (typed_stmts body.now)

@@ -3,9 +3,9 @@
 ghost use Rattle.std.specs.Prelude.{◌≡◌, ◌++◌, ◌+◌, ◌≤◌, ◌<◌, ◌^◌, ◌∷◌, [], ℕ, IfOk, OnOk};
 ghost use Rattle.typing_rules.specs.Reading.{plain};
 ghost use Rattle.typing_rules.specs.UnitReading.{typed_stmt, typed_stmts};
-ghost use Rattle.emission_rules.specs.Bounds.{depth_limit};
+ghost use Rattle.emission_rules.specs.Bounds.{frame_limit};
 ghost use Rattle.emission_rules.specs.Expressions as expr;
-ghost use Rattle.codegen_expr.specs.Emitted.{IsReady, extended};
+ghost use Rattle.codegen_expr.specs.Emitted.{CanBeEmitted, extended};
 ghost use Rattle.ncs_code.specs.Plain as ops;
 ghost use Rattle.ncs_emit.specs.Labelled.{Instruction, JumpTo, Label, placements};
 ghost use Rattle.ncs_emit.specs.declared.jump.Jump.TheVariants.{Jmp, Jnz};
@@ -213,7 +213,7 @@ pub(crate) fn emit_choice(
     end: u32,
     body: &[TypedStmt],
 ) -> Result<(), NoMemory>
-    requires ready { IsReady out.old.labels layout.now depth (plain value.now) }
+    requires ready { CanBeEmitted out.old.labels layout.now depth (plain value.now) }
     requires made { end + 1 + code.count_labels (typed_stmts body.now) ≤ out.old.labels }
     ensures { OnOk result (out.new ≡ extended out.old
         (expr.emit layout.now out.old.labels depth (plain value.now)
@@ -228,7 +228,7 @@ pub(crate) fn emit_choice(
 
 /// Takes off the cells that the body declares, and behind the end the selector.
 pub(crate) fn close_switch(out: &mut Emitter, end: u32, cells: u32) -> Result<(), NoMemory>
-    requires small { cells ≤ depth_limit }
+    requires small { cells ≤ frame_limit }
     requires made { end < out.old.labels }
     requires unplaced { placements out.old.lines end ≡ 0 }
     ensures { OnOk result (out.new ≡ record out.old {

@@ -5,13 +5,13 @@ ghost use Rattle.std.specs.Prelude.{IfErr, IfOk, OnOk, if◌then◌else◌};
 ghost use Rattle.nwq_value.specs.Limits.{file_limit};
 ghost use Rattle.ncs_code.specs.File.{file_length};
 ghost use Rattle.ncs_code.specs.Plain as ops;
-ghost use Rattle.ncs_emit.specs.Faults.{Fails};
+ghost use Rattle.ncs_emit.specs.Faults.{EmitFails};
 ghost use Rattle.ncs_emit.specs.Labelled.{Instruction, JumpTo, Label, placements, program};
 ghost use Rattle.ncs_emit.specs.declared.jump.Jump.TheVariants.{Jsr};
 ghost use Rattle.emission_rules.specs.Operations.{dropped};
 ghost use Rattle.typing_rules.specs.Typed as typed;
 ghost use Rattle.typing_rules.specs.UnitReading.{typed_item, typed_items, typed_stmts, typed_unit};
-ghost use Rattle.emission_rules.specs.Bounds.{AreItems, IsBounded, IsEntry, depth_limit};
+ghost use Rattle.emission_rules.specs.Bounds.{AreItems, IsBounded, IsEntry, frame_limit};
 ghost use Rattle.emission_rules.specs.Bounds.{globals_weight};
 ghost use Rattle.emission_rules.specs.Layout as laid;
 ghost use Rattle.emission_rules.specs.Statements as code;
@@ -40,7 +40,7 @@ pub type GenFault = EmitFault;
 
 /// How many cells parameters have together.
 fn params_cells(layout: &Layout, parameters: &[TypedParameter]) -> u32
-    requires few { laid.params_cells layout.now.structs parameters.now ≤ depth_limit }
+    requires few { laid.params_cells layout.now.structs parameters.now ≤ frame_limit }
     ensures { result ≡ laid.params_cells layout.now.structs parameters.now }
 {
     let mut cells = 0;
@@ -255,7 +255,7 @@ fn emit_entry(out: &mut Emitter, entry: EntryPoint) -> Result<(), NoMemory>
 #[tactic(auto, unfolding(ncs_code::specs::Spelling::has_type))]
 fn emit_main(out: &mut Emitter, layout: &Layout, entry: EntryPoint) -> Result<(), NoMemory>
     requires made { IsEntry out.old.labels entry }
-    requires globals { layout.now.globals ≤ depth_limit }
+    requires globals { layout.now.globals ≤ frame_limit }
     ensures { OnOk result (out.new ≡ record out.old {
       lines = out.old.lines
           ++ (Instruction ops.SaveBp
@@ -355,7 +355,7 @@ pub fn generate(alloc: Global, unit: &Typed) -> Result<Vec<u8>, GenFault>
     ensures small { OnOk result
         (file_length (program (units.unit_code (typed_unit unit.now)).lines) ≤ file_limit) }
     ensures fault { IfErr result
-        (λ fault. Fails fault (units.unit_code (typed_unit unit.now)).lines) }
+        (λ fault. EmitFails fault (units.unit_code (typed_unit unit.now)).lines) }
 {
     each_placed_once();
     let layout = lay(alloc, unit)?;

@@ -9,7 +9,7 @@ use Rattle.ncs_code.specs.File.{file_length}
 use Rattle.ncs_code.specs.Laws.{SizeLaws}
 use Rattle.ncs_emit.specs.declared.fault.EmitFault.{EmitFault}
 use Rattle.ncs_emit.specs.declared.fault.EmitFault.TheVariants.{Large, NoMemory}
-use Rattle.ncs_emit.specs.Faults.{Fails}
+use Rattle.ncs_emit.specs.Faults.{EmitFails}
 use Rattle.ncs_emit.specs.Labelled.{program}
 use Rattle.nss_include.specs.declared.file.Source.{Source}
 use Rattle.nss_include.specs.View.{Gathered}
@@ -37,7 +37,7 @@ pub small_file : SizeLaws → (unit : TypedUnit) (bytes : List ℕ) → bytes �
 small_file laws unit bytes same small =
     subst (λ x. length x ≤ file_limit) (sym same) (subst (λ n. n ≤ file_limit) (sym (laws.file (program (unit_code unit).lines))) small)
 
-pub too_large : SizeLaws → (unit : TypedUnit) (fault : EmitFault) → Fails fault (unit_code unit).lines → IsTooLarge (unit_file unit) fault
+pub too_large : SizeLaws → (unit : TypedUnit) (fault : EmitFault) → EmitFails fault (unit_code unit).lines → IsTooLarge (unit_file unit) fault
 too_large laws unit (Large size) h =
     subst (λ n. file_limit < n) (sym (laws.file (program (unit_code unit).lines))) (subst (λ n. file_limit < n) h.0 h.1)
 too_large laws unit NoMemory h = tt

@@ -13,7 +13,7 @@ use Rattle.typing_rules.specs.Laws.{OneTyped, TypedIsFaultless, LeastIsKept}
 use Rattle.nss_include.specs.declared.file.Source.{Source}
 use Rattle.emission_rules.specs.Units.{unit_file}
 use Rattle.command_work.specs.Outcomes.{IsSure, sure_makes, sure_then, sure_puts, sure_writes}
-use Rattle.command_sources.specs.Headers.{table_of}
+use Rattle.command_sources.specs.Headers.{table_of_word}
 use Rattle.command_sources.specs.Units.{PlainScript, unit_of}
 use Rattle.command_sources.specs.Laws.{SureTables, SureUnits}
 use Rattle.command_work.specs.Work.{writes, puts}
@@ -74,4 +74,4 @@ sure_under compiled script header = sure_then (compiled_named header script) (wr
 
 pub sure_compiles : SureTables → SureCompiled → SureCompiles
 unfolding compiles
-sure_compiles tables compiled header script = sure_then (table_of header) (compiles_under script) (tables header) (sure_under compiled script)
+sure_compiles tables compiled header script = sure_then (table_of_word header) (compiles_under script) (tables header) (sure_under compiled script)

@@ -9,7 +9,7 @@ use Rattle.ncs_emit.specs.declared.fault.EmitFault.{EmitFault}
 use Rattle.ncs_emit.specs.declared.fault.EmitFault.TheVariants.{Large, NoMemory}
 use Rattle.command_work.specs.declared.cause.Cause.TheVariants as cause
 use Rattle.command_work.specs.Work.{Work, Refused, then, makes, Finished}
-use Rattle.command_sources.specs.Headers.{table_of}
+use Rattle.command_sources.specs.Headers.{table_of_word}
 use Rattle.command_sources.specs.Units.{PlainScript, at_spot, spot_of, unit_of}
 use Rattle.command_files.specs.Commands.{writes_and_puts}
 use Rattle.command_files.specs.Texts.{done_line}
@@ -53,4 +53,4 @@ compiles_under script header = then (compiled_named header script) (writes_code 
 
 -- a header is read, a script compiled under it, and its file written
 unfoldable pub compiles : List ℕ → List ℕ → Work Finished
-compiles header script = then (table_of header) (compiles_under script)
+compiles header script = then (table_of_word header) (compiles_under script)

@@ -55,6 +55,6 @@ unfoldable pub typed_in : EngineTable → PlainScript → Work TypedUnit
 typed_in header script = Finds (λ (c : Contents) fate. IsTypingFate header script.tree fate) (typing_by script)
 
 -- an answer, its script seen as the typed unit
-abbrev pub plain_answer : Result TypedScript Status → Result TypedUnit Status
-plain_answer (Ok script) = Ok (typed_unit script.typed)
-plain_answer (Err status) = Err status
+abbrev pub plain_typed_answer : Result TypedScript Status → Result TypedUnit Status
+plain_typed_answer (Ok script) = Ok (typed_unit script.typed)
+plain_typed_answer (Err status) = Err status

@@ -9,7 +9,7 @@ ghost use Rattle.typing_laws.specs.Laws.{HasCode};
 ghost use Rattle.command_work.specs.Counts.{Refusing};
 ghost use Rattle.command_work.specs.Calls.{TalliesPuts, DoesPuts};
 ghost use Rattle.command_sources.specs.Scripts.{plain_script};
-ghost use Rattle.command_compile.specs.Typings.{cause_of, plain_answer, typed_in};
+ghost use Rattle.command_compile.specs.Typings.{cause_of, plain_typed_answer, typed_in};
 
 use crate::script::TypedScript;
 use command_sources::{Script, refuse_token};
@@ -62,7 +62,7 @@ pub fn type_script<S: Sink>(
     out: &mut S,
 ) -> Result<TypedScript, Status>
     ensures does { IsTrue S.tells → DoesPuts S.taken (typed_in table.now (plain_script script))
-        out.old (plain_answer result) out.new }
+        out.old (plain_typed_answer result) out.new }
     ensures same { IfOk result (λ typed. typed.unit ≡ script.unit) }
     ensures code { IfOk result (λ typed. HasCode (typed_unit typed.typed)) }
     ensures types { IfOk result

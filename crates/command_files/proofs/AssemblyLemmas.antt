@@ -2,7 +2,7 @@
 use Rattle.std.proofs.Common.{◌≡◌, ℕ, List, Some, Result, Ok, Err, refl, sym}
 use Rattle.nwq_outside.specs.Outside.{Contents}
 use Rattle.ncs_text.specs.declared.fault.AsmFault.{AsmFault}
-use Rattle.ncs_text.specs.Assembly.{IsAssembled, Fails}
+use Rattle.ncs_text.specs.Assembly.{IsAssembled, AssemblyFails}
 use Rattle.command_work.specs.declared.flaw.CodeFlaw.{CodeFlaw}
 use Rattle.command_work.specs.declared.status.Status.{Status}
 use Rattle.command_work.specs.declared.status.Status.TheVariants.{Memory}
@@ -20,7 +20,7 @@ module _ (name text : List ℕ) (c : Contents) where
   pub assembly_does : (file : List ℕ) (t : List ℕ) → IsAssembled text file → Does (assembly_in name text) c t (Ok file) c t
   assembly_does file t is = goes (Whole file) (Ok file) t t (whole file is) (refl, (refl, refl))
 
-  pub assembly_broken : (fails : AsmFault) (why : CodeFlaw) (answer : Status) (t t' : List ℕ) → Fails fails text → Some why ≡ asm_flaw fails
+  pub assembly_broken : (fails : AsmFault) (why : CodeFlaw) (answer : Status) (t t' : List ℕ) → AssemblyFails fails text → Some why ≡ asm_flaw fails
       → Refuses (BadCode name why) t answer t' → Does (assembly_in name text) c t (Err answer) c t'
   assembly_broken fails why answer t t' h is refuses =
       goes (Faulty why) (Err answer) t t' (broken fails why h (sym is)) (refused (BadCode name why) answer c t t' refuses)

@@ -4,7 +4,7 @@ use Rattle.nwq_outside.specs.Outside.{Contents}
 use Rattle.ncs_code.specs.Plain.{PlainOp}
 use Rattle.ncs_code.specs.File.{IsCode, file_bytes}
 use Rattle.ncs_file.specs.declared.fault.LoadFault.{LoadFault}
-use Rattle.ncs_file.specs.Loading.{Fails}
+use Rattle.ncs_file.specs.Loading.{LoadFails}
 use Rattle.command_work.specs.declared.flaw.CodeFlaw.{CodeFlaw}
 use Rattle.command_work.specs.declared.status.Status.{Status}
 use Rattle.command_work.specs.declared.status.Status.TheVariants.{Memory}
@@ -22,7 +22,7 @@ module _ (name bytes : List ℕ) (c : Contents) where
   pub code_does : (ops : List PlainOp) (t : List ℕ) → IsCode ops × (bytes ≡ file_bytes ops) → Does (code_in name bytes) c t (Ok ops) c t
   code_does ops t loaded = goes (Whole ops) (Ok ops) t t (whole ops loaded.0 loaded.1) (refl, (refl, refl))
 
-  pub code_broken : (fails : LoadFault) (why : CodeFlaw) (answer : Status) (t t' : List ℕ) → Fails fails bytes → Some why ≡ load_flaw fails
+  pub code_broken : (fails : LoadFault) (why : CodeFlaw) (answer : Status) (t t' : List ℕ) → LoadFails fails bytes → Some why ≡ load_flaw fails
       → Refuses (BadCode name why) t answer t' → Does (code_in name bytes) c t (Err answer) c t'
   code_broken fails why answer t t' h is refuses =
       goes (Faulty why) (Err answer) t t' (broken fails why h (sym is)) (refused (BadCode name why) answer c t t' refuses)

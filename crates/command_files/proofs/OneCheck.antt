@@ -3,7 +3,7 @@ use Rattle.std.proofs.Common.{◌≡◌, ℕ, List, length, refl}
 use Rattle.nwq_value.specs.Engine.{EngineTable}
 use Rattle.ncs_code.specs.Plain.{PlainOp}
 use Rattle.command_work.specs.Outcomes.{IsSure, sure_then, sure_puts}
-use Rattle.command_sources.specs.Headers.{table_of}
+use Rattle.command_sources.specs.Headers.{table_of_word}
 use Rattle.command_sources.specs.Laws.{SureTables}
 use Rattle.command_files.specs.Codes.{code_in, code_named}
 use Rattle.command_files.specs.Laws.{SureBytes, SureCodes}
@@ -39,4 +39,4 @@ sure_under codes name header = sure_then (checked_named header name) puts_passed
 
 pub sure_checks : SureTables → SureCodes → SureChecks
 unfolding checks
-sure_checks tables codes header name = sure_then (table_of header) (checks_under name) (tables header) (sure_under codes name)
+sure_checks tables codes header name = sure_then (table_of_word header) (checks_under name) (tables header) (sure_under codes name)

@@ -8,7 +8,7 @@ use Rattle.ncs_code.specs.File.{IsCode, spellings, file_bytes}
 use Rattle.ncs_code.specs.Laws.{SpellingLaws}
 use Rattle.ncs_file.specs.declared.fault.LoadFault.{LoadFault}
 use Rattle.ncs_file.specs.declared.fault.LoadFault.TheVariants.{NoMemory}
-use Rattle.ncs_file.specs.Loading.{Fails}
+use Rattle.ncs_file.specs.Loading.{LoadFails}
 use Rattle.ncs_file.specs.Laws.{OneFault, NoFaultInCode}
 use Rattle.command_work.specs.declared.flaw.CodeFlaw.{CodeFlaw}
 use Rattle.command_work.specs.Outcomes.{IsSure, sure_then, sure_file}
@@ -44,8 +44,8 @@ record Laws : Type 0 where
   none : NoFaultInCode
 
 module _ (laws : Laws) (bytes : List ℕ) where
-  sound : (ops : List PlainOp) (fails : LoadFault) (why : CodeFlaw) → IsCode ops → bytes ≡ file_bytes ops → Fails fails bytes → load_flaw fails ≡ Some why → ⊥
-  sound ops fails why code is h flaw = not_memory fails why flaw (laws.none ops fails code (subst (λ x. Fails fails x) is h))
+  sound : (ops : List PlainOp) (fails : LoadFault) (why : CodeFlaw) → IsCode ops → bytes ≡ file_bytes ops → LoadFails fails bytes → load_flaw fails ≡ Some why → ⊥
+  sound ops fails why code is h flaw = not_memory fails why flaw (laws.none ops fails code (subst (λ x. LoadFails fails x) is h))
 
   one_fate : {a b : CodeFate} → IsCodeFate bytes a → IsCodeFate bytes b → a ≡ b
   one_fate (whole x h p) (whole y k q) = ap Whole (same_ops laws.spells x y h.each k.each (sym p ∙ q))

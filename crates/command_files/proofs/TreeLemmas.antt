@@ -5,7 +5,7 @@ use Rattle.gff_bytes.specs.declared.rows.OpenFault.{OpenFault}
 use Rattle.gff_bytes.specs.File.{open_fault}
 use Rattle.gff_read.specs.declared.fault.TreeFault.{TreeFault}
 use Rattle.gff_read.specs.declared.fault.TreeFault.TheVariants as fault
-use Rattle.gff_read.specs.Rows.{Fails}
+use Rattle.gff_read.specs.Rows.{TreeFails}
 use Rattle.gff_read.specs.Stands.{Stands}
 use Rattle.gff_read.specs.Walk as walk
 use Rattle.gff_tree.specs.Whole.{PlainGff}
@@ -24,7 +24,7 @@ ok_err : (r : Result PlainGff TreeFault) (tree : PlainGff) (fails : TreeFault) �
 ok_err r tree fails p q = let none : ⊥ = cc in none
 
 -- where something is wrong, that is why it failed
-fails_so : (fails : TreeFault) (why : AreaFlaw) (r : Result PlainGff TreeFault) → tree_flaw fails ≡ Some why → Fails fails r → r ≡ Err fails
+fails_so : (fails : TreeFault) (why : AreaFlaw) (r : Result PlainGff TreeFault) → tree_flaw fails ≡ Some why → TreeFails fails r → r ≡ Err fails
 fails_so (fault.Range range) why r is h = h
 fails_so (fault.Kind field) why r is h = h
 fails_so (fault.Shared at) why r is h = h
@@ -46,8 +46,8 @@ module _ (name bytes : List ℕ) (c : Contents) where
   unopened_does fails answer t t' is h =
       goes (Faulty (open_flaw fails)) (Err answer) t t' (unopened fails is) (refused (BadArea name (open_flaw fails)) answer c t t' h)
 
-  pub broken_does : (fails : TreeFault) (why : AreaFlaw) (answer : Status) (t t' : List ℕ) → open_fault bytes ≡ None → Fails fails (walk.tree_of bytes)
-      → ((tree : PlainGff) → Stands bytes tree → Fails {Y = PlainGff} fails (Ok tree)) → Some why ≡ tree_flaw fails → Refuses (BadArea name why) t answer t'
+  pub broken_does : (fails : TreeFault) (why : AreaFlaw) (answer : Status) (t t' : List ℕ) → open_fault bytes ≡ None → TreeFails fails (walk.tree_of bytes)
+      → ((tree : PlainGff) → Stands bytes tree → TreeFails {Y = PlainGff} fails (Ok tree)) → Some why ≡ tree_flaw fails → Refuses (BadArea name why) t answer t'
       → Does (tree_in name bytes) c t (Err answer) c t'
   broken_does fails why answer t t' opens walks none is h =
       let fault : IsBroken bytes why = record {

@@ -3,7 +3,7 @@ use Rattle.std.specs.Prelude.{◌≡◌, ℕ, List, Option, Some, None}
 use Rattle.nwq_outside.specs.Outside.{Contents}
 use Rattle.ncs_text.specs.declared.fault.AsmFault.{AsmFault}
 use Rattle.ncs_text.specs.declared.fault.AsmFault.TheVariants as fault
-use Rattle.ncs_text.specs.Assembly.{IsAssembled, Fails}
+use Rattle.ncs_text.specs.Assembly.{IsAssembled, AssemblyFails}
 use Rattle.command_work.specs.declared.flaw.CodeFlaw.{CodeFlaw}
 use Rattle.command_work.specs.declared.flaw.CodeFlaw.TheVariants as flaw
 use Rattle.command_work.specs.Refusal.{BadCode}
@@ -23,7 +23,7 @@ pub data AssemblyFate : Type 0 where
 
 pub data IsAssemblyFate (text : List ℕ) : AssemblyFate → Type 0 where
   whole : (file : List ℕ) → IsAssembled text file → IsAssemblyFate text (Whole file)
-  broken : (fails : AsmFault) (why : CodeFlaw) → Fails fails text → asm_flaw fails ≡ Some why → IsAssemblyFate text (Faulty why)
+  broken : (fails : AsmFault) (why : CodeFlaw) → AssemblyFails fails text → asm_flaw fails ≡ Some why → IsAssemblyFate text (Faulty why)
 
 abbrev pub assembly_by : List ℕ → AssemblyFate → Work (List ℕ)
 assembly_by name (Whole file) = Gives file

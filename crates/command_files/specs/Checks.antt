@@ -12,7 +12,7 @@ use Rattle.command_work.specs.declared.status.Status.TheVariants.{Code}
 use Rattle.command_work.specs.Counts.{StopsSource}
 use Rattle.command_work.specs.Refusal.{BadCode}
 use Rattle.command_work.specs.Work.{Work, Gives, Refused, Finds, then, Finished, puts}
-use Rattle.command_sources.specs.Headers.{table_of}
+use Rattle.command_sources.specs.Headers.{table_of_word}
 use Rattle.command_files.specs.Codes.{code_in, code_named}
 
 -- what comes of a check: some table of shapes meets the rules, or none does
@@ -64,12 +64,12 @@ checks_under name header = then (checked_named header name) puts_passed
 
 -- a header is read, and a file checked under it
 unfoldable pub checks : List ℕ → List ℕ → Work Finished
-checks header name = then (table_of header) (checks_under name)
+checks header name = then (table_of_word header) (checks_under name)
 
 -- an answer, its checked code seen as instructions
-abbrev pub plain_answer : Result CheckedCode Status → Result (List PlainOp) Status
-plain_answer (Ok checked) = Ok checked.code
-plain_answer (Err status) = Err status
+abbrev pub plain_checked_answer : Result CheckedCode Status → Result (List PlainOp) Status
+plain_checked_answer (Ok checked) = Ok checked.code
+plain_checked_answer (Err status) = Err status
 
 -- what stops a check: the header or the file isn't there, is too long or refused, or the work is
 -- cut

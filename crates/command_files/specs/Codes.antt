@@ -6,7 +6,7 @@ use Rattle.ncs_code.specs.Plain.{PlainOp}
 use Rattle.ncs_code.specs.File.{IsCode, file_bytes}
 use Rattle.ncs_file.specs.declared.fault.LoadFault.{LoadFault}
 use Rattle.ncs_file.specs.declared.fault.LoadFault.TheVariants as fault
-use Rattle.ncs_file.specs.Loading.{Fails}
+use Rattle.ncs_file.specs.Loading.{LoadFails}
 use Rattle.command_work.specs.declared.flaw.CodeFlaw.{CodeFlaw}
 use Rattle.command_work.specs.declared.flaw.CodeFlaw.TheVariants as flaw
 use Rattle.command_work.specs.Refusal.{BadCode}
@@ -30,7 +30,7 @@ pub data CodeFate : Type 0 where
 
 pub data IsCodeFate (bytes : List ℕ) : CodeFate → Type 0 where
   whole : (ops : List PlainOp) → IsCode ops → bytes ≡ file_bytes ops → IsCodeFate bytes (Whole ops)
-  broken : (fails : LoadFault) (why : CodeFlaw) → Fails fails bytes → load_flaw fails ≡ Some why → IsCodeFate bytes (Faulty why)
+  broken : (fails : LoadFault) (why : CodeFlaw) → LoadFails fails bytes → load_flaw fails ≡ Some why → IsCodeFate bytes (Faulty why)
 
 abbrev pub code_by : List ℕ → CodeFate → Work (List PlainOp)
 code_by name (Whole ops) = Gives ops

@@ -62,6 +62,6 @@ unfoldable pub tree_named : List ℕ → Work PlainGff
 tree_named name = then (file_named name) (tree_in name)
 
 -- an answer, its tree seen as plain data
-abbrev pub plain_answer : Result Gff Status → Result PlainGff Status
-plain_answer (Ok tree) = Ok (plain_gff tree)
-plain_answer (Err status) = Err status
+abbrev pub plain_tree_answer : Result Gff Status → Result PlainGff Status
+plain_tree_answer (Ok tree) = Ok (plain_gff tree)
+plain_tree_answer (Err status) = Err status

@@ -3,7 +3,7 @@ ghost use Rattle.stack_rules.specs.Rules.{WellStacked};
 ghost use Rattle.command_work.specs.Work.{CutsShort};
 ghost use Rattle.command_work.specs.Counts.{Refusing, StopsCode};
 ghost use Rattle.command_work.specs.Calls.{DoesOn, TalliesOn, TalliesPuts, DoesPuts};
-ghost use Rattle.command_files.specs.Checks.{checked_in, checked_named, plain_answer};
+ghost use Rattle.command_files.specs.Checks.{checked_in, checked_named, plain_checked_answer};
 ghost use Rattle.command_files.specs.Checks.{passed_line, puts_passed, checks_under, checks};
 ghost use Rattle.command_files.specs.Checks.{KeepsTable, StopsCheck};
 
@@ -27,7 +27,7 @@ pub fn check_code<S: Sink>(
     out: &mut S,
 ) -> Result<Checked, Status>
     ensures does { IsTrue S.tells → DoesPuts S.taken (checked_in table.now name.now code)
-        out.old (plain_answer result) out.new }
+        out.old (plain_checked_answer result) out.new }
     ensures counts { TalliesPuts S.faults result out.old out.new }
     ensures kept { IfOk result (KeepsTable table.now) }
     ensures only { IfErr result (Refusing Status.Code) }
@@ -52,7 +52,7 @@ pub fn read_checked<F: Files, S: Sink>(
 ) -> Result<Checked, Status>
     ensures does { IsTrue F.tells → IsTrue S.tells → DoesOn F.contents S.taken
         (checked_named table.now name.now)
-        files.old out.old (plain_answer result) files.new out.new }
+        files.old out.old (plain_checked_answer result) files.new out.new }
     ensures counts { TalliesOn F.counts S.faults result files.old out.old files.new out.new }
     ensures same { F.contents files.new ≡ F.contents files.old }
     // The code is well stacked by the table that is kept.

@@ -4,7 +4,7 @@ ghost use Rattle.nwq_value.specs.Limits.{file_limit};
 ghost use Rattle.command_work.specs.Work.{CutsShort};
 ghost use Rattle.command_work.specs.Counts.{Refusing};
 ghost use Rattle.command_work.specs.Calls.{TalliesPuts, DoesPuts};
-ghost use Rattle.command_files.specs.Checks.{loaded_in, plain_answer, IsStackedFile};
+ghost use Rattle.command_files.specs.Checks.{loaded_in, plain_checked_answer, IsStackedFile};
 ghost use Rattle.command_files.specs.Checks.{KeepsTable};
 
 use crate::check::check_code;
@@ -26,7 +26,7 @@ pub fn load_checked<S: Sink>(
 ) -> Result<Checked, Status>
     requires small { length bytes.items ≤ file_limit }
     ensures does { IsTrue S.tells → DoesPuts S.taken (loaded_in table.now name.now bytes.items)
-        out.old (plain_answer result) out.new }
+        out.old (plain_checked_answer result) out.new }
     ensures counts { TalliesPuts S.faults result out.old out.new }
     ensures kept { IfOk result (KeepsTable table.now) }
     ensures only { IfErr result (Refusing Status.Code) }

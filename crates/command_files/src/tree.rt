@@ -7,7 +7,7 @@ ghost use Rattle.gff_read.specs.Stands.{Stands};
 ghost use Rattle.command_work.specs.Counts.{Refusing, StopsArea};
 ghost use Rattle.command_work.specs.Calls.{DoesOn, TalliesOn, TalliesPuts, DoesPuts};
 ghost use Rattle.command_files.specs.Trees.{open_flaw, tree_flaw, tree_in, tree_named};
-ghost use Rattle.command_files.specs.Trees.{plain_answer};
+ghost use Rattle.command_files.specs.Trees.{plain_tree_answer};
 
 use command_work::{AreaFlaw, Status, read_file, refuse_area};
 use gff_bytes::{OpenFault, View};
@@ -51,7 +51,7 @@ fn tree_of_view<S: Sink>(
 ) -> Result<Gff, Status>
     requires opens { open_fault view.now ≡ None }
     ensures does { IsTrue S.tells → DoesPuts S.taken (tree_in name.now view.now)
-        out.old (plain_answer result) out.new }
+        out.old (plain_tree_answer result) out.new }
     ensures counts { TalliesPuts S.faults result out.old out.new }
     ensures stands { IfOk result (λ tree. Stands view.now (plain_gff tree)) }
     // The structs of a tree can be numbered by 32 bits.
@@ -77,7 +77,7 @@ pub fn tree_of_bytes<S: Sink>(
 ) -> Result<Gff, Status>
     requires { length bytes.now ≤ file_limit }
     ensures does { IsTrue S.tells → DoesPuts S.taken (tree_in name.now bytes.now)
-        out.old (plain_answer result) out.new }
+        out.old (plain_tree_answer result) out.new }
     ensures counts { TalliesPuts S.faults result out.old out.new }
     // What is read is what the bytes stand for.
     ensures stands { IfOk result (λ tree. Stands bytes.now (plain_gff tree)) }
@@ -100,7 +100,7 @@ pub fn read_tree<F: Files, S: Sink>(
     out: &mut S,
 ) -> Result<Gff, Status>
     ensures does { IsTrue F.tells → IsTrue S.tells → DoesOn F.contents S.taken (tree_named name.now)
-        files.old out.old (plain_answer result) files.new out.new }
+        files.old out.old (plain_tree_answer result) files.new out.new }
     ensures counts { TalliesOn F.counts S.faults result files.old out.old files.new out.new }
     ensures same { F.contents files.new ≡ F.contents files.old }
     // The structs of the tree can be numbered by 32 bits.

@@ -15,7 +15,7 @@ use Rattle.command_compile.specs.Laws.{SureCompiled}
 use Rattle.command_files.specs.Checks.{loaded_in}
 use Rattle.command_files.specs.CheckLaws.{SureLoaded}
 use Rattle.play_worlds.specs.Worlds.{plan_world}
-use Rattle.command_plays.specs.Plays.{ends_by, played}
+use Rattle.command_plays.specs.Plays.{ends_by, plan_played}
 use Rattle.command_plays.specs.Scripts.{listed}
 use Rattle.command_generate.specs.Generated.{files_with, IsFileOf, source_compiled, plan_of, made_area, tells, plays_made, checks_made, generates}
 use Rattle.command_generate.specs.Laws.{SureGenerated}
@@ -58,7 +58,7 @@ sure_tells n p = sure_end p.ending
 
 sure_plays : (cell : CellLookup) (n : ℕ) (ops : List PlainOp) → IsSure (plays_made cell n ops)
 unfolding plays_made
-sure_plays cell n ops = sure_tells n (played cell header_table (plan_of n) (listed (codes "beat") ops) (plan_world (made_area n) (plan_of n)))
+sure_plays cell n ops = sure_tells n (plan_played cell header_table (plan_of n) (listed (codes "beat") ops) (plan_world (made_area n) (plan_of n)))
 
 sure_checks : SureLoaded → (cell : CellLookup) (n : ℕ) (file : List ℕ) → IsSure (checks_made cell n file)
 unfolding checks_made

@@ -16,7 +16,7 @@ use Rattle.command_work.specs.Work.{Does, CutsShort, Finished}
 use Rattle.command_work.specs.Counts.{Refusing}
 use Rattle.command_work.specs.Parts.{cut_here}
 use Rattle.play_worlds.specs.Worlds.{plan_world}
-use Rattle.command_plays.specs.Plays.{played}
+use Rattle.command_plays.specs.Plays.{plan_played}
 use Rattle.command_plays.specs.Scripts.{listed}
 use Rattle.command_generate.specs.Generated.{plan_of, made_area, tells, plays_made, source_compiled, generates}
 
@@ -44,12 +44,12 @@ module _ (cell : CellLookup) (n : ℕ) (ops : List PlainOp) (c : Contents) where
 
   pub made_does : (header : EngineTable) (area : PlainArea) (plan : Plan) (scripts : List Script) (r : Result Finished Status) (t t' : List ℕ)
       → header ≡ header_table → area ≡ made_area n → plan ≡ plan_of n → scripts ≡ listed (codes "beat") ops
-      → Does (tells n (played cell header plan scripts (plan_world area plan))) c t r c t' → Does (plays_made cell n ops) c t r c t'
+      → Does (tells n (plan_played cell header plan scripts (plan_world area plan))) c t r c t' → Does (plays_made cell n ops) c t r c t'
   unfolding plays_made
   made_does header area plan scripts r t t' built_in areas plans lists does =
-      subst (λ h. Does (tells n (played cell h (plan_of n) (listed (codes "beat") ops) (plan_world (made_area n) (plan_of n)))) c t r c t') built_in
-      (subst (λ s. Does (tells n (played cell header (plan_of n) s (plan_world (made_area n) (plan_of n)))) c t r c t') lists
-      (subst (λ q. Does (tells n (played cell header q scripts (plan_world (made_area n) q))) c t r c t') plans
-      (subst (λ a. Does (tells n (played cell header plan scripts (plan_world a plan))) c t r c t') areas does)))
+      subst (λ h. Does (tells n (plan_played cell h (plan_of n) (listed (codes "beat") ops) (plan_world (made_area n) (plan_of n)))) c t r c t') built_in
+      (subst (λ s. Does (tells n (plan_played cell header (plan_of n) s (plan_world (made_area n) (plan_of n)))) c t r c t') lists
+      (subst (λ q. Does (tells n (plan_played cell header q scripts (plan_world (made_area n) q))) c t r c t') plans
+      (subst (λ a. Does (tells n (plan_played cell header plan scripts (plan_world a plan))) c t r c t') areas does)))
 
 pub ruleset made = (made_cut)

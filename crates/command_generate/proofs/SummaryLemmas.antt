@@ -17,7 +17,7 @@ use Rattle.command_work.specs.Work.{Does, CutsShort, Finished}
 use Rattle.command_work.specs.Counts.{Counts, Tallies, TalliesEnd, Refusing}
 use Rattle.command_plays.specs.Plays.{ends_by}
 use Rattle.trace_lines.specs.Lines.{newlines}
-use Rattle.command_generate.specs.Generated.{counted, made_line, summary, tells}
+use Rattle.command_generate.specs.Generated.{numbered_words, made_line, summary, tells}
 
 -- ---- the first line
 
@@ -28,18 +28,18 @@ regroup : (out a b c d e : List ℕ) → ((((out ++ a) ++ b) ++ c) ++ d) ++ e �
 regroup out a b c d e = three ((out ++ a) ++ b) c d e ∙ three out a b (c ++ (d ++ e))
 
 pub line_is : (creatures events lines bytes k l m : ℕ) (out first second third fourth now : List ℕ) → k ≡ creatures → l ≡ events → m ≡ lines
-    → first ≡ out ++ counted (codes "generated creatures ") k → second ≡ first ++ counted (codes " events ") l
-    → third ≡ second ++ counted (codes " lines ") m → fourth ≡ third ++ counted (codes " bytes ") bytes → now ≡ fourth ++ 10 ∷ []
+    → first ≡ out ++ numbered_words (codes "generated creatures ") k → second ≡ first ++ numbered_words (codes " events ") l
+    → third ≡ second ++ numbered_words (codes " lines ") m → fourth ≡ third ++ numbered_words (codes " bytes ") bytes → now ≡ fourth ++ 10 ∷ []
     → now ≡ out ++ made_line creatures events lines bytes
 unfolding made_line
 line_is creatures events lines bytes k l m out first second third fourth now ks ls ms a b c d e =
-    let one = counted (codes "generated creatures ") creatures in
-    let two = counted (codes " events ") events in
-    let third_one = counted (codes " lines ") lines in
-    let four = counted (codes " bytes ") bytes in
-    let firsts : first ≡ out ++ one = a ∙ ap (λ x. out ++ counted (codes "generated creatures ") x) ks in
-    let seconds : second ≡ (out ++ one) ++ two = b ∙ (ap (λ x. first ++ counted (codes " events ") x) ls ∙ ap (λ x. x ++ two) firsts) in
-    let thirds : third ≡ ((out ++ one) ++ two) ++ third_one = c ∙ (ap (λ x. second ++ counted (codes " lines ") x) ms ∙ ap (λ x. x ++ third_one) seconds) in
+    let one = numbered_words (codes "generated creatures ") creatures in
+    let two = numbered_words (codes " events ") events in
+    let third_one = numbered_words (codes " lines ") lines in
+    let four = numbered_words (codes " bytes ") bytes in
+    let firsts : first ≡ out ++ one = a ∙ ap (λ x. out ++ numbered_words (codes "generated creatures ") x) ks in
+    let seconds : second ≡ (out ++ one) ++ two = b ∙ (ap (λ x. first ++ numbered_words (codes " events ") x) ls ∙ ap (λ x. x ++ two) firsts) in
+    let thirds : third ≡ ((out ++ one) ++ two) ++ third_one = c ∙ (ap (λ x. second ++ numbered_words (codes " lines ") x) ms ∙ ap (λ x. x ++ third_one) seconds) in
     e ∙ (ap (λ x. x ++ 10 ∷ []) (d ∙ ap (λ x. x ++ four) thirds) ∙ regroup out one two third_one four (10 ∷ []))
 
 -- ---- the whole

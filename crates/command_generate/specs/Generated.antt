@@ -22,7 +22,7 @@ use Rattle.command_work.specs.Work.{Work, Gives, Puts, Finds, then, CutsShort, D
 use Rattle.command_compile.specs.Files.{compiled_named}
 use Rattle.command_files.specs.Checks.{loaded_in}
 use Rattle.play_worlds.specs.Worlds.{plan_world}
-use Rattle.command_plays.specs.Plays.{ends_by, played}
+use Rattle.command_plays.specs.Plays.{ends_by, plan_played}
 use Rattle.command_plays.specs.Scripts.{listed}
 
 -- ---- the source
@@ -57,13 +57,13 @@ source_compiled source = Finds (λ (c : Contents) file. IsFileOf source file) Gi
 -- ---- the summary
 
 -- a number behind its words
-abbrev pub counted : List ℕ → ℕ → List ℕ
-counted words n = words ++ decimal n
+abbrev pub numbered_words : List ℕ → ℕ → List ℕ
+numbered_words words n = words ++ decimal n
 
 -- how many creatures and events were made, and how many lines and bytes a trace has
 unfoldable pub made_line : ℕ → ℕ → ℕ → ℕ → List ℕ
 made_line creatures events lines bytes =
-    counted (codes "generated creatures ") creatures ++ (counted (codes " events ") events ++ (counted (codes " lines ") lines ++ (counted (codes " bytes ") bytes ++ 10 ∷ [])))
+    numbered_words (codes "generated creatures ") creatures ++ (numbered_words (codes " events ") events ++ (numbered_words (codes " lines ") lines ++ (numbered_words (codes " bytes ") bytes ++ 10 ∷ [])))
 
 -- how much was made and told, and the last line of the play's text
 unfoldable pub summary : ℕ → Played Saved → List ℕ
@@ -85,7 +85,7 @@ tells n p = Puts (summary n p) (ends_by p.ending)
 
 -- instructions are played as the one script of the plan over the area of a number
 unfoldable pub plays_made : CellLookup → ℕ → List PlainOp → Work Finished
-plays_made cell n ops = tells n (played cell header_table (plan_of n) (listed (codes "beat") ops) (plan_world (made_area n) (plan_of n)))
+plays_made cell n ops = tells n (plan_played cell header_table (plan_of n) (listed (codes "beat") ops) (plan_world (made_area n) (plan_of n)))
 
 unfoldable pub checks_made : CellLookup → ℕ → List ℕ → Work Finished
 checks_made cell n file = then (loaded_in header_table (codes "beat.ncs") file) (plays_made cell n)

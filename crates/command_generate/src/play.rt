@@ -12,7 +12,7 @@ ghost use Rattle.ncs_machine.specs.Host.{scripts_of, tables_of};
 ghost use Rattle.plan_text.specs.Plans.{IsPlan};
 ghost use Rattle.play_generator.specs.Made.{number_limit, play_of};
 ghost use Rattle.play_worlds.specs.Worlds.{plan_world};
-ghost use Rattle.command_plays.specs.Plays.{played};
+ghost use Rattle.command_plays.specs.Plays.{plan_played};
 ghost use Rattle.command_plays.specs.Scripts.{listed};
 ghost use Rattle.nwq_outside.specs.declared.counts.FileCounts.{FileCounts};
 ghost use Rattle.command_work.specs.Work.{Does};
@@ -54,7 +54,7 @@ fn play_over<S: Sink>(
     requires hooks { AreServing (map (λ h. h.known) hooks.now.all.items) }
     requires plan { IsPlan plan.now }
     ensures does { IsTrue S.tells → (c : Contents) → Does (tells number
-        (played (cells_of (map (λ h. h.known) hooks.now.all.items)) table.now plan.now
+        (plan_played (cells_of (map (λ h. h.known) hooks.now.all.items)) table.now plan.now
         (scripts_of scripts.now) (plan_world area plan.now)))
         c (S.taken out.old) result c (S.taken out.new) }
     ensures counts { (counts : FileCounts) → Tallies result (Counted counts (S.faults out.old))

@@ -12,7 +12,7 @@ ghost use Rattle.command_work.specs.Work.{Does, CutsShort};
 ghost use Rattle.command_work.specs.Parts.{PutsWhole};
 ghost use Rattle.command_work.specs.Counts.{Counted, Tallies, Refusing};
 ghost use Rattle.trace_lines.specs.Lines.{newlines, AreOneLines};
-ghost use Rattle.command_generate.specs.Generated.{counted, made_line, summary, tells};
+ghost use Rattle.command_generate.specs.Generated.{numbered_words, made_line, summary, tells};
 
 use command_plays::ending_of;
 use command_work::{Status, put};
@@ -58,7 +58,7 @@ fn newlines_in(trace: &[u8]) -> u64
 
 /// Appends a number behind its words.
 fn put_counted(out: &mut Vec<u8>, words: &[u8], n: u64) -> Result<(), NoMemory>
-    ensures text { OnOk result (out.new.items ≡ out.old.items ++ counted words.now n) }
+    ensures text { OnOk result (out.new.items ≡ out.old.items ++ numbered_words words.now n) }
 {
     out.extend_from_slice(words)?;
     put_count(out, n)

@@ -27,9 +27,9 @@ use Rattle.world_rules.specs.Engine.{engine, may_run, no_script, too_deep}
 use Rattle.source_meaning.specs.Values.{constant_value, is_true, divides_by_zero, operate, parts_of, test_value, start_part, one_int, prefixed, postfixed, applied}
 use Rattle.source_meaning.specs.Evaluation.{Deferred, Progress, Outcome, Gives, Divides, OutOfSteps, bind, spend, spend_of, chosen, with_variable}
 use Rattle.source_meaning.specs.Spots.{Spot, OfLocal, OfGlobal, further, spot, read_at, written_at}
-use Rattle.source_meaning.specs.Expressions.{Running, Caller, Arguments, with_argument, all_parts, answered, runs_script, executed, asked, engine_called, made, unit_called, defaults, called, named, member_of, stepped, is_step, before_operand, operated, unwritten, combined, write_there, read_there, assigned, argument, eval, evals}
+use Rattle.source_meaning.specs.Expressions.{Running, Caller, Arguments, with_argument, all_parts, answered, runs_script, executed, asked, engine_called, made, unit_called, defaults, callee_called, named, member_of, stepped, is_step, before_operand, operated, unwritten, combined, write_there, read_there, assigned, argument, eval, evals}
 use Rattle.source_meaning.specs.Statements.{Flow, Next, Broke, Continued, Returned, on_next, on_body, on_switch, turns, looped, maybe, tested, initial, declared, after_stmt, exec, execs, selected, from_default}
-use Rattle.source_meaning.specs.Scripts.{Listed, Setting, Function, functions, bound, parameter_names, result_of, depth_limit, body_run, calls, calling, global_names, no_functions, globals_made, without_variables, entry_called, unit_started, running, listed_started, script_named, Starter, resumed, begun, executing, started, with_steps, run_script}
+use Rattle.source_meaning.specs.Scripts.{Listed, Setting, Function, functions, bound, parameter_names, result_of, waiting_limit, body_run, calls, calling, global_names, no_functions, globals_made, without_variables, entry_called, unit_started, running, listed_started, script_named, Starter, resumed, starter_begun, executing, started, with_steps, run_script}
 use Rattle.command_meaning.specs.WithoutActions.{HasNoAction, HaveValues, HasNoneThere, NamesHaveNone, StatementHasNone, StatementsHaveNone, ItemHasNone, UnitHasNoAction}
 use Rattle.command_meaning.proofs.BareCalls.{IsBare, told_bare, engine_bare}
 
@@ -199,7 +199,7 @@ module _ (c : Running) (executes : ExecuteKeeps c.execute) where
         bare_spend p (λ q. bind (caller f a.values q) (λ parts r. Gives parts (record r { locals = q.locals }))) h
         (λ q k. bare_bind (caller f a.values q) (λ parts r. Gives parts (record r { locals = q.locals })) (callers f a.values q k) (λ parts r j. (tt, j)))
 
-    called_bare : (f : Callee) (ts : List Ty) (arguments : Progress → Outcome Arguments) → ((p : Progress) → IsBare p.world → Ends HasNone (arguments p)) → Keeps (called c caller f ts arguments)
+    called_bare : (f : Callee) (ts : List Ty) (arguments : Progress → Outcome Arguments) → ((p : Progress) → IsBare p.world → Ends HasNone (arguments p)) → Keeps (callee_called c caller f ts arguments)
     called_bare (InUnit f) ts arguments each p h =
         bare_bind (made ts p) (λ parts q. bind (arguments q) (λ a r. unit_called caller f a r)) (made_bare ts p h)
         (λ parts q k. ends_bind HasNone Any (arguments q) (λ a r. unit_called caller f a r) (each q k) (λ a r none j. unit_called_bare f a r j))
@@ -427,7 +427,7 @@ module _ (s : Setting) (plain : AllHaveNone s.scripts) where
       bare_spend p (λ q. bind (unit_started c l.unit q) (λ parts r. Gives [] r)) h
       (λ q k. bare_bind (unit_started c l.unit q) (λ parts r. Gives [] r) (unit_bare c (executes self) l.unit none q k) (λ parts r j. (tt, j)))
 
-  begun_bare : (start : Option Starter) → StartKeeps start → (script : Option ℕ) (script_name : List ℕ) (target : ℕ) → Keeps (begun start script script_name target)
+  begun_bare : (start : Option Starter) → StartKeeps start → (script : Option ℕ) (script_name : List ℕ) (target : ℕ) → Keeps (starter_begun start script script_name target)
   begun_bare start keeps None script_name target p h =
       bare_spend p (λ q. Gives [] (record q { world = no_script target script_name q.world })) h (λ q k. (tt, told_bare target (line.NoScript script_name) q.world k))
   begun_bare None keeps (Some script) script_name target p h =
@@ -439,7 +439,7 @@ module _ (s : Setting) (plain : AllHaveNone s.scripts) where
   executing_bare : (start : Option Starter) → StartKeeps start → (self : ℕ) → ExecuteKeeps (executing s start self)
   executing_bare start keeps self [] target p h = bare_spend p (λ q. Gives [] q) h (λ q k. (tt, k))
   executing_bare start keeps self (b ∷ script_name) target p h =
-      let go = λ (q : Progress). begun start (script_named s.scripts (b ∷ script_name)) (b ∷ script_name) target q in
+      let go = λ (q : Progress). starter_begun start (script_named s.scripts (b ∷ script_name)) (b ∷ script_name) target q in
       let stays = λ (q : Progress). spend q (λ r. Gives [] r) in
       bare_chosen (may_run self target p.world) go stays p (begun_bare start keeps (script_named s.scripts (b ∷ script_name)) (b ∷ script_name) target p h)
       (bare_spend p (λ r. Gives [] r) h (λ r k. (tt, k)))
@@ -452,4 +452,4 @@ module _ (s : Setting) (plain : AllHaveNone s.scripts) where
 
   -- an entry that starts a script
   pub script_bare : (n script self : ℕ) (w : World Deferred) → IsBare w → Bare (run_script s n script self w)
-  script_bare n script self w h = started_bare depth_limit script self (with_steps n w) h
+  script_bare n script self w h = started_bare waiting_limit script self (with_steps n w) h

@@ -26,7 +26,7 @@ use Rattle.stack_rules.specs.Laws.{AllMeet, HasType, IsReached, Unchanged, ByCal
 use Rattle.world_rules.specs.World.{World}
 use Rattle.world_rules.specs.AlikeLaws.{call}
 use Rattle.world_rules.specs.Turns.{Begun, Planned, begin, turn, turn_done, fault, still, with_planned, new_world, idle}
-use Rattle.world_rules.specs.Plays.{StoppedInside, Bounds, Progress, Played, Run, Entered, entered, entered_as, event_entry, turn_entry, named_entry, finished, finished_as, further, full, after_entry, next_entry, plays, unplayed}
+use Rattle.world_rules.specs.Plays.{StoppedInside, Bounds, Progress, Played, Run, Entered, entry_entered, entered_as, event_entry, turn_entry, named_entry, finished, finished_as, further, full, after_entry, next_entry, plays, unplayed}
 use Rattle.world_core.specs.Answers.{AnswersHaveTypes, IsOfType}
 use Rattle.ncs_machine.specs.Host.{EngineView, engine_answer, host, no_table}
 use Rattle.ncs_machine.specs.Stored.{StatesFit, ThingsFit, EntryFits, KindFits, BegunFits, EngineKeepsFits, LinesKeepFits, BeginKeepsFits, TurnKeepsFits, TurnDoneKeepsFits, UnapplyKeepsFits}
@@ -219,7 +219,7 @@ module _ (scripts : List Script) (tables : Tables) (e : EngineView) (sound : (fi
         → next_ends (host scripts e) limit b p go ≡ Ends (next_entry (code_runner (host scripts e) limit) b p on).ending
     next_same go on rest None fits p = refl
     next_same go on rest (Some b) fits p =
-        let x = entered (code_runner (host scripts e) limit) b in
+        let x = entry_entered (code_runner (host scripts e) limit) b in
         let well : GoesWell (entry_ending (host scripts e) limit b) x = kind_goes b.entry.kind b.entry.number b.world fits.0 fits.1 in
         well.goes (go (further x p)) ∙ after_same go on rest x well.fits p x.stopped
 

@@ -5,8 +5,8 @@ use Rattle.std.proofs.lemmas.List.Elements.{All-take, All-drop}
 use Rattle.std.specs.Prelude.{All}
 use Rattle.std.specs.List.{AllByRecursion}
 use Rattle.nwq_value.specs.Limits.{text_limit}
-use Rattle.nss_lexer.specs.declared.token.Kind.{Kind}
-use Rattle.nss_lexer.specs.declared.token.Kind.TheVariants as kind
+use Rattle.nss_lexer.specs.declared.token.TokenKind.{TokenKind}
+use Rattle.nss_lexer.specs.declared.token.TokenKind.TheVariants as kind
 use Rattle.nss_lexer.specs.Lexemes.{IsLexeme}
 use Rattle.nss_lexer.specs.Splitting.{Lexeme, IsFirstToken, Splits, whole, broken, token}
 use Rattle.nss_lexer.specs.Strings.{IsString, string_value, ValuesAreBytes}
@@ -31,7 +31,7 @@ module _ (values : ValuesAreBytes) where
       let e = length-take text_limit (string_value text) in
       (omega (arith, e), All-take IsByte text_limit (string_value text) (values text is h))
 
-  lexeme_literal : (k : Kind) (text : List ℕ) → IsLexeme k text → All IsByte text → IsLiteral (of_kind k text)
+  lexeme_literal : (k : TokenKind) (text : List ℕ) → IsLexeme k text → All IsByte text → IsLiteral (of_kind k text)
   lexeme_literal kind.Name text h all = tt
   lexeme_literal kind.Word text h all = terminal_literal (terminal_of text)
   lexeme_literal (kind.Int n) text h all = h.1

@@ -5,7 +5,7 @@ use Rattle.std.specs.Prelude.{◌==◌}
 use Rattle.nwq_value.specs.Limits.{default_entry_limit, default_until}
 use Rattle.nwq_value.specs.declared.value.Value.{Value}
 use Rattle.world_rules.specs.World.{World}
-use Rattle.world_rules.specs.Turns.{begin, begun, fault}
+use Rattle.world_rules.specs.Turns.{begin, entry_begun, fault}
 use Rattle.world_rules.specs.declared.data.Told.TheVariants as line
 use Rattle.world_rules.specs.Plays.{Runner, Bounds, Progress, Entered, Done, after_entry, event_entry, finished_as, full, further, named_entry, next_entry, Played, plays, unplayed}
 use Rattle.source_meaning.specs.Evaluation.{Deferred, Outcome, Gives, Divides, OutOfSteps}
@@ -26,7 +26,7 @@ module _ (runner : Runner Deferred) (bounds : Bounds) where
       → plays runner bounds (suc left) p ≡ record { ending = Done; last = p }
   none_due left p more empty =
       ap (λ (b : Bool). if b then record { ending = full (begin bounds.until p.world); last = p } else next_entry runner (begin bounds.until p.world) p (plays runner bounds left)) more
-      ∙ ap (λ entries. next_entry runner (begun bounds.until entries p.world) p (plays runner bounds left)) empty
+      ∙ ap (λ entries. next_entry runner (entry_begun bounds.until entries p.world) p (plays runner bounds left)) empty
 
   after_one : (left : ℕ) (e : Entered Deferred) (p : Progress Deferred) (stopped : Bool) → ((p.entries + 1) == bounds.entries) ≡ false → e.world.agenda.entries ≡ []
       → after_entry stopped (further e p) (plays runner bounds (suc left)) ≡ after_entry stopped (further e p) (λ q. record { ending = Done; last = q })

@@ -17,7 +17,7 @@ use Rattle.ncs_machine.specs.Stored.{StatesFit}
 use Rattle.world_rules.specs.Pure.{CellLookup}
 use Rattle.world_rules.specs.World.{World}
 use Rattle.world_rules.specs.Turns.{Begun, Planned, begin, new_world, turn}
-use Rattle.world_rules.specs.Plays.{PlayEnd, Done, StoppedInside, Paused, Bounds, Progress, entered, full, further, play_on, unplayed}
+use Rattle.world_rules.specs.Plays.{PlayEnd, Done, StoppedInside, Paused, Bounds, Progress, entry_entered, full, further, play_on, unplayed}
 use Rattle.module_player.specs.CodePlays.{code_runner}
 use Rattle.play_meaning.specs.Together.{whole}
 use Rattle.command_plays.specs.Plays.{host_of}
@@ -60,7 +60,7 @@ ends_after runs.StackFault rest = StackFault
 
 abbrev pub next_ends : Host (World Saved) → ℕ → Option (Begun Saved) → Progress Saved → (Progress Saved → CodeEnd) → CodeEnd
 next_ends host limit None p rest = Ends Done
-next_ends host limit (Some b) p rest = ends_after (entry_ending host limit b) (rest (further (entered (code_runner host limit) b) p))
+next_ends host limit (Some b) p rest = ends_after (entry_ending host limit b) (rest (further (entry_entered (code_runner host limit) b) p))
 
 abbrev pub code_ends : Host (World Saved) → ℕ → Bounds → ℕ → Progress Saved → CodeEnd
 code_ends host limit bounds zero p = Ends Paused

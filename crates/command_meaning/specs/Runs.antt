@@ -16,14 +16,14 @@ use Rattle.source_meaning.specs.Evaluation.{Deferred}
 use Rattle.source_meaning.specs.Scripts.{Setting}
 use Rattle.source_meaning.specs.Plays.{source_play}
 use Rattle.source_laws.specs.Carries.{Carries}
-use Rattle.play_meaning.specs.Together.{Begins, PlaysAlike, StoppedAt, whole}
+use Rattle.play_meaning.specs.Together.{IsFirstPartOf, PlaysAlike, StoppedAt, whole}
 use Rattle.play_meaning.specs.EndTexts.{source_end_text}
 use Rattle.command_work.specs.declared.status.Status.{Status}
 use Rattle.command_work.specs.declared.status.Status.TheVariants.{Limit}
 use Rattle.command_work.specs.Work.{Stays, IsCut, Does, Finished}
 use Rattle.play_worlds.specs.Worlds.{text_name, start_of, first_world}
 use Rattle.command_plays.specs.Plays.{host_of, ends_by}
-use Rattle.command_plays.specs.Scripts.{listed, played}
+use Rattle.command_plays.specs.Scripts.{listed, run_played}
 use Rattle.command_meaning.specs.Units.{code_of}
 use Rattle.command_meaning.specs.Files.{PlaysFile}
 
@@ -43,7 +43,7 @@ source_played cell header name u n = source_play (setting_of cell header name u)
 
 -- what its code does, where an entry may take 131,072 instructions
 unfoldable pub code_played : CellLookup → EngineTable → List ℕ → TypedUnit → Played Saved
-code_played cell header name u = played cell header (listed name (code_of u)) (first_world name)
+code_played cell header name u = run_played cell header (listed name (code_of u)) (first_world name)
 
 -- As many steps of an entry surely end: 16 instructions for each are as many as an entry may take.
 abbrev pub sure_steps : ℕ
@@ -80,7 +80,7 @@ pub record TellsBeginning (cell : CellLookup) (header : EngineTable) (name : Lis
     (c' : Contents) (t' : List ℕ) : Type 0 where
   pub stopped : StoppedAt (code_runner (host_of cell header (listed name (code_of u))) default_instruction_limit) (whole default_entry_limit default_until) default_instruction_limit
       (unplayed (first_world name)) (code_played cell header name u)
-  pub begins : Begins (code_played cell header name u).last.trace (source_played cell header name u default_instruction_limit).last.trace
+  pub begins : IsFirstPartOf (code_played cell header name u).last.trace (source_played cell header name u default_instruction_limit).last.trace
   pub taken : t' ≡ t ++ (trace_text (code_played cell header name u).last.trace ++ code_end_text (listed name (code_of u)) (code_played cell header name u))
   pub answer : r ≡ Err Limit
   pub contents : c' ≡ c

@@ -5,7 +5,7 @@ ghost use Rattle.nwq_value.specs.Limits.{file_limit};
 
 use crate::units::read_named;
 use message_sentences::same;
-use nss_lexer::{Kind, Lexed, Token, next};
+use nss_lexer::{Lexed, Token, TokenKind, next};
 use nwq_outside::Files;
 use nwq_text::Lines;
 use nwq_value::{Items, NoMemory, Text};
@@ -80,7 +80,7 @@ fn directive_for(
         let Lexed::Token(token) = next(bytes, 0, at) else {
             return Ok(None);
         };
-        if matches!(token.kind, Kind::Text) && is_directive(hash, word) {
+        if matches!(token.kind, TokenKind::Text) && is_directive(hash, word) {
             let name = file_of(alloc, token.text)?;
             if name.as_slice() == wanted {
                 return Ok(Some(token.start));

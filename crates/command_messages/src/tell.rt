@@ -15,7 +15,7 @@ use message_sentences::{
     put_memory, put_plain, put_sentence, put_usage, put_whole, put_words, same, told_by,
 };
 use message_types::{given_at, put_parameters};
-use nss_lexer::Kind;
+use nss_lexer::TokenKind;
 use nwq_outside::{Files, Sink, Trouble};
 use nwq_text::put_text;
 use nwq_value::{NoMemory, Table, Text};
@@ -79,7 +79,9 @@ fn put_mismatch(out: &mut Vec<u8>, spot: Spot<'_>, table: Option<&Table>) -> Res
     requires place { spot.at ≤ length spot.bytes.now }
 {
     match token_at(spot.bytes, spot.at) {
-        Some(token) if matches!(token.kind, Kind::Name) => put_parameters(out, table, token.text),
+        Some(token) if matches!(token.kind, TokenKind::Name) => put_parameters(
+            out, table, token.text,
+        ),
         _ => Ok(()),
     }
 }

@@ -12,7 +12,7 @@ use Rattle.world_rules.specs.Plays.{PlayEnd, Played}
 use Rattle.module_player.specs.CodePlays.{code_end_text}
 use Rattle.command_work.specs.Outcomes.{IsSure, sure_then, sure_puts}
 use Rattle.command_work.specs.Work.{puts}
-use Rattle.command_sources.specs.Headers.{table_of}
+use Rattle.command_sources.specs.Headers.{table_of_word}
 use Rattle.command_sources.specs.Laws.{SureTables}
 use Rattle.play_inputs.specs.Areas.{area_named}
 use Rattle.play_inputs.specs.Finals.{final_written}
@@ -21,7 +21,7 @@ use Rattle.play_inputs.specs.Laws.{SureAreas, SurePlans, SureFinals}
 use Rattle.play_inputs.specs.Listings.{scripts_listed}
 use Rattle.play_inputs.specs.ListingLaws.{SureListed}
 use Rattle.play_worlds.specs.Worlds.{plan_world}
-use Rattle.command_plays.specs.Plays.{played}
+use Rattle.command_plays.specs.Plays.{plan_played}
 use Rattle.command_play.specs.Games.{ends_by, tells, plays_plan, plays_area, plays_scripts, plays_under, plays as plays_files}
 use Rattle.command_play.specs.Laws.{SureGames, SurePlays}
 
@@ -36,7 +36,7 @@ sure_tells finals to scripts p = sure_end finals p.ending to p.last.world.area (
 
 pub sure_games : SureFinals → SureGames
 unfolding plays_plan
-sure_games finals cell header area plan scripts to = sure_tells finals to scripts (played cell header plan scripts (plan_world area plan))
+sure_games finals cell header area plan scripts to = sure_tells finals to scripts (plan_played cell header plan scripts (plan_world area plan))
 
 module _ (tables : SureTables) (listed : SureListed) (areas : SureAreas) (plans : SurePlans) (finals : SureFinals) (cell : CellLookup) where
   sure_area : (header : EngineTable) (area : List ℕ) (plan : Plan) (to : List ℕ) (scripts : List Script) → IsSure (plays_area cell header area plan to scripts)
@@ -51,7 +51,7 @@ module _ (tables : SureTables) (listed : SureListed) (areas : SureAreas) (plans 
 
   sure_under : (header area to : List ℕ) (plan : Plan) → IsSure (plays_under cell header area to plan)
   unfolding plays_under
-  sure_under header area to plan = sure_then (table_of header) (plays_scripts cell area plan to) (tables header) (sure_scripts area plan to)
+  sure_under header area to plan = sure_then (table_of_word header) (plays_scripts cell area plan to) (tables header) (sure_scripts area plan to)
 
   pub sure_files : (header area plan to : List ℕ) → IsSure (plays_files cell header area plan to)
   unfolding plays_files

@@ -10,20 +10,20 @@ use Rattle.machine_rules.specs.Machine.{Script}
 use Rattle.command_work.specs.declared.status.Status.{Status}
 use Rattle.command_work.specs.Work.{Does, CutsShort, Finished}
 use Rattle.play_worlds.specs.Worlds.{plan_world}
-use Rattle.command_plays.specs.Plays.{played}
+use Rattle.command_plays.specs.Plays.{plan_played}
 use Rattle.command_play.specs.Games.{tells_end, plays_plan}
 
 module _ (cell : CellLookup) (header : EngineTable) (area : PlainArea) (plan : Plan) (to : List ℕ) (scripts : List Script) (c c' : Contents) (t t1 : List ℕ) where
-  pub trace_cut : (e : Status) → CutsShort e × TookPrefix (trace_text (played cell header plan scripts (plan_world area plan)).last.trace) t t1 → c' ≡ c
+  pub trace_cut : (e : Status) → CutsShort e × TookPrefix (trace_text (plan_played cell header plan scripts (plan_world area plan)).last.trace) t t1 → c' ≡ c
       → Does (plays_plan cell header area plan scripts to) c t (Err e) c' t1
   unfolding plays_plan
   trace_cut e h same = inl (h.0, same, h.1)
 
-  pub trace_whole : (r : Result Finished Status) (t' : List ℕ) → t1 ≡ t ++ trace_text (played cell header plan scripts (plan_world area plan)).last.trace
-      → Does (tells_end to scripts (played cell header plan scripts (plan_world area plan))) c t1 r c' t'
+  pub trace_whole : (r : Result Finished Status) (t' : List ℕ) → t1 ≡ t ++ trace_text (plan_played cell header plan scripts (plan_world area plan)).last.trace
+      → Does (tells_end to scripts (plan_played cell header plan scripts (plan_world area plan))) c t1 r c' t'
       → Does (plays_plan cell header area plan scripts to) c t r c' t'
   unfolding plays_plan
   trace_whole r t' taken does =
-      inr (subst (λ x. Does (tells_end to scripts (played cell header plan scripts (plan_world area plan))) c x r c' t') taken does)
+      inr (subst (λ x. Does (tells_end to scripts (plan_played cell header plan scripts (plan_world area plan))) c x r c' t') taken does)
 
 pub ruleset plays_in = (trace_cut, trace_whole)

@@ -13,13 +13,13 @@ use Rattle.world_rules.specs.Plays.{PlayEnd, Done, OutOfEntries, StoppedInside, 
 use Rattle.module_player.specs.CodePlays.{code_end_text}
 use Rattle.command_work.specs.declared.status.Status.TheVariants.{Limit}
 use Rattle.command_work.specs.Work.{Work, Ends, Puts, then, Finished, puts}
-use Rattle.command_sources.specs.Headers.{table_of}
+use Rattle.command_sources.specs.Headers.{table_of_word}
 use Rattle.play_inputs.specs.Areas.{area_named}
 use Rattle.play_inputs.specs.Finals.{final_written}
 use Rattle.play_inputs.specs.Plans.{plan_named}
 use Rattle.play_inputs.specs.Listings.{scripts_listed}
 use Rattle.play_worlds.specs.Worlds.{plan_world}
-use Rattle.command_plays.specs.Plays.{played}
+use Rattle.command_plays.specs.Plays.{plan_played}
 
 -- ---- what is told and written
 
@@ -41,7 +41,7 @@ tells to scripts p = Puts (trace_text p.last.trace) (tells_end to scripts p)
 
 -- a plan is played over an area, and the area that it leaves goes into the file of this name
 unfoldable pub plays_plan : CellLookup → EngineTable → PlainArea → Plan → List Script → List ℕ → Work Finished
-plays_plan cell header area plan scripts to = tells to scripts (played cell header plan scripts (plan_world area plan))
+plays_plan cell header area plan scripts to = tells to scripts (plan_played cell header plan scripts (plan_world area plan))
 
 -- ---- the command
 
@@ -53,7 +53,7 @@ unfoldable pub plays_scripts : CellLookup → List ℕ → Plan → List ℕ →
 plays_scripts cell area plan to header = then (scripts_listed header plan.scripts) (plays_area cell header area plan to)
 
 unfoldable pub plays_under : CellLookup → List ℕ → List ℕ → List ℕ → Plan → Work Finished
-plays_under cell header area to plan = then (table_of header) (plays_scripts cell area plan to)
+plays_under cell header area to plan = then (table_of_word header) (plays_scripts cell area plan to)
 
 -- the words name a header, an area, a plan and the file in which the area is left
 unfoldable pub plays : CellLookup → List ℕ → List ℕ → List ℕ → List ℕ → Work Finished

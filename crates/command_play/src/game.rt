@@ -9,7 +9,7 @@ ghost use Rattle.command_work.specs.Calls.{DoesOn, TalliesOn, IsName};
 ghost use Rattle.command_play.specs.Games.{plays_area, plays_scripts, plays_under, plays};
 ghost use Rattle.command_play.specs.Tellings.{IsGameFile, StopsGame};
 
-use crate::play::{Setting, play_plan};
+use crate::play::{PlaySetting, play_plan};
 use crate::remarks::Remarks;
 use command_sources::read_table;
 use command_work::Status;
@@ -33,7 +33,7 @@ pub struct GameNames<'a> {
 #[tactic(auto, using(crate::proofs::Steps::steps, crate::proofs::StopLemmas::stops), unfolding(crate::specs::Games::plays_area))]
 fn play_area<F: Files, S: Sink>(
     alloc: Global,
-    setting: Setting<'_>,
+    setting: PlaySetting<'_>,
     area: &str,
     plan: &Plan,
     to: &str,
@@ -85,7 +85,7 @@ fn play_scripts<F: Files, S: Sink>(
     match list_scripts(alloc, table, plan.scripts.as_slice(), files, out) {
         Err(status) => Err(status),
         Ok(scripts) => {
-            let setting = Setting {
+            let setting = PlaySetting {
                 table,
                 scripts: &scripts,
                 hooks,

@@ -23,7 +23,7 @@ use std::alloc::Global;
 
 /// What a plan's scripts are played with: a header's table, all that are listed, and hooks.
 #[derive(Clone, Copy)]
-pub(crate) struct Setting<'a> {
+pub(crate) struct PlaySetting<'a> {
     pub table: &'a Table,
     pub scripts: &'a Scripts,
     pub hooks: &'a Hooks,
@@ -33,7 +33,7 @@ pub(crate) struct Setting<'a> {
 #[tactic(auto, using(crate::proofs::PlayLemmas::plays_in, crate::proofs::StopLemmas::stops))]
 pub(crate) fn play_plan<F: Files, S: Sink>(
     alloc: Global,
-    setting: Setting<'_>,
+    setting: PlaySetting<'_>,
     area: Area,
     plan: &Plan,
     to: &str,

@@ -16,7 +16,7 @@ use Rattle.module_player.specs.declared.played.Played.{Played as Answer}
 use Rattle.command_work.specs.declared.status.Status.{Status}
 use Rattle.command_work.specs.Parts.{took_nothing}
 use Rattle.play_worlds.specs.Worlds.{plan_world}
-use Rattle.command_plays.specs.Plays.{played}
+use Rattle.command_plays.specs.Plays.{plan_played}
 use Rattle.command_plays.specs.Tellings.{TakesText}
 
 -- ---- the limits of a plan, which are inside those of plays
@@ -36,13 +36,13 @@ pub ruleset plays_out = (limit_kept, entries_kept, until_kept)
 -- ---- the world of a plan
 
 module _ (cell : CellLookup) (header : EngineTable) (area : PlainArea) (plan : Plan) (scripts : List Script) (w : World Saved) (is : w ≡ plan_world area plan) where
-  pub lines_end : (answer : Answer) (v : World Saved) → IsEnding answer (played cell header plan scripts w) v
-      → IsEnding answer (played cell header plan scripts (plan_world area plan)) v
-  lines_end answer v ends = subst (λ x. IsEnding answer (played cell header plan scripts x) v) is ends
+  pub lines_end : (answer : Answer) (v : World Saved) → IsEnding answer (plan_played cell header plan scripts w) v
+      → IsEnding answer (plan_played cell header plan scripts (plan_world area plan)) v
+  lines_end answer v ends = subst (λ x. IsEnding answer (plan_played cell header plan scripts x) v) is ends
 
-  pub lines_told : {A : Type 0} (r : Result A Status) (t t' : List ℕ) → TakesText (trace_text (played cell header plan scripts w).last.trace) t r t'
-      → TakesText (trace_text (played cell header plan scripts (plan_world area plan)).last.trace) t r t'
-  lines_told r t t' took = subst (λ x. TakesText (trace_text (played cell header plan scripts x).last.trace) t r t') is took
+  pub lines_told : {A : Type 0} (r : Result A Status) (t t' : List ℕ) → TakesText (trace_text (plan_played cell header plan scripts w).last.trace) t r t'
+      → TakesText (trace_text (plan_played cell header plan scripts (plan_world area plan)).last.trace) t r t'
+  lines_told r t t' took = subst (λ x. TakesText (trace_text (plan_played cell header plan scripts x).last.trace) t r t') is took
 
 pub no_lines : (text t : List ℕ) → TookPrefix text t t
 no_lines text t = took_nothing text t t refl

@@ -11,7 +11,7 @@ use Rattle.command_files.specs.Checks.{loaded_in}
 use Rattle.command_files.specs.CheckLaws.{SureLoaded}
 use Rattle.play_worlds.specs.Worlds.{first_world}
 use Rattle.command_plays.specs.Plays.{ends_by}
-use Rattle.command_plays.specs.Scripts.{listed, played, tells, plays_code, plays_file}
+use Rattle.command_plays.specs.Scripts.{listed, run_played, tells, plays_code, plays_file}
 use Rattle.command_plays.specs.Laws.{SurePlays}
 
 sure_end : (ending : PlayEnd) → IsSure (ends_by ending)
@@ -25,7 +25,7 @@ sure_tells scripts p = sure_end p.ending
 
 sure_code : (cell : CellLookup) (header : EngineTable) (name : List ℕ) (ops : List PlainOp) → IsSure (plays_code cell header name ops)
 unfolding plays_code
-sure_code cell header name ops = sure_tells (listed name ops) (played cell header (listed name ops) (first_world name))
+sure_code cell header name ops = sure_tells (listed name ops) (run_played cell header (listed name ops) (first_world name))
 
 pub sure_plays : SureLoaded → SurePlays
 unfolding plays_file

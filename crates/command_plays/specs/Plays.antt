@@ -22,8 +22,8 @@ abbrev pub host_of : CellLookup → EngineTable → List Script → Host (World 
 host_of cell header scripts = host scripts (record { table = header; cell = cell })
 
 -- the play of listed scripts from a world on, with the limits of a plan
-abbrev pub played : CellLookup → EngineTable → Plan → List Script → World Saved → Played Saved
-played cell header plan scripts w = code_play (host_of cell header scripts) plan.limit plan.entries plan.until w
+abbrev pub plan_played : CellLookup → EngineTable → Plan → List Script → World Saved → Played Saved
+plan_played cell header plan scripts w = code_play (host_of cell header scripts) plan.limit plan.entries plan.until w
 
 -- the play that goes on after so many entries and instructions, and is broken off once so many
 -- entries were taken in all

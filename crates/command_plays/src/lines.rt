@@ -8,7 +8,7 @@ ghost use Rattle.module_player.specs.EndTexts.{HasText, IsEnding};
 ghost use Rattle.command_work.specs.Work.{CutsShort};
 ghost use Rattle.command_work.specs.Calls.{TalliesPuts};
 ghost use Rattle.play_worlds.specs.Worlds.{plan_world};
-ghost use Rattle.command_plays.specs.Plays.{FitListed, played};
+ghost use Rattle.command_plays.specs.Plays.{FitListed, plan_played};
 ghost use Rattle.command_plays.specs.Tellings.{TakesLines};
 
 use crate::telling::told_whole;
@@ -44,10 +44,10 @@ fn play_out<S: Sink>(
     requires quiet { world.old.world.trace ≡ [] }
     requires next { world.old.world.agenda.next < 2 ^ 61 }
     ensures told { IfOk result (λ answer. HasText answer.how) }
-    ensures ending { IfOk result (λ answer. IsEnding answer (played
+    ensures ending { IfOk result (λ answer. IsEnding answer (plan_played
         (cells_of (map (λ h. h.known) hooks.now.all.items)) table.now plan.now
         (scripts_of scripts.now) world.old.world) world.new.world) }
-    ensures trace { IsTrue S.tells → TakesLines S.taken (played
+    ensures trace { IsTrue S.tells → TakesLines S.taken (plan_played
         (cells_of (map (λ h. h.known) hooks.now.all.items)) table.now plan.now
         (scripts_of scripts.now) world.old.world) out.old result out.new }
     ensures counts { TalliesPuts S.faults result out.old out.new }
@@ -85,10 +85,10 @@ fn play_world<S: Sink>(
     requires quiet { world.world.trace ≡ [] }
     requires next { world.world.agenda.next < 2 ^ 61 }
     ensures told { IfOk result (λ answer. HasText answer.1.how) }
-    ensures ending { IfOk result (λ answer. IsEnding answer.1 (played
+    ensures ending { IfOk result (λ answer. IsEnding answer.1 (plan_played
         (cells_of (map (λ h. h.known) hooks.now.all.items)) table.now plan.now
         (scripts_of scripts.now) world.world) answer.0.world) }
-    ensures trace { IsTrue S.tells → TakesLines S.taken (played
+    ensures trace { IsTrue S.tells → TakesLines S.taken (plan_played
         (cells_of (map (λ h. h.known) hooks.now.all.items)) table.now plan.now
         (scripts_of scripts.now) world.world) out.old result out.new }
     ensures counts { TalliesPuts S.faults result out.old out.new }
@@ -121,11 +121,11 @@ pub fn play_lines<S: Sink>(
     requires hooks { AreServing (map (λ h. h.known) hooks.now.all.items) }
     requires plan { IsPlan plan.now }
     ensures told { IfOk result (λ answer. HasText answer.1.how) }
-    ensures ending { IfOk result (λ answer. IsEnding answer.1 (played
+    ensures ending { IfOk result (λ answer. IsEnding answer.1 (plan_played
         (cells_of (map (λ h. h.known) hooks.now.all.items)) table.now plan.now
         (scripts_of scripts.now) (plan_world area plan.now)) answer.0.world) }
     // The sink took the play's lines, or a prefix of them where the play was cut short.
-    ensures trace { IsTrue S.tells → TakesLines S.taken (played
+    ensures trace { IsTrue S.tells → TakesLines S.taken (plan_played
         (cells_of (map (λ h. h.known) hooks.now.all.items)) table.now plan.now
         (scripts_of scripts.now) (plan_world area plan.now)) out.old result out.new }
     ensures counts { TalliesPuts S.faults result out.old out.new }

@@ -7,7 +7,7 @@ use Rattle.command_plays.specs.Scripts.{plays_file}
 use Rattle.command_plays.specs.Laws.{SurePlays}
 use Rattle.command_compile.specs.Files.{code_name, compiled_named}
 use Rattle.command_compile.specs.Laws.{SureCompiled}
-use Rattle.command_sources.specs.Headers.{table_of}
+use Rattle.command_sources.specs.Headers.{table_of_word}
 use Rattle.command_sources.specs.Laws.{SureTables}
 use Rattle.command_run.specs.Runs.{runs_under, runs}
 
@@ -20,4 +20,4 @@ module _ (tables : SureTables) (scripts : SureCompiled) (plays : SurePlays) wher
 
   pub sure_runs : (cell : CellLookup) (header script : List ℕ) → IsSure (runs cell header script)
   unfolding runs
-  sure_runs cell header script = sure_then (table_of header) (runs_under cell script) (tables header) (sure_under cell script)
+  sure_runs cell header script = sure_then (table_of_word header) (runs_under cell script) (tables header) (sure_under cell script)

@@ -14,7 +14,7 @@ use Rattle.command_work.specs.Work.{Does, CutsShort, Finished}
 use Rattle.command_work.specs.Counts.{Refusing}
 use Rattle.command_work.specs.Parts.{cut_here}
 use Rattle.play_worlds.specs.Worlds.{first_world}
-use Rattle.command_plays.specs.Scripts.{listed, played, tells, plays_code}
+use Rattle.command_plays.specs.Scripts.{listed, run_played, tells, plays_code}
 use Rattle.command_run.specs.Tellings.{StopsPlay}
 use Rattle.command_run.proofs.WorldLemmas.{first_fits, first_quiet, first_next}
 
@@ -24,11 +24,11 @@ module _ (cell : CellLookup) (header : EngineTable) (name : List ℕ) (ops : Lis
   code_cut t = cut_here (plays_code cell header name ops) Memory c c t t tt tt refl refl
 
   pub code_does : (scripts : List Script) (w : World Saved) (r : Result Finished Status) (t t' : List ℕ) → scripts ≡ listed name ops → w ≡ first_world name
-      → Does (tells scripts (played cell header scripts w)) c t r c t' → Does (plays_code cell header name ops) c t r c t'
+      → Does (tells scripts (run_played cell header scripts w)) c t r c t' → Does (plays_code cell header name ops) c t r c t'
   unfolding plays_code
   code_does scripts w r t t' is first does =
-      subst (λ v. Does (tells (listed name ops) (played cell header (listed name ops) v)) c t r c t') first
-      (subst (λ s. Does (tells s (played cell header s w)) c t r c t') is does)
+      subst (λ v. Does (tells (listed name ops) (run_played cell header (listed name ops) v)) c t r c t') first
+      (subst (λ s. Does (tells s (run_played cell header s w)) c t r c t') is does)
 
 pub ruleset starts = (first_fits, first_quiet, first_next, code_does, code_cut)
 

@@ -6,7 +6,7 @@ use Rattle.command_work.specs.declared.status.Status.{Status}
 use Rattle.command_work.specs.declared.status.Status.TheVariants.{Limit}
 use Rattle.command_work.specs.Work.{Work, then, Finished}
 use Rattle.command_work.specs.Counts.{StopsSource}
-use Rattle.command_sources.specs.Headers.{table_of}
+use Rattle.command_sources.specs.Headers.{table_of_word}
 use Rattle.command_compile.specs.Files.{code_name, compiled_named}
 use Rattle.command_plays.specs.Scripts.{plays_file}
 
@@ -15,7 +15,7 @@ unfoldable pub runs_under : CellLookup → List ℕ → EngineTable → Work Fin
 runs_under cell script header = then (compiled_named header script) (plays_file cell header script (code_name script))
 
 unfoldable pub runs : CellLookup → List ℕ → List ℕ → Work Finished
-runs cell header script = then (table_of header) (runs_under cell script)
+runs cell header script = then (table_of_word header) (runs_under cell script)
 
 -- What stops a run: its header or script, or a limit that ended its play. The check passes every
 -- compiled file.

@@ -11,7 +11,7 @@ ghost use Rattle.ncs_machine.specs.Stored.{StatesFit};
 ghost use Rattle.command_work.specs.Counts.{Refusing};
 ghost use Rattle.command_work.specs.Calls.{TalliesPuts, DoesPuts};
 ghost use Rattle.command_files.specs.Checks.{IsStackedFile};
-ghost use Rattle.command_plays.specs.Scripts.{listed, played, tells, plays_code, plays_file};
+ghost use Rattle.command_plays.specs.Scripts.{listed, run_played, tells, plays_code, plays_file};
 ghost use Rattle.command_run.specs.Tellings.{StopsPlay};
 
 use crate::telling::tell_end;
@@ -54,7 +54,7 @@ fn play_world<S: Sink>(
     requires fit { StatesFit (scripts_of scripts.now) (tables_of scripts.now) world.world }
     requires quiet { world.world.trace ≡ [] }
     requires next { world.world.agenda.next < 2 ^ 61 }
-    ensures does { IsTrue S.tells → DoesPuts S.taken (tells (scripts_of scripts.now) (played
+    ensures does { IsTrue S.tells → DoesPuts S.taken (tells (scripts_of scripts.now) (run_played
         (cells_of (map (λ h. h.known) hooks.now.all.items)) table.now (scripts_of scripts.now)
         world.world)) out.old result out.new }
     ensures counts { TalliesPuts S.faults result out.old out.new }

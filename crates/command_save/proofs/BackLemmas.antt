@@ -27,8 +27,8 @@ use Rattle.state_format.specs.declared.parts.Standing.{Standing}
 use Rattle.state_format.specs.declared.parts.Item.{Item as ItemPart}
 use Rattle.state_format.specs.declared.parts.Item.TheVariants as item
 use Rattle.state_format.specs.declared.parts.Object.{Object}
-use Rattle.state_format.specs.declared.parts.Kind.{Kind as KindPart}
-use Rattle.state_format.specs.declared.parts.Kind.TheVariants as kind
+use Rattle.state_format.specs.declared.parts.KindPart.{KindPart}
+use Rattle.state_format.specs.declared.parts.KindPart.TheVariants as kind
 use Rattle.state_format.specs.declared.parts.Entry.{Entry as EntryPart}
 use Rattle.state_format.specs.declared.parts.Parts.{Parts}
 use Rattle.play_save.specs.World.{effect_of, cell_of, saved_of, variable_of, variables_of, stood_of, item_of, things_of, with_variables, kind_of, entry_of, entries_of, world_of}

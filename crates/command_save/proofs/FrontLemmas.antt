@@ -10,7 +10,7 @@ use Rattle.world_rules.specs.World.{World}
 use Rattle.world_rules.specs.Plays.{Bounds, Runner, Played, plays, unplayed}
 use Rattle.world_rules.specs.GoingOn.{PlaysGoOn, continued}
 use Rattle.module_player.specs.CodePlays.{code_runner}
-use Rattle.command_plays.specs.Plays.{host_of, played, played_first}
+use Rattle.command_plays.specs.Plays.{host_of, plan_played, played_first}
 use Rattle.command_save.specs.Laws.{FrontsGoOn}
 use Rattle.command_save.proofs.GoingLemmas.{stops_same}
 

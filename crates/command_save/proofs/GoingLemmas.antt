@@ -7,9 +7,9 @@ use Rattle.std.proofs.lemmas.Bool.Decides.{eqb_tells}
 use Rattle.delay_agenda.specs.declared.entry.Entry.{Entry}
 use Rattle.world_rules.specs.declared.data.Line.{Line}
 use Rattle.world_rules.specs.World.{World}
-use Rattle.world_rules.specs.Turns.{Begun, begin, begun}
+use Rattle.world_rules.specs.Turns.{Begun, begin, entry_begun}
 use Rattle.world_rules.specs.Plays as plays
-use Rattle.world_rules.specs.Plays.{Runner, Bounds, Progress, Played, PlayEnd, Entered, after_entry, entered, full, further, next_entry, plays as plays_from}
+use Rattle.world_rules.specs.Plays.{Runner, Bounds, Progress, Played, PlayEnd, Entered, after_entry, entry_entered, full, further, next_entry, plays as plays_from}
 
 -- ---- numbers
 
@@ -27,7 +27,7 @@ module _ {X : Type 0} (runner : Runner X) where
   next_same : (b : Option (Begun X)) (p : Progress X) (go other : Progress X → Played X) → ((q : Progress X) → go q ≡ other q)
       → next_entry runner b p go ≡ next_entry runner b p other
   next_same None p go other same = refl
-  next_same (Some b) p go other same = after_same (entered runner b).stopped (further (entered runner b) p) go other same
+  next_same (Some b) p go other same = after_same (entry_entered runner b).stopped (further (entry_entered runner b) p) go other same
 
   pub stops_same : (entries until stop other k : ℕ) (p : Progress X)
       → plays_from runner (record { entries = entries; until = until; stop = stop }) k p ≡ plays_from runner (record { entries = entries; until = until; stop = other }) k p
@@ -63,7 +63,7 @@ module _ {X : Type 0} (runner : Runner X) (bounds : Bounds) where
       → on p ≡ on (next_entry runner b p (plays_from runner bounds k)).last
   next_rests k left None p is count rests whole = refl
   next_rests k left (Some b) p is count rests whole =
-      is ∙ after_rests k left (entered runner b).stopped (further (entered runner b) p) (omega (arith, count)) (rests (further (entered runner b) p) refl) whole
+      is ∙ after_rests k left (entry_entered runner b).stopped (further (entry_entered runner b) p) (omega (arith, count)) (rests (further (entry_entered runner b) p) refl) whole
 
   pub rests : (k : ℕ) (p : Progress X) → p.entries + k ≤ bounds.entries → Rests k p
   rests zero p below whole = refl
@@ -90,7 +90,7 @@ module _ {X : Type 0} (runner : Runner X) (bounds : Bounds) where
   next_whole : (b : Option (Begun X)) (p : Progress X) (go : Progress X → Played X) → ((q : Progress X) → q.entries ≡ p.entries + 1 → (go q).ending ≢ plays.Paused)
       → (next_entry runner b p go).ending ≢ plays.Paused
   next_whole None p go h e = absurd cc
-  next_whole (Some b) p go h e = after_whole (entered runner b).stopped (further (entered runner b) p) go (h (further (entered runner b) p) refl) e
+  next_whole (Some b) p go h e = after_whole (entry_entered runner b).stopped (further (entry_entered runner b) p) go (h (further (entry_entered runner b) p) refl) e
 
   turn_whole : (is_full : Bool) (b : Option (Begun X)) (p : Progress X) (go : Progress X → Played X)
       → (is_full ≡ false → (q : Progress X) → q.entries ≡ p.entries + 1 → (go q).ending ≢ plays.Paused)
@@ -136,7 +136,7 @@ module _ {X : Type 0} (runner : Runner X) (bounds : Bounds) where
       → next_entry runner b (after before p) go ≡ played_after before (next_entry runner b p go)
   next_front before go fronts None p = refl
   next_front before go fronts (Some b) p =
-      after_front before go fronts (entered runner b).stopped (further (entered runner b) p) (further (entered runner b) (after before p)) (further_front before (entered runner b) p)
+      after_front before go fronts (entry_entered runner b).stopped (further (entry_entered runner b) p) (further (entry_entered runner b) (after before p)) (further_front before (entry_entered runner b) p)
 
   turn_front : (before : List Line) (go : Progress X → Played X) → Fronts before go → (is_full : Bool) (b : Option (Begun X)) (p : Progress X)
       → (if is_full then record { ending = full b; last = after before p } else next_entry runner b (after before p) go)
@@ -162,7 +162,7 @@ module _ {X : Type 0} (runner : Runner X) (bounds : Bounds) where
     pub user : ℤ
     pub is : p ≡ played_with user q
 
-  begun_same : (u : ℤ) (entries : List (Entry X)) (w : World X) → begun bounds.until entries (record w { user = u }) ≡ begun bounds.until entries w
+  begun_same : (u : ℤ) (entries : List (Entry X)) (w : World X) → entry_begun bounds.until entries (record w { user = u }) ≡ entry_begun bounds.until entries w
   begun_same u [] w = refl
   begun_same u (e ∷ rest) w = refl
 
@@ -171,7 +171,7 @@ module _ {X : Type 0} (runner : Runner X) (bounds : Bounds) where
 
   next_user : (go : Progress X → Played X) (u : ℤ) (b : Option (Begun X)) (p : Progress X) → SameBut (next_entry runner b (with_user u p) go) (next_entry runner b p go)
   next_user go u None p = record { user = u; is = refl }
-  next_user go u (Some b) p = after_user go (entered runner b).stopped (further (entered runner b) p)
+  next_user go u (Some b) p = after_user go (entry_entered runner b).stopped (further (entry_entered runner b) p)
 
   turn_user : (go : Progress X → Played X) (u : ℤ) (is_full : Bool) (b : Option (Begun X)) (p : Progress X)
       → SameBut (if is_full then record { ending = full b; last = with_user u p } else next_entry runner b (with_user u p) go)
@@ -196,7 +196,7 @@ module _ {X : Type 0} (runner : Runner X) (bounds : Bounds) where
   next_quiet : (b : Option (Begun X)) (p : Progress X) (go : Progress X → Played X) → p.world.trace ≡ [] → ((q : Progress X) → q.world.trace ≡ [] → (go q).last.world.trace ≡ [])
       → (next_entry runner b p go).last.world.trace ≡ []
   next_quiet None p go quiet h = quiet
-  next_quiet (Some b) p go quiet h = after_quiet (entered runner b).stopped (further (entered runner b) p) go refl h
+  next_quiet (Some b) p go quiet h = after_quiet (entry_entered runner b).stopped (further (entry_entered runner b) p) go refl h
 
   turn_quiet : (is_full : Bool) (b : Option (Begun X)) (p : Progress X) (go : Progress X → Played X) → p.world.trace ≡ [] → ((q : Progress X) → q.world.trace ≡ [] → (go q).last.world.trace ≡ [])
       → (if is_full then record { ending = full b; last = p } else next_entry runner b p go).last.world.trace ≡ []

@@ -15,7 +15,7 @@ use Rattle.state_format.specs.declared.parts.Parts.{Parts}
 use Rattle.state_format.specs.Fields.{parts_bytes}
 use Rattle.command_work.specs.Work.{Work, then, by_size, bytes_of, file_named, puts, writes}
 use Rattle.command_work.specs.Outcomes.{IsSure, sure_then, sure_makes, sure_puts}
-use Rattle.command_sources.specs.Headers.{table_in, table_named, table_unless, table_of}
+use Rattle.command_sources.specs.Headers.{table_in, table_named, table_unless, table_of_word}
 use Rattle.command_sources.specs.Laws.{SureTables}
 use Rattle.command_files.specs.Trees.{tree_in, tree_named}
 use Rattle.play_inputs.specs.Areas as inputs
@@ -66,7 +66,7 @@ sure_word word true sure = sure_makes built_in
 sure_word word false sure = sure_small word (header_in word) (λ text small. sure_text word text (small_sure word (table_in word) sure text small))
 
 pub sure_header : SureTables → (word : List ℕ) → IsSure (header_of word)
-unfolding header_of table_of
+unfolding header_of table_of_word
 sure_header tables word = sure_word word (bytes_eq word (codes "-")) (tables word)
 
 -- ---- the area

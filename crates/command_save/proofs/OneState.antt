@@ -20,7 +20,7 @@ use Rattle.state_format.specs.declared.parts.Script.{Script as ScriptPart}
 use Rattle.state_format.specs.declared.parts.Object.{Object}
 use Rattle.state_format.specs.declared.parts.Entry.{Entry}
 use Rattle.state_format.specs.declared.parts.Parts.{Parts}
-use Rattle.state_format.specs.Place.{StateOf, StopsAt, BytesAreOne}
+use Rattle.state_format.specs.Place.{StateOf, StateStopsAt, BytesAreOne}
 use Rattle.play_save.specs.World.{world_of}
 use Rattle.play_save.specs.Rules.{IsHeaderOf, IsAreaOf, IsAccepted, IsUnfit, IsFirstBroken, KeepsAll, Rule, rules}
 use Rattle.play_save.specs.States.{IsWorldOf, resting}
@@ -137,7 +137,7 @@ none_broken (rule ∷ rest) zero s all broken = broken
 none_broken (rule ∷ rest) (suc zero) s all broken = broken all.0
 none_broken (rule ∷ rest) (suc (suc n)) s all broken = none_broken rest (suc n) s all.1 broken.1
 
-one_place : (bytes : List ℕ) (m n : ℕ) → StopsAt bytes m → StopsAt bytes n → m ≡ n
+one_place : (bytes : List ℕ) (m n : ℕ) → StateStopsAt bytes m → StateStopsAt bytes n → m ≡ n
 one_place bytes m n a b =
     let low = b.farthest m a.begins in
     let high = a.farthest n b.begins in

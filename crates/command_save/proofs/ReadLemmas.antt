@@ -26,7 +26,7 @@ use Rattle.command_work.specs.Sequences.{Parts, EndsFirst, GoesOn, ends_first, g
 use Rattle.command_work.specs.Reading.{IsRead, IsUnread}
 use Rattle.command_work.specs.Comes.{Came, gave, stopped, cut, file_comes}
 use Rattle.command_sources.specs.Headers as headers
-use Rattle.command_sources.specs.Headers.{HeaderFate, IsHeaderFate, table_by, table_in, table_named, table_unless, table_of}
+use Rattle.command_sources.specs.Headers.{HeaderFate, IsHeaderFate, table_by, table_in, table_named, table_unless, table_of_word}
 use Rattle.command_files.specs.Trees.{tree_in, tree_named}
 use Rattle.play_inputs.specs.Areas as inputs
 use Rattle.play_inputs.specs.Areas.{area_of_bytes}
@@ -80,7 +80,7 @@ held_here c d name bytes is = ap (λ (x : Contents). map.get x name) is ∙ inse
 -- ---- the header
 
 pub record FoundHeader (word : List ℕ) (h : HeaderFile) (c c' : Contents) (t t' : List ℕ) : Type 0 where
-  pub table : Does (table_of word) c t (Ok h.table) c' t'
+  pub table : Does (table_of_word word) c t (Ok h.table) c' t'
   pub is : IsHeaderOf h.text h.table
 
 refused_gives : {A : Type 0} (why : Refusal) (a : A) (c c' : Contents) (t t' : List ℕ) → Does {A = A} (Refused why) c t (Ok a) c' t' → ⊥
@@ -123,7 +123,7 @@ word_found word true h c c' t t' does =
 word_found word false h c c' t t' does = file_found word h c c' t t' does
 
 pub header_found : (word : List ℕ) (h : HeaderFile) (c c' : Contents) (t t' : List ℕ) → Does (header_of word) c t (Ok h) c' t' → FoundHeader word h c c' t t'
-unfolding header_of table_of
+unfolding header_of table_of_word
 header_found word h c c' t t' does =
     let found = word_found word (bytes_eq word (codes "-")) h c c' t t' does in
     record { table = found.0; is = found.1 }

@@ -36,7 +36,7 @@ use Rattle.command_work.specs.Refusal.{Refusal, BadArea, line_of, status_of}
 use Rattle.command_work.specs.Work.{Work, Gives, Refused, Ends, Writes, Puts, Finds, then, Finished, IsCut, Does, puts, writes}
 use Rattle.command_work.specs.Parts.{ok_not_err, err_not_ok}
 use Rattle.play_inputs.specs.Finals.{final_by, final_written}
-use Rattle.command_plays.specs.Plays.{host_of, played}
+use Rattle.command_plays.specs.Plays.{host_of, plan_played}
 use Rattle.command_play.specs.Games.{ends_by, tells_end, tells}
 use Rattle.state_format.specs.declared.parts.Parts.{Parts}
 use Rattle.play_save.specs.States.{resting}

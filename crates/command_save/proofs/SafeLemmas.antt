@@ -21,8 +21,8 @@ use Rattle.state_format.specs.declared.parts.Captured.{Captured}
 use Rattle.state_format.specs.declared.parts.Item.{Item}
 use Rattle.state_format.specs.declared.parts.Item.TheVariants as item
 use Rattle.state_format.specs.declared.parts.Object.{Object}
-use Rattle.state_format.specs.declared.parts.Kind.{Kind}
-use Rattle.state_format.specs.declared.parts.Kind.TheVariants as kind
+use Rattle.state_format.specs.declared.parts.KindPart.{KindPart}
+use Rattle.state_format.specs.declared.parts.KindPart.TheVariants as kind
 use Rattle.state_format.specs.declared.parts.Entry.{Entry}
 use Rattle.state_format.specs.declared.parts.Parts.{Parts}
 use Rattle.play_save.specs.World.{saved_of, item_of, things_of, kind_of, entry_of}
@@ -76,7 +76,7 @@ module _ (s : Parts) (g : Going) (from : GoesFrom s g) (tables : Tables) (meet :
             (meet c.script k.script k.listed);
       }
 
-  kind_fits : (k : Kind) → KindHolds (IsCapturedIn s) k → KindFits g.scripts tables (kind_of k)
+  kind_fits : (k : KindPart) → KindHolds (IsCapturedIn s) k → KindFits g.scripts tables (kind_of k)
   kind_fits (kind.Event o script user) h = tt
   kind_fits (kind.Stored o c) h = captured_fits c h
   kind_fits (kind.Turn o) h = tt

@@ -28,7 +28,7 @@ use Rattle.command_work.specs.Sequences.{GoesOn, then_known}
 use Rattle.command_work.specs.Reading.{IsRead}
 use Rattle.command_work.specs.Comes.{read_does, gives_does}
 use Rattle.command_work.specs.Outcomes.{IsSure, IsPrefix, grows}
-use Rattle.command_sources.specs.Headers.{table_of}
+use Rattle.command_sources.specs.Headers.{table_of_word}
 use Rattle.command_sources.specs.Laws.{SureTables}
 use Rattle.play_inputs.specs.Areas as inputs
 use Rattle.play_inputs.specs.Listings.{scripts_listed}
@@ -36,7 +36,7 @@ use Rattle.play_inputs.specs.ListingLaws.{SureListed}
 use Rattle.play_inputs.specs.Laws.{SureAreas, SurePlans}
 use Rattle.play_inputs.specs.Plans.{plan_named}
 use Rattle.play_worlds.specs.Worlds.{plan_world}
-use Rattle.command_plays.specs.Plays.{host_of, played, played_first}
+use Rattle.command_plays.specs.Plays.{host_of, plan_played, played_first}
 use Rattle.command_play.specs.Games.{ends_by, tells_end, tells, plays_plan, plays_area, plays_scripts, plays_under, plays as plays_files}
 use Rattle.command_save.specs.declared.inputs.HeaderFile.{HeaderFile}
 use Rattle.command_save.specs.declared.inputs.AreaFile.{AreaFile}
@@ -154,7 +154,7 @@ module _ (laws : OneLaws) (cell : CellLookup) (header : HeaderFile) (area : Area
   first = played_first cell header.table plan scripts n w
 
   abbrev unbroken : Played Saved
-  unbroken = played cell header.table plan scripts w
+  unbroken = plan_played cell header.table plan scripts w
 
   abbrev last : Played Saved
   last = code_play_on host plan.limit plan.entries plan.until (plan.entries + 1) first.last.entries first.last.count (resting first.last.world)
@@ -245,7 +245,7 @@ module _ (laws : OneLaws) (tables : SureTables) (listed : SureListed) (areas : S
       let found = header_found header one.value c one.between t one.taken one.first in
       by_scripts one.value area plan one.between one.taken found.is
       (prefix_on t0 t one.taken begun (grows (header_of header) (Ok one.value) c one.between t one.taken one.first)) one.second
-      (then_known (table_of header) (plays_scripts cell area plan to) (tables header) one.value.table c one.between c3 t one.taken t4 r3 uncut_too found.table plays_does)
+      (then_known (table_of_word header) (plays_scripts cell area plan to) (tables header) one.value.table c one.between c3 t one.taken t4 r3 uncut_too found.table plays_does)
 
   pub by_plan : (header area plan : List ℕ) (c : Contents) → Does (saves cell header area plan n name) c t0 (Ok done) c1 t1
       → Does (plays_files cell header area plan to) c t0 r3 c3 t4 → Told

@@ -23,7 +23,7 @@ use Rattle.ncs_machine.specs.Stored.{StatesFit}
 use Rattle.module_player.specs.CodePlays.{code_runner}
 use Rattle.state_format.specs.declared.parts.Parts.{Parts}
 use Rattle.play_save.specs.Rules.{IsAccepted}
-use Rattle.command_plays.specs.Plays.{host_of, played, played_first}
+use Rattle.command_plays.specs.Plays.{host_of, plan_played, played_first}
 use Rattle.command_save.specs.Inputs.{header_of, area_named}
 
 -- ---- what the files hold decides what comes of a command
@@ -82,7 +82,7 @@ IsFront runner plan n front all =
 
 abbrev pub FrontsGoOn : Type 0
 FrontsGoOn = (cell : CellLookup) (header : EngineTable) (plan : Plan) (scripts : List Script) (n : ℕ) (w : World Saved)
-    → IsFront (code_runner (host_of cell header scripts) plan.limit) plan n (played_first cell header plan scripts n w) (played cell header plan scripts w)
+    → IsFront (code_runner (host_of cell header scripts) plan.limit) plan n (played_first cell header plan scripts n w) (plan_played cell header plan scripts w)
 
 -- ---- what a state goes on from
 

@@ -8,7 +8,7 @@ use Rattle.world_rules.specs.World.{World}
 use Rattle.world_rules.specs.Plays.{Played}
 use Rattle.machine_rules.specs.Machine.{Script}
 use Rattle.state_format.specs.declared.parts.Parts.{Parts}
-use Rattle.state_format.specs.Place.{StateOf, StopsAt}
+use Rattle.state_format.specs.Place.{StateOf, StateStopsAt}
 use Rattle.play_save.specs.Rules.{IsHeaderOf, IsAccepted, IsUnfit}
 use Rattle.play_save.specs.States.{IsWorldOf}
 use Rattle.command_work.specs.declared.flaw.AreaFlaw.TheVariants as flaw
@@ -29,7 +29,7 @@ pub data StateFate : Type 0 where
 
 pub data IsStateFate (bytes : List ℕ) : StateFate → Type 0 where
   whole : (s : Parts) → StateOf bytes s → IsAccepted s → IsStateFate bytes (Whole s)
-  stops : (place : ℕ) → StopsAt bytes place → IsStateFate bytes (Stops place)
+  stops : (place : ℕ) → StateStopsAt bytes place → IsStateFate bytes (Stops place)
   unfit : (s : Parts) (rule : ℕ) → StateOf bytes s → IsUnfit rule s → IsStateFate bytes (Unfit rule)
 
 abbrev pub state_by : List ℕ → StateFate → Work Parts

@@ -8,7 +8,7 @@ use Rattle.engine_table.specs.Headers.{HasTable, IsRefused, OneHeader}
 use Rattle.command_work.specs.declared.cause.Cause.TheVariants as cause
 use Rattle.command_work.specs.Outcomes.{IsSure, sure_then, sure_file, sure_makes}
 use Rattle.command_work.specs.Work.{file_named}
-use Rattle.command_sources.specs.Headers.{HeaderFate, Whole, Faulty, IsHeaderFate, whole, bad, header, twice, many, table_by, table_in, table_named, table_unless, table_of}
+use Rattle.command_sources.specs.Headers.{HeaderFate, Whole, Faulty, IsHeaderFate, whole, bad, header, twice, many, table_by, table_in, table_named, table_unless, table_of_word}
 use Rattle.command_sources.specs.Laws.{SureTables}
 
 abbrev fate_of : HeaderFault → HeaderFate
@@ -67,5 +67,5 @@ module _ (one : OneHeader) where
   sure_unless false name = sure_named name
 
   pub sure_tables : SureTables
-  unfolding table_of
+  unfolding table_of_word
   sure_tables word = sure_unless (bytes_eq word (codes "-")) word

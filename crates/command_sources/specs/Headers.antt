@@ -39,5 +39,5 @@ table_unless true name = makes header_table
 table_unless false name = table_named name
 
 -- the table of the header that a word names: `-` is the built-in one, every other word a file
-unfoldable pub table_of : List ℕ → Work EngineTable
-table_of word = table_unless (bytes_eq word (codes "-")) word
+unfoldable pub table_of_word : List ℕ → Work EngineTable
+table_of_word word = table_unless (bytes_eq word (codes "-")) word

@@ -5,7 +5,7 @@ ghost use Rattle.nwq_value.specs.Engine.{EngineTable};
 ghost use Rattle.engine_table.specs.Headers.{HasTable, IsRefused, IsWithin};
 ghost use Rattle.command_work.specs.Counts.{Refusing, StopsSource};
 ghost use Rattle.command_work.specs.Calls.{DoesOn, TalliesOn, TalliesPuts, TalliesStop, DoesPuts};
-ghost use Rattle.command_sources.specs.Headers.{table_in, table_named, table_of};
+ghost use Rattle.command_sources.specs.Headers.{table_in, table_named, table_of_word};
 
 use command_work::{Cause, Status, read_file, refuse_at};
 use engine_table::{HeaderFault, built_in, read_header};
@@ -92,15 +92,15 @@ pub fn is_dash(word: &str) -> bool
 }
 
 /// The table of the header that a word names: `-` is the built-in one, every other word a file.
-#[tactic(auto, using(crate::proofs::HeaderLemmas::built), unfolding(crate::specs::Headers::table_of))]
+#[tactic(auto, using(crate::proofs::HeaderLemmas::built), unfolding(crate::specs::Headers::table_of_word))]
 pub fn read_table<F: Files, S: Sink>(
     alloc: Global,
     header: &str,
     files: &mut F,
     out: &mut S,
 ) -> Result<Table, Status>
-    ensures does { IsTrue F.tells → IsTrue S.tells → DoesOn F.contents S.taken (table_of header.now)
-        files.old out.old result files.new out.new }
+    ensures does { IsTrue F.tells → IsTrue S.tells → DoesOn F.contents S.taken
+        (table_of_word header.now) files.old out.old result files.new out.new }
     ensures counts { TalliesOn F.counts S.faults result files.old out.old files.new out.new }
     ensures same { F.contents files.new ≡ F.contents files.old }
     ensures only { IfErr result StopsSource }

@@ -14,7 +14,7 @@ ghost use Rattle.command_work.specs.Parts.{Refuses};
 ghost use Rattle.command_work.specs.Counts.{Counted, TalliesEnd, Refusing, StopsSource};
 ghost use Rattle.command_work.specs.Calls.{DoesOn, TalliesOn, TalliesPuts, TalliesStop};
 ghost use Rattle.command_sources.specs.Reading.{HasFault, HasTree, IsCounted};
-ghost use Rattle.command_sources.specs.Scripts.{plain_answer};
+ghost use Rattle.command_sources.specs.Scripts.{plain_script_answer};
 ghost use Rattle.command_sources.specs.Units.{spot_at, spot_of, at_spot, unit_of};
 
 use crate::script::Script;
@@ -153,7 +153,7 @@ fn parsed<S: Sink>(alloc: Global, unit: Unit, out: &mut S) -> Result<Script, Sta
     requires { 0 < length unit.files }
     ensures does { IsTrue S.tells → (c : Contents) (name : List ℕ) →
         IsUnit (fin_map.get c) name unit.tokens unit.files None →
-        Does (unit_of name) c (S.taken out.old) (plain_answer result) c (S.taken out.new) }
+        Does (unit_of name) c (S.taken out.old) (plain_script_answer result) c (S.taken out.new) }
     ensures tree { IfOk result (λ script. HasTree script.unit (plain_tree script.tree)) }
     ensures counts { TalliesPuts S.faults result out.old out.new }
     ensures only { IfErr result (Refusing Status.Script) }
@@ -173,7 +173,7 @@ pub fn read_unit<F: Files, S: Sink>(
     out: &mut S,
 ) -> Result<Script, Status>
     ensures does { IsTrue F.tells → IsTrue S.tells → DoesOn F.contents S.taken (unit_of script.now)
-        files.old out.old (plain_answer result) files.new out.new }
+        files.old out.old (plain_script_answer result) files.new out.new }
     // Also of files that don't tell what they hold the tree is that of the unit's tokens.
     ensures tree { IfOk result (λ script. HasTree script.unit (plain_tree script.tree)) }
     ensures counts { TalliesOn F.counts S.faults result files.old out.old files.new out.new }

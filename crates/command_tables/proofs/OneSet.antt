@@ -7,7 +7,7 @@ use Rattle.command_work.specs.Outcomes.{IsSure, sure_then, sure_file, sure_makes
 use Rattle.command_tables.specs.Lists as list
 use Rattle.command_tables.specs.Lists.{may_follow, AreNames, HasNames, HasBadLine, ListFate, IsListFate, names_by, names_in, names_listed}
 use Rattle.command_tables.specs.Tables as table
-use Rattle.command_tables.specs.Tables.{TableFate, IsTableFate, table_by, table_in, table_of, table_file, with_table, one_more, all_behind, tables_listed, tables_given}
+use Rattle.command_tables.specs.Tables.{TableFate, IsTableFate, table_by, table_in, table_in_file, table_file, with_table, one_more, all_behind, tables_listed, tables_given}
 use Rattle.command_tables.specs.Laws.{SureTables}
 
 -- ---- one bad line
@@ -95,13 +95,13 @@ module _ (one : OneTable) where
   unfolding table_in
   sure_table_in file bytes = (λ c a b p q. one_table one bytes p q, sure_table_by file)
 
-  sure_table : (file : List ℕ) → IsSure (table_of file)
-  unfolding table_of
+  sure_table : (file : List ℕ) → IsSure (table_in_file file)
+  unfolding table_in_file
   sure_table file = sure_then (file_named file) (table_in file) (sure_file file) (sure_table_in file)
 
   sure_more : (tables : List Named) (name : List ℕ) → IsSure (one_more tables name)
   unfolding one_more
-  sure_more tables name = sure_then (table_of (table_file name)) (λ t. makes (with_table tables name t)) (sure_table (table_file name))
+  sure_more tables name = sure_then (table_in_file (table_file name)) (λ t. makes (with_table tables name t)) (sure_table (table_file name))
       (λ t. sure_makes (with_table tables name t))
 
   sure_all : (names : List (List ℕ)) (tables : List Named) → IsSure (all_behind tables names)

@@ -8,7 +8,7 @@ use Rattle.command_work.specs.declared.status.Status.{Status}
 use Rattle.command_work.specs.declared.status.Status.TheVariants.{Memory}
 use Rattle.command_work.specs.Work.{Does, then, file_named}
 use Rattle.command_work.specs.Parts.{then_ok, then_err, cut_here, makes_does}
-use Rattle.command_tables.specs.Tables.{with_table, table_of, one_more, all_behind}
+use Rattle.command_tables.specs.Tables.{with_table, table_in_file, one_more, all_behind}
 
 -- ---- one table more
 
@@ -17,9 +17,9 @@ pub names_more : (tables more : List Named) (name : List ℕ) (table : PlainTabl
 names_more tables more name table e = ap (map (λ t. t.name)) e ∙ map-append (λ t. t.name) tables (record { name = name; table = table } ∷ [])
 
 -- the name of the file is still to be made
-pub table_wanted : (file : List ℕ) (c : Contents) (t : List ℕ) → Does (table_of file) c t (Err Memory) c t
-unfolding table_of file_named
-table_wanted file c t = cut_here (table_of file) Memory c c t t tt tt refl refl
+pub table_wanted : (file : List ℕ) (c : Contents) (t : List ℕ) → Does (table_in_file file) c t (Err Memory) c t
+unfolding table_in_file file_named
+table_wanted file c t = cut_here (table_in_file file) Memory c c t t tt tt refl refl
 
 pub ruleset more_tables = (names_more, cut_here, makes_does)
 

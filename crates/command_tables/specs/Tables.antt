@@ -34,8 +34,8 @@ unfoldable pub table_in : List ℕ → List ℕ → Work PlainTable
 table_in file bytes = Finds (λ (c : Contents) fate. IsTableFate bytes fate) (table_by file)
 
 -- the table in the file of this name
-unfoldable pub table_of : List ℕ → Work PlainTable
-table_of file = then (file_named file) (table_in file)
+unfoldable pub table_in_file : List ℕ → Work PlainTable
+table_in_file file = then (file_named file) (table_in file)
 
 -- ---- tables in order
 
@@ -44,7 +44,7 @@ with_table tables name table = tables ++ record { name = name; table = table } �
 
 -- the table of this name is read and put behind these
 unfoldable pub one_more : List Named → List ℕ → Work (List Named)
-one_more tables name = then (table_of (table_file name)) (λ table. makes (with_table tables name table))
+one_more tables name = then (table_in_file (table_file name)) (λ table. makes (with_table tables name table))
 
 -- the tables of these names are read in order and put behind these
 unfoldable pub all_behind : List Named → List (List ℕ) → Work (List Named)

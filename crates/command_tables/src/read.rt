@@ -6,7 +6,7 @@ ghost use Rattle.command_work.specs.Counts.{StopsArea};
 ghost use Rattle.command_work.specs.Calls.{DoesOn, TalliesOn};
 ghost use Rattle.command_tables.specs.Lists.{AreNames};
 ghost use Rattle.command_tables.specs.Reading.{with_tables};
-ghost use Rattle.command_tables.specs.Tables.{table_file, table_of, with_table, one_more};
+ghost use Rattle.command_tables.specs.Tables.{table_file, table_in_file, with_table, one_more};
 ghost use Rattle.command_tables.specs.Tables.{all_behind};
 ghost use Rattle.command_tables.specs.Tables.{tables_listed, tables_given};
 
@@ -28,7 +28,7 @@ fn read_one<F: Files, S: Sink>(
 ) -> Result<Table2, Status>
     requires name { IsTrue (is_script_name name.now) }
     ensures does { IsTrue F.tells → IsTrue S.tells → DoesOn F.contents S.taken
-        (table_of (table_file name.now)) files.old out.old result files.new out.new }
+        (table_in_file (table_file name.now)) files.old out.old result files.new out.new }
     ensures counts { TalliesOn F.counts S.faults result files.old out.old files.new out.new }
     ensures same { F.contents files.new ≡ F.contents files.old }
     ensures only { IfErr result StopsArea }

@@ -2,7 +2,7 @@ ghost use Rattle.std.specs.Prelude.{◌≡◌, ℕ, string_bytes, IsTrue, IfOk, 
 ghost use Rattle.nwq_text.specs.Names.{is_script_name};
 ghost use Rattle.command_work.specs.Counts.{Refusing, StopsArea};
 ghost use Rattle.command_work.specs.Calls.{DoesOn, TalliesOn, TalliesPuts, DoesPuts};
-ghost use Rattle.command_tables.specs.Tables.{table_file, table_in, table_of};
+ghost use Rattle.command_tables.specs.Tables.{table_file, table_in, table_in_file};
 
 use command_work::{AreaFlaw, Status, read_file, refuse_area};
 use nwq_outside::{Files, Sink};
@@ -42,15 +42,15 @@ fn table_of_bytes<S: Sink>(
 }
 
 /// The table in the file of this name.
-#[tactic(auto, using(crate::proofs::Steps::steps), unfolding(crate::specs::Tables::table_of))]
+#[tactic(auto, using(crate::proofs::Steps::steps), unfolding(crate::specs::Tables::table_in_file))]
 pub(crate) fn read_named<F: Files, S: Sink>(
     alloc: Global,
     file: &str,
     files: &mut F,
     out: &mut S,
 ) -> Result<Table2, Status>
-    ensures does { IsTrue F.tells → IsTrue S.tells → DoesOn F.contents S.taken (table_of file.now)
-        files.old out.old result files.new out.new }
+    ensures does { IsTrue F.tells → IsTrue S.tells → DoesOn F.contents S.taken
+        (table_in_file file.now) files.old out.old result files.new out.new }
     ensures counts { TalliesOn F.counts S.faults result files.old out.old files.new out.new }
     ensures same { F.contents files.new ≡ F.contents files.old }
     ensures only { IfErr result StopsArea }

@@ -8,7 +8,7 @@ use Rattle.std.proofs.lemmas.List.{take-append-drop, get_or_default}
 use Rattle.std.proofs.lemmas.Option.{slice_get-get_or}
 use Rattle.delay_agenda.specs.declared.entry.Entry.{Entry}
 use Rattle.delay_agenda.specs.Order.{is_before, put_entry}
-use Rattle.delay_agenda.specs.Queues.{put_all, NoneBefore, AreSorted, StopsAt, IsLeastAt, IsHead, IsInInbox, IsInQueues}
+use Rattle.delay_agenda.specs.Queues.{put_all, NoneBefore, AreSorted, HeadIsNotBefore, IsLeastAt, IsHead, IsInInbox, IsInQueues}
 
 -- ---- the test
 
@@ -27,7 +27,7 @@ one_way a b is = grind (arith, nat_tests)
 
 -- ---- one entry put
 
-pub put_stops : {X : Type 0} (e : Entry X) (es : List (Entry X)) → StopsAt e es → put_entry e es ≡ e ∷ es
+pub put_stops : {X : Type 0} (e : Entry X) (es : List (Entry X)) → HeadIsNotBefore e es → put_entry e es ≡ e ∷ es
 put_stops e [] stops = refl
 put_stops e (x ∷ rest) stops = ap (λ (b : Bool). if b then x ∷ put_entry e rest else e ∷ x ∷ rest) stops
 
@@ -40,7 +40,7 @@ joined_if true e x xs more ys all is = ap (λ t. x ∷ t) is
 joined_if false e x xs more ys all is = refl
 
 -- in the first of two lists, where it doesn't pass the second's head
-pub put_joined : {X : Type 0} (e : Entry X) (xs ys : List (Entry X)) → StopsAt e ys → put_entry e (xs ++ ys) ≡ put_entry e xs ++ ys
+pub put_joined : {X : Type 0} (e : Entry X) (xs ys : List (Entry X)) → HeadIsNotBefore e ys → put_entry e (xs ++ ys) ≡ put_entry e xs ++ ys
 put_joined e [] ys stops = put_stops e ys stops
 put_joined e (x ∷ xs) ys stops = joined_if (is_before x e) e x xs (put_entry e xs) ys (put_entry e (xs ++ ys)) (put_joined e xs ys stops)
 
@@ -70,23 +70,23 @@ all_before e (x ∷ xs) (suc i) d sorted less is =
     (none_before x (get_or xs i d) e (none_at x xs i d sorted.0 (omega arith)) is, all_before e xs i d sorted.1 (omega arith) is)
 
 pub put_at : {X : Type 0} (e : Entry X) (es : List (Entry X)) (n at : ℕ) (d : Entry X) → AreSorted es → at ≡ suc n → n < length es
-    → is_before (get_or es n d) e ≡ true → StopsAt e (drop at es) → take at es ++ e ∷ drop at es ≡ put_entry e es
+    → is_before (get_or es n d) e ≡ true → HeadIsNotBefore e (drop at es) → take at es ++ e ∷ drop at es ≡ put_entry e es
 put_at e es n at d sorted is less before stops =
     let all = all_before e es n d sorted less before in
     ap (λ t. take at es ++ t) (sym (put_stops e (drop at es) stops))
     ∙ sym (put_behind e (take at es) (drop at es) (subst (λ k. AllBefore e (take k es)) (sym is) all))
     ∙ ap (put_entry e) (take-append-drop at es)
 
-pub put_first : {X : Type 0} (e : Entry X) (es : List (Entry X)) → StopsAt e es → e ∷ es ≡ put_entry e es
+pub put_first : {X : Type 0} (e : Entry X) (es : List (Entry X)) → HeadIsNotBefore e es → e ∷ es ≡ put_entry e es
 put_first e es stops = sym (put_stops e es stops)
 
-pub stops_next : {X : Type 0} (e : Entry X) (es : List (Entry X)) (i : ℕ) (d : Entry X) → i < length es → is_before (get_or es i d) e ≡ false → StopsAt e (drop i es)
+pub stops_next : {X : Type 0} (e : Entry X) (es : List (Entry X)) (i : ℕ) (d : Entry X) → i < length es → is_before (get_or es i d) e ≡ false → HeadIsNotBefore e (drop i es)
 stops_next e [] i d less is = absurd (omega arith)
 stops_next e (x ∷ xs) zero d less is = is
 stops_next e (x ∷ xs) (suc i) d less is = stops_next e xs i d (omega arith) is
 
-pub stops_end : {X : Type 0} (e : Entry X) (es : List (Entry X)) (n : ℕ) → n ≡ length es → StopsAt e (drop n es)
-stops_end e [] n is = subst (λ k. StopsAt e (drop k [])) (sym is) tt
+pub stops_end : {X : Type 0} (e : Entry X) (es : List (Entry X)) (n : ℕ) → n ≡ length es → HeadIsNotBefore e (drop n es)
+stops_end e [] n is = subst (λ k. HeadIsNotBefore e (drop k [])) (sym is) tt
 stops_end e (x ∷ xs) zero is = absurd (omega (arith, is))
 stops_end e (x ∷ xs) (suc n) is = stops_end e xs n (omega (arith, is))
 
@@ -129,11 +129,11 @@ all_behind (x ∷ xs) m row all =
     ∙ all_behind xs m (put_entry x row) (λ i d less. all (suc i) d (omega (arith, less)))
 
 stops_if : {X : Type 0} (b : Bool) (a e x : Entry X) (rest more : List (Entry X)) → is_before e a ≡ false → is_before x a ≡ false
-    → StopsAt a (if b then x ∷ more else e ∷ x ∷ rest)
+    → HeadIsNotBefore a (if b then x ∷ more else e ∷ x ∷ rest)
 stops_if true a e x rest more here stops = stops
 stops_if false a e x rest more here stops = here
 
-stops_put : {X : Type 0} (a e : Entry X) (es : List (Entry X)) → is_before e a ≡ false → StopsAt a es → StopsAt a (put_entry e es)
+stops_put : {X : Type 0} (a e : Entry X) (es : List (Entry X)) → is_before e a ≡ false → HeadIsNotBefore a es → HeadIsNotBefore a (put_entry e es)
 stops_put a e [] here stops = here
 stops_put a e (x ∷ rest) here stops = stops_if (is_before x e) a e x rest (put_entry e rest) here stops
 
@@ -141,7 +141,7 @@ stops_put a e (x ∷ rest) here stops = stops_if (is_before x e) a e x rest (put
 pub all_least : {X : Type 0} (inbox row : List (Entry X)) (at : ℕ) (e : Entry X) → at < length inbox → get_or inbox at e ≡ e
     → ((i : ℕ) (d : Entry X) → i < at → is_before (get_or inbox i d) e ≡ false)
     → ((i : ℕ) (d : Entry X) → at < i → i < length inbox → is_before e (get_or inbox i d) ≡ true)
-    → StopsAt e row → put_all inbox row ≡ e ∷ put_all (remove inbox at) row
+    → HeadIsNotBefore e row → put_all inbox row ≡ e ∷ put_all (remove inbox at) row
 all_least [] row at e inside is before behind stops = absurd (omega arith)
 all_least (x ∷ xs) row zero e inside is before behind stops =
     ap (λ t. put_all xs (put_entry t row)) is
@@ -211,7 +211,7 @@ least_moved at n es e x found less is_e is_x test =
       behind = λ i d over under. absurd (omega (arith, over, under));
     }
 
-pub none_stops : {X : Type 0} (e : Entry X) (es : List (Entry X)) → NoneBefore e es → StopsAt e es
+pub none_stops : {X : Type 0} (e : Entry X) (es : List (Entry X)) → NoneBefore e es → HeadIsNotBefore e es
 none_stops e [] none = tt
 none_stops e (x ∷ xs) none = none.0
 
@@ -235,9 +235,9 @@ in_queues_empty inbox [] empty = empty
 in_queues_empty inbox (m ∷ row) empty = λ i d less. absurd (let none = ap length empty in omega (arith, none, less))
 
 pub in_inbox_none : {X : Type 0} (at : ℕ) (inbox row : List (Entry X)) → IsLeastAt at (length inbox) inbox → row ≡ [] → IsInInbox at inbox row
-in_inbox_none at inbox row least empty = record { least = least; first = λ d. subst (λ t. StopsAt (get_or inbox at d) t) (sym empty) tt }
+in_inbox_none at inbox row least empty = record { least = least; first = λ d. subst (λ t. HeadIsNotBefore (get_or inbox at d) t) (sym empty) tt }
 
-stops_head : {X : Type 0} (e m : Entry X) (row : List (Entry X)) → IsHead m row → is_before m e ≡ false → StopsAt e row
+stops_head : {X : Type 0} (e m : Entry X) (row : List (Entry X)) → IsHead m row → is_before m e ≡ false → HeadIsNotBefore e row
 stops_head e m [] head is = tt
 stops_head e m (x ∷ row) head is = subst (λ t. is_before t e ≡ false) (sym head) is
 
@@ -245,7 +245,7 @@ pub in_inbox_some : {X : Type 0} (at : ℕ) (inbox row : List (Entry X)) (m e : 
     → e ≡ get_or inbox at e → is_before m e ≡ false → IsInInbox at inbox row
 in_inbox_some at inbox row m e least head is test = record {
   least = least;
-  first = λ d. subst (λ t. StopsAt t row) (read inbox at e d is least.inside) (stops_head e m row head test);
+  first = λ d. subst (λ t. HeadIsNotBefore t row) (read inbox at e d is least.inside) (stops_head e m row head test);
 }
 
 before_by : {X : Type 0} (at : ℕ) (inbox : List (Entry X)) (m e : Entry X) → IsLeastAt at (length inbox) inbox → e ≡ get_or inbox at e
@@ -274,7 +274,7 @@ inbox_first at inbox row e first is =
     all_least inbox row at e least.inside (sym is)
     (λ i d less. tested false (get_or inbox i d) (get_or inbox at d) (get_or inbox i d) e (least.before i d less) refl (sym (read inbox at e d is least.inside)))
     (λ i d over less. tested true (get_or inbox at d) (get_or inbox i d) e (get_or inbox i d) (least.behind i d over less) (sym (read inbox at e d is least.inside)) refl)
-    (subst (λ t. StopsAt t row) (sym is) (first.first e))
+    (subst (λ t. HeadIsNotBefore t row) (sym is) (first.first e))
 
 pub inbox_taken : {X : Type 0} (at : ℕ) (inbox row now : List (Entry X)) → IsInInbox at inbox row → now ≡ remove inbox at
     → (slice_get inbox at ≡ slice_get (put_all inbox row) 0) × (put_all now row ≡ drop 1 (put_all inbox row))

@@ -14,21 +14,21 @@ use Rattle.delay_agenda.specs.Order.{is_before, put_entry}
 use Rattle.delay_agenda.specs.Waiting.{is_turn_of, turn_count, IsAgenda}
 
 -- queues by due time, as a map has them
-abbrev pub Row : Type 0 → Type 0
-Row X = List (ℕ × VecDeque (Entry X) Global)
+abbrev pub QueuesByTime : Type 0 → Type 0
+QueuesByTime X = List (ℕ × VecDeque (Entry X) Global)
 
 -- the entries of the queues, one queue after the other
-abbrev pub in_row : {X : Type 0} → Row X → List (Entry X)
+abbrev pub in_row : {X : Type 0} → QueuesByTime X → List (Entry X)
 in_row [] = []
 in_row (q ∷ qs) = q.1.items ++ in_row qs
 
 -- the entries of one queue, none where there is no such queue
-abbrev pub queue_at : {X : Type 0} → ℕ → Row X → List (Entry X)
+abbrev pub queue_at : {X : Type 0} → ℕ → QueuesByTime X → List (Entry X)
 queue_at due [] = []
 queue_at due (q ∷ qs) = if is_at (nat_cmp due) q.0 then q.1.items else queue_at due qs
 
 -- the entries of the queues without the one at a place of a queue
-abbrev pub row_without : {X : Type 0} → ℕ → ℕ → Row X → List (Entry X)
+abbrev pub row_without : {X : Type 0} → ℕ → ℕ → QueuesByTime X → List (Entry X)
 row_without due at [] = []
 row_without due at (q ∷ qs) = if is_at (nat_cmp due) q.0 then remove q.1.items at ++ in_row qs else q.1.items ++ row_without due at qs
 
@@ -48,9 +48,9 @@ AreSorted [] = Unit {0}
 AreSorted (e ∷ es) = NoneBefore e es × AreSorted es
 
 -- the head isn't taken before e
-abbrev pub StopsAt : {X : Type 0} → Entry X → List (Entry X) → Type 0
-StopsAt e [] = Unit {0}
-StopsAt e (x ∷ xs) = is_before x e ≡ false
+abbrev pub HeadIsNotBefore : {X : Type 0} → Entry X → List (Entry X) → Type 0
+HeadIsNotBefore e [] = Unit {0}
+HeadIsNotBefore e (x ∷ xs) = is_before x e ≡ false
 
 -- each is due at this time
 abbrev pub AreDue : {X : Type 0} → ℕ → List (Entry X) → Type 0
@@ -64,12 +64,12 @@ pub record IsQueue {X : Type 0} (due : ℕ) (es : List (Entry X)) : Type 0 where
   pub sorted : AreSorted es
 
 -- each queue is of a later time
-abbrev pub AreLater : {X : Type 0} → ℕ → Row X → Type 0
+abbrev pub AreLater : {X : Type 0} → ℕ → QueuesByTime X → Type 0
 AreLater due [] = Unit {0}
 AreLater due (q ∷ qs) = (due < q.0) × AreLater due qs
 
 -- each queue is of its time, and those behind it are of later ones
-abbrev pub AreQueues : {X : Type 0} → Row X → Type 0
+abbrev pub AreQueues : {X : Type 0} → QueuesByTime X → Type 0
 AreQueues [] = Unit {0}
 AreQueues (q ∷ qs) = IsQueue q.0 q.1.items × AreLater q.0 qs × AreQueues qs
 
@@ -79,7 +79,7 @@ IsHead e [] = ⊥
 IsHead e (x ∷ xs) = x ≡ e
 
 -- the first queue is of this time
-abbrev pub IsFirst : {X : Type 0} → ℕ → Row X → Type 0
+abbrev pub IsFirst : {X : Type 0} → ℕ → QueuesByTime X → Type 0
 IsFirst due [] = ⊥
 IsFirst due (q ∷ qs) = q.0 ≡ due
 
@@ -93,7 +93,7 @@ pub record IsLeastAt {X : Type 0} (at n : ℕ) (es : List (Entry X)) : Type 0 wh
 -- the entry of the inbox at this place is taken before all others
 pub record IsInInbox {X : Type 0} (at : ℕ) (inbox row : List (Entry X)) : Type 0 where
   pub least : IsLeastAt at (length inbox) inbox
-  pub first : (d : Entry X) → StopsAt (get_or inbox at d) row
+  pub first : (d : Entry X) → HeadIsNotBefore (get_or inbox at d) row
 
 -- the head of the row is taken before all of the inbox
 abbrev pub IsInQueues : {X : Type 0} → List (Entry X) → List (Entry X) → Type 0
@@ -134,11 +134,11 @@ turning (Stored o action) = None
 turning (Unapply o) = None
 
 -- what an agenda keeps of its entries
-pub record IsKept {X : Type 0} (inbox : List (Entry X)) (queues : Row X) (next : ℕ) : Type 0 where
+pub record IsKept {X : Type 0} (inbox : List (Entry X)) (queues : QueuesByTime X) (next : ℕ) : Type 0 where
   pub sorted : AreQueues queues
   pub agenda : IsAgenda (record { entries = put_all inbox (in_row queues); next = next })
 
 -- what an agenda keeps of its parts
-pub record IsWhole {X : Type 0} (inbox : List (Entry X)) (queues : Row X) (index : BTreeMap ℕ Turns) (next : ℕ) : Type 0 where
+pub record IsWhole {X : Type 0} (inbox : List (Entry X)) (queues : QueuesByTime X) (index : BTreeMap ℕ Turns) (next : ℕ) : Type 0 where
   pub kept : IsKept inbox queues next
   pub counted : IsCounted index (in_row queues)

@@ -12,7 +12,7 @@ use Rattle.stack_shape.specs.declared.shape.Slot.TheVariants.{Of}
 use Rattle.stack_shape.specs.declared.effect.StackEffect.{StackEffect}
 use Rattle.stack_shape.specs.Ranges.{cell_count, depth_of, range_of, range_at}
 use Rattle.stack_shape.specs.TopFirst.{types_on, types_at}
-use Rattle.stack_shape.specs.StackEffects.{no_effect, where_alike, exchange, copied, written, counted, removed, kept_of, kept, runs}
+use Rattle.stack_shape.specs.StackEffects.{no_effect, where_alike, exchange, copied, written, range_int_changed, removed, kept_of, kept, runs}
 use Rattle.stack_shape.specs.Stored.{TopShape, stored_types}
 use Rattle.stack_shape.specs.Rule.{affected}
 use Rattle.emission_laws.specs.Spots.{Way, Spot}
@@ -154,9 +154,9 @@ module _ {ts : List Ty} {place : ℕ} {us : List Ty} (s : Seen ts place us) (mid
       ∙ ap (λ o. where_alike (Some us) o no_effect) (seen_types s mid)
       ∙ alike us no_effect
 
-pub counted_there : {ts : List Ty} {place : ℕ} (s : Seen ts place (Int ∷ [])) (mid : List Slot) → counted (range_at (beneath (length ts - place)) 4) (map Of ts ++ mid) ≡ Some no_effect
+pub counted_there : {ts : List Ty} {place : ℕ} (s : Seen ts place (Int ∷ [])) (mid : List Slot) → range_int_changed (range_at (beneath (length ts - place)) 4) (map Of ts ++ mid) ≡ Some no_effect
 counted_there {ts = ts} s mid =
-    ap (λ o. counted o (map Of ts ++ mid)) (seen_range s (omega arith))
+    ap (λ o. range_int_changed o (map Of ts ++ mid)) (seen_range s (omega arith))
     ∙ ap (λ o. where_alike o (Some (Int ∷ [])) no_effect) (seen_types s mid)
     ∙ alike (Int ∷ []) no_effect
 

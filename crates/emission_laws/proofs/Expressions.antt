@@ -33,14 +33,14 @@ use Rattle.typing_rules.specs.Typed.{TypedExpr, TypedExprs, TypedParameter, lite
 use Rattle.typing_rules.specs.Cells.{Structs, cell_types, cells, is_captured}
 use Rattle.emission_rules.specs.Layout.{Layout, position}
 use Rattle.emission_rules.specs.Operations.{beneath, bytes_of, cell_kind, constant, int_constant, literal_of, started, top_again, operation, combination}
-use Rattle.emission_rules.specs.Expressions.{Home, InFrame, InGlobals, moved, home, at_home, read, write, increment, decrement, member_code, prefix_code, postfix_code, shortcut, shortcut_labels, binary_code, is_set, read_first, cells_first, constants, result_room, called as called_line, argument_labels, argument_code, count_arguments, arguments_cells, emit, emit_all, labels, all_labels}
+use Rattle.emission_rules.specs.Expressions.{Home, InFrame, InGlobals, moved, home, at_home, read, write, increment, decrement, member_code, prefix_code, postfix_code, shortcut, shortcut_labels, binary_code, is_set, read_first, cells_first, constants, result_room, call_line as called_line, argument_labels, argument_code, count_arguments, arguments_cells, emit, emit_all, labels, all_labels}
 use Rattle.emission_rules.specs.Bounds.{IsCell, IsType, IsExpr, AreExprs}
 use Rattle.stack_shape.specs.declared.shape.Slot.{Slot}
 use Rattle.stack_shape.specs.declared.shape.Slot.TheVariants.{Of, Base}
 use Rattle.stack_shape.specs.StackEffects.{exchange}
 use Rattle.stack_shape.specs.Calls.{is_action, is_callable, action_count, result_types, fits_call, call_effect, argument_types as taken_types}
 use Rattle.stack_shape.specs.Stored.{stored_types}
-use Rattle.stack_shape.specs.Rule.{affected, rule, called}
+use Rattle.stack_shape.specs.Rule.{affected, rule, called_shape}
 use Rattle.stack_rules.specs.Tables.{Callee}
 use Rattle.source_meaning.specs.Scripts.{Function}
 use Rattle.source_laws.specs.Kept.{Site, In}
@@ -354,7 +354,7 @@ module _ (header : EngineTable) (functions : List Function) (x : Site) (bodies t
   unfolding rule
   engine_turns g p a number count r args ts is callable e f same =
       let left : p + a - action_count r.params ≡ p = omega (arith, f) in
-      ap (λ o. called o count (over g (p + a) (args ++ ts))) is
+      ap (λ o. called_shape o count (over g (p + a) (args ++ ts))) is
       ∙ ap (λ (q : ℕ). affected (call_effect r count (p + a) (map Of (args ++ ts) ++ g.mid)) (over g q (args ++ ts))) left
       ∙ affects g p args (result_types r.result) ts _ (effect_is r count (p + a) args ts g.mid callable e (omega (arith, f)) same)
 

@@ -24,7 +24,7 @@ use Rattle.emission_rules.specs.Bounds.{IsCell}
 use Rattle.stack_shape.specs.declared.shape.Slot.{Slot}
 use Rattle.stack_shape.specs.declared.shape.Slot.TheVariants.{Of}
 use Rattle.stack_shape.specs.Ranges.{cell_count, range_at}
-use Rattle.stack_shape.specs.StackEffects.{exchange, copied, written, counted, runs, type_of_one, type_of_both, compared, added, reckoned, negated, stack_effect}
+use Rattle.stack_shape.specs.StackEffects.{exchange, copied, written, range_int_changed, runs, type_of_one, type_of_both, compared, added, reckoned, negated, stack_effect}
 use Rattle.stack_shape.specs.Rule.{affected, rule}
 use Rattle.emission_laws.specs.Spots.{IsTest}
 use Rattle.emission_laws.proofs.Cells.{Ground, over, affects, exchanged, types_there, range_there, Seen, copied_there, written_there, counted_there, removed_there, kept_there, runs_there}
@@ -124,14 +124,14 @@ module _ (header : EngineTable) (g : Ground) (p : ℕ) where
   increment_turns l depth (InFrame place) ts d s = rw d (affects g p [] [] ts _ (counted_there s g.mid))
   increment_turns l depth (InGlobals place) ts d s =
       let same : g.under ≡ map Of s.types ++ [] = s.is ∙ sym (append-nil (map Of s.types)) in
-      rw (sym s.many) (affects g p [] [] ts _ (ap (counted _) same ∙ counted_there s.seen []))
+      rw (sym s.many) (affects g p [] [] ts _ (ap (range_int_changed _) same ∙ counted_there s.seen []))
 
   pub decrement_turns : (l : Layout) (depth : ℕ) (h : Home) (ts : List Ty) → depth ≡ length ts → Sees l g.under ts (Int ∷ []) h → Turns (decrement l depth h) ts ts
   unfolding rule stack_effect
   decrement_turns l depth (InFrame place) ts d s = rw d (affects g p [] [] ts _ (counted_there s g.mid))
   decrement_turns l depth (InGlobals place) ts d s =
       let same : g.under ≡ map Of s.types ++ [] = s.is ∙ sym (append-nil (map Of s.types)) in
-      rw (sym s.many) (affects g p [] [] ts _ (ap (counted _) same ∙ counted_there s.seen []))
+      rw (sym s.many) (affects g p [] [] ts _ (ap (range_int_changed _) same ∙ counted_there s.seen []))
 
   pub drop_turns : (us ts : List Ty) → Turns (ops.MovSp (beneath (length us))) (us ++ ts) ts
   unfolding rule stack_effect

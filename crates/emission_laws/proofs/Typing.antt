@@ -16,7 +16,7 @@ use Rattle.typing_rules.specs.Types.{is_int}
 use Rattle.typing_rules.specs.Typed.{TypedExpr, TypedExprs, TypedName, TypedStmt, TypedStmts, TypedItem, call}
 use Rattle.typing_rules.specs.Nodes.{There}
 use Rattle.typing_rules.specs.Sight.{Head, Sight, Labels, Meaning, variable, constant, Called, with_case, with_default, with_declaration, declared, switched}
-use Rattle.typing_rules.specs.Rules.{named, is_of_unit, all_taken, filled, called, call_rule, is_again, is_outside, has_default_label}
+use Rattle.typing_rules.specs.Rules.{named, is_of_unit, all_taken, filled, filled_call, call_rule, is_again, is_outside, has_default_label}
 use Rattle.typing_rules.specs.Verdicts.{after, after_names, after_item}
 use Rattle.typing_rules.specs.Meaning.{Types, AllTypes, TypesValue, TypesNames, TypesStmt, TypesStmts, TypesItem, TypesItems}
 use Rattle.emission_rules.specs.Statements.{is_label, count_labels}
@@ -57,7 +57,7 @@ call_calls : (at_file as_action : Bool) (xs : TypedExprs) (d : Option Called) (t
 call_calls false as_action xs d t is h all = absurd cc
 call_calls true as_action xs None t is h all = absurd cc
 call_calls true as_action xs (Some d) t is h all =
-    let a = allowed d.is_callable (is_of_unit d.callee) _ (all_taken xs d.params) (called xs d) t h in
+    let a = allowed d.is_callable (is_of_unit d.callee) _ (all_taken xs d.params) (filled_call xs d) t h in
     let m = mapped (λ (ks : List Const). call d.result d.callee xs ks) (filled xs d.params) t a.1 in
     subst CallsEngine m.1 (of_engine d.result d.callee xs m.0 a.0 all)
 

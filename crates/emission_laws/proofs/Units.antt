@@ -12,7 +12,7 @@ use Rattle.ncs_code.specs.Plain as ops
 use Rattle.ncs_code.specs.File.{header_size}
 use Rattle.ncs_code.specs.Laws.{SizeSome}
 use Rattle.ncs_emit.specs.declared.jump.Jump.TheVariants.{Jsr}
-use Rattle.ncs_emit.specs.Labelled.{Line, JumpTo, lines_size, placements, program, place_of}
+use Rattle.ncs_emit.specs.Labelled.{Line, JumpTo, lines_size, placements, program, place_of_label}
 use Rattle.typing_rules.specs.declared.places.EntryPoint.{EntryPoint}
 use Rattle.typing_rules.specs.declared.places.EntryPoint.TheVariants.{Main, Conditional}
 use Rattle.typing_rules.specs.Typed.{TypedName, TypedParameter, TypedItem, TypedUnit}
@@ -35,7 +35,7 @@ use Rattle.source_meaning.specs.Statements.{after_names}
 use Rattle.source_laws.specs.FunctionsRun.{AreParameters}
 use Rattle.emission_laws.specs.WellTyped.{site, start_site, IsBegin, IsFineEntry, IsWellTyped}
 use Rattle.emission_laws.specs.Spots.{Starts, Runs, Spot}
-use Rattle.emission_laws.specs.Table.{table_of, first_spot}
+use Rattle.emission_laws.specs.Table.{emitted_table, first_spot}
 use Rattle.emission_laws.specs.Laws.{UnitsAreWellStacked}
 use Rattle.emission_laws.proofs.Walks.{begin, flowing_meets, walk}
 use Rattle.emission_laws.proofs.Cells.{Ground, over, Seen, on_top}
@@ -443,8 +443,8 @@ module _ (header : EngineTable) (u : TypedUnit) (bounded : IsBounded u) (typed :
         λ is. own_known b spot_of bodies two_part.0 is,
       ) in
       let f = flow.flow spot_of third holds in (
-        table_of (place_of (unit_code u).lines) callee_of (walk header total callee_of spot_of f),
-        flowing_meets header total callee_of spot_of some (program (unit_code u).lines) (place_of (unit_code u).lines) (unit_code u).lines f (stand u)
+        emitted_table (place_of_label (unit_code u).lines) callee_of (walk header total callee_of spot_of f),
+        flowing_meets header total callee_of spot_of some (program (unit_code u).lines) (place_of_label (unit_code u).lines) (unit_code u).lines f (stand u)
             (λ label lt. placed_some label total (placements (unit_code u).lines label) (placed u label) lt) (known_callee spot_of holds),
       )
     where

@@ -19,8 +19,8 @@ use Rattle.stack_shape.specs.StackEffects.{stack_effect}
 use Rattle.stack_shape.specs.Rule.{rule}
 use Rattle.machine_rules.specs.Act.{next_place}
 use Rattle.stack_rules.specs.Tables.{Callee, ShapeTable, empty_shape, first_shape}
-use Rattle.stack_rules.specs.Rules.{GoesOn as LeavesGiven, Obeys, IsSound, MeetsRules, Returns}
-use Rattle.emission_laws.specs.Table.{entry_of, same_entry, shape_there, callee_by, callee_there, table_of, first_spot}
+use Rattle.stack_rules.specs.Rules.{GoesOnBehindCall as LeavesGiven, Obeys, IsSound, MeetsRules, Returns}
+use Rattle.emission_laws.specs.Table.{entry_of, same_entry, shape_there, callee_by, callee_there, emitted_table, first_spot}
 use Rattle.emission_laws.specs.Spots.{Way, Starts, Runs, Resumes, Spot, GoesStraight, IsTest, Ends, CallsAt, Flow}
 
 module _ (header : EngineTable) (total : ℕ) (callee_of : ℕ → Option Callee) (spot_of : ℕ → Spot) where
@@ -136,7 +136,7 @@ module _ (header : EngineTable) (total : ℕ) (callee_of : ℕ → Option Callee
         marked f stand.1.1 (on_from (place + 10) (place + 10 + 6) _ (walk f) (omega arith) first) label some
 
     abbrev table : ShapeTable
-    table = table_of places callee_of spot_at
+    table = emitted_table places callee_of spot_at
 
     same_self : (e : Entry) → same_entry e e ≡ true
     same_self Start = refl
@@ -349,7 +349,7 @@ pub flowing_meets : (header : EngineTable) (total : ℕ) (callee_of : ℕ → Op
     (f : Flow header total callee_of spot_of header_size (Some begin) lines None) → LinesStand code places header_size lines
     → ((label : ℕ) → label < total → 1 ≤ placements lines label)
     → ((label : ℕ) (callee : Callee) → callee_of label ≡ Some callee → (label < total) × (spot_of label ≡ first_spot label callee))
-    → MeetsRules header code (table_of places callee_of (walk header total callee_of spot_of f))
+    → MeetsRules header code (emitted_table places callee_of (walk header total callee_of spot_of f))
 flowing_meets header total callee_of spot_of some code places lines f stand placed first =
     let spot_at : ℕ → Option Spot = walk header total callee_of spot_of f in
     let there : (label : ℕ) → label < total → spot_at (places label) ≡ Some (spot_of label) =
@@ -360,12 +360,12 @@ flowing_meets header total callee_of spot_of some code places lines f stand plac
       start = shape_is header total callee_of spot_of some code places spot_at header_size begin (starts header total callee_of spot_of f);
       entered = λ target callee h. (
           let g = has_callee places callee_of target callee (spot_at target) h in
-          subst (λ t. (table_of places callee_of spot_at).at (Called t) t ≡ Some (first_shape callee)) g.is
+          subst (λ t. (emitted_table places callee_of spot_at).at (Called t) t ≡ Some (first_shape callee)) g.is
           (shape_is header total callee_of spot_of some code places spot_at (places g.label) (first_spot g.label callee) (known g.label callee g.known)));
       each = λ entry place shape h. (
           let g = has_spot places (spot_at place) entry shape h in
           let sound = sound_at header total callee_of spot_of some code places spot_at there known f refl stand (λ p le. refl) place g.spot g.there in
-          subst (IsSound header code (table_of places callee_of spot_at) entry place) g.same
-          (subst (λ e. IsSound header code (table_of places callee_of spot_at) e place g.spot.shape) (sym g.way)
+          subst (IsSound header code (emitted_table places callee_of spot_at) entry place) g.same
+          (subst (λ e. IsSound header code (emitted_table places callee_of spot_at) e place g.spot.shape) (sym g.way)
           (record { op = sound.op; stands = sound.stands; obeys = sound.obeys })));
     }

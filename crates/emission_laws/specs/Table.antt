@@ -31,8 +31,8 @@ abbrev pub callee_there : (ℕ → ℕ) → (ℕ → Option Callee) → ℕ → 
 callee_there places callee_of target None = None
 callee_there places callee_of target (Some s) = callee_by places callee_of target s.way
 
-abbrev pub table_of : (ℕ → ℕ) → (ℕ → Option Callee) → (ℕ → Option Spot) → ShapeTable
-table_of places callee_of spot_at = record {
+abbrev pub emitted_table : (ℕ → ℕ) → (ℕ → Option Callee) → (ℕ → Option Spot) → ShapeTable
+emitted_table places callee_of spot_at = record {
   at = λ entry place. shape_there places entry (spot_at place);
   called = λ target. callee_there places callee_of target (spot_at target);
 }

@@ -25,7 +25,7 @@ use Rattle.typing_rules.specs.Typed.{TypedExpr, TypedExprs, TypedName, TypedStmt
 use Rattle.typing_rules.specs.Cells.{cell_types, cells, is_captured}
 use Rattle.emission_rules.specs.Layout.{Layout, declared_cells, all_declared_cells, params_cells, item_cells}
 use Rattle.emission_rules.specs.Operations.{started, dropped, combination, operation}
-use Rattle.emission_rules.specs.Expressions.{Home, increment, decrement, moved, home, at_home, read, write, name_code, member_code, prefix_code, postfix_code, Shortcut, WhereTrue, WhereFalse, Never, shortcut, shortcut_labels, binary_code, is_set, read_first, cells_first, constants, result_room, called, argument_labels, argument_code, count_arguments, arguments_cells, emit, emit_all, labels, all_labels}
+use Rattle.emission_rules.specs.Expressions.{Home, increment, decrement, moved, home, at_home, read, write, name_code, member_code, prefix_code, postfix_code, Shortcut, WhereTrue, WhereFalse, Never, shortcut, shortcut_labels, binary_code, is_set, read_first, cells_first, constants, result_room, call_line, argument_labels, argument_code, count_arguments, arguments_cells, emit, emit_all, labels, all_labels}
 use Rattle.emission_rules.specs.Statements.{Exits, no_exits, in_loop, in_switch, some_labels, evaluated, tested, returned, initial, names_labels, emit_names, is_label, count_labels, behind, test_of, tests, placed, placed_on, stmt_labels, all_stmt_labels, emit_stmt, emit_stmts}
 use Rattle.emission_rules.specs.Units.{body_count, functions_labels, emit_function, emit_functions, globals_labels, emit_globals, entry_call, start_labels, emit_start}
 
@@ -108,7 +108,7 @@ module _ (add : PlacementsAdd) (label : ℕ) (up : ℕ → ℕ) (one : (n : ℕ)
   combination_none asg.ShiftRight t = record { none = refl }
   combination_none asg.UnsignedShiftRight t = record { none = refl }
 
-  called_none : (f : Callee) (count : ℕ) → NoLabels (called f count ∷ [])
+  called_none : (f : Callee) (count : ℕ) → NoLabels (call_line f count ∷ [])
   called_none (InUnit f) count = record { none = refl }
   called_none (Engine routine) count = record { none = refl }
 

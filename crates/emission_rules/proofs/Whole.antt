@@ -38,11 +38,11 @@ use Rattle.typing_rules.specs.Typed.{TypedExpr, TypedExprs, TypedName, TypedStmt
 use Rattle.typing_rules.specs.Cells.{cell_types, cells, is_captured}
 use Rattle.emission_rules.specs.Layout.{Layout, layout_of, names_cells, declared_cells, all_declared_cells, params_cells, item_cells, global_cells}
 use Rattle.emission_rules.specs.Operations.{beneath, bytes_of, dropped, literal_of, cell_kind, started, sum_kind, operation, combination}
-use Rattle.emission_rules.specs.Expressions.{Home, InFrame, InGlobals, increment, decrement, moved, home, at_home, read, write, name_code, member_code, prefix_code, postfix_code, Shortcut, WhereTrue, WhereFalse, Never, shortcut, shortcut_labels, binary_code, is_set, read_first, cells_first, constants, result_room, called, argument_labels, argument_code, count_arguments, arguments_cells, emit, emit_all, labels, all_labels}
+use Rattle.emission_rules.specs.Expressions.{Home, InFrame, InGlobals, increment, decrement, moved, home, at_home, read, write, name_code, member_code, prefix_code, postfix_code, Shortcut, WhereTrue, WhereFalse, Never, shortcut, shortcut_labels, binary_code, is_set, read_first, cells_first, constants, result_room, call_line, argument_labels, argument_code, count_arguments, arguments_cells, emit, emit_all, labels, all_labels}
 use Rattle.emission_rules.specs.Statements.{Exits, no_exits, in_loop, in_switch, some_labels, evaluated, tested, returned, initial, names_labels, emit_names, is_label, count_labels, behind, test_of, tests, is_default, otherwise, placed, placed_on, stmt_labels, all_stmt_labels, emit_stmt, emit_stmts}
 use Rattle.emission_rules.specs.Units.{unit_code, has_globals, body_count, functions_labels, emit_function, emit_functions, globals_labels, emit_globals, entry_call, start_labels, emit_start}
 use Rattle.nwq_value.specs.Engine.{IsConstant}
-use Rattle.emission_rules.specs.Bounds.{depth_limit, weight, all_weight, some_weight, names_weight, stmt_weight, all_stmt_weight, globals_weight, IsCell, IsType, IsCallee, IsOperator, IsExpr, AreExprs, IsSome, AreNames, IsStmt, AreStmts, AreItems, IsEntry, IsBounded}
+use Rattle.emission_rules.specs.Bounds.{frame_limit, weight, all_weight, some_weight, names_weight, stmt_weight, all_stmt_weight, globals_weight, IsCell, IsType, IsCallee, IsOperator, IsExpr, AreExprs, IsSome, AreNames, IsStmt, AreStmts, AreItems, IsEntry, IsBounded}
 use Rattle.emission_rules.specs.Laws.{IsWhole}
 use Rattle.emission_rules.proofs.Labels.{unit_placed}
 
@@ -211,7 +211,7 @@ globals_few bodies l (global i t xs ∷ is) are = omega (arith, names_few bodies
 -- ---- code that fits the whole
 
 module _ (lead : BothLeadOn) (whole : List Line) (total bodies : ℕ) (l : Layout) (has_place : (k : ℕ) → k < total → 1 ≤ placements whole k)
-    (few : bodies ≤ total) (shallow : l.globals ≤ depth_limit) where
+    (few : bodies ≤ total) (shallow : l.globals ≤ frame_limit) where
   record Good (lines : List Line) : Type 0 where
     fits : AllByRecursion (LineFits total) lines
     leads : LeadsOn whole lines
@@ -235,7 +235,7 @@ module _ (lead : BothLeadOn) (whole : List Line) (total bodies : ℕ) (l : Layou
   good_label k lt g = record { fits = (lt, g.fits); leads = record { jumps = (tt, g.leads.jumps); states = (λ h. absurd cc, g.leads.states) } }
 
   -- a state is stored in front of a jump
-  good_state : {lines : List Line} (depth k : ℕ) → depth ≤ depth_limit → k < total → Good lines
+  good_state : {lines : List Line} (depth k : ℕ) → depth ≤ frame_limit → k < total → Good lines
       → Good (Instruction (ops.StoreState (bytes_of l.globals) (bytes_of depth)) ∷ JumpTo Jmp k ∷ lines)
   unfolding has_type
   good_state depth k d lt g = record {
@@ -282,7 +282,7 @@ module _ (lead : BothLeadOn) (whole : List Line) (total bodies : ℕ) (l : Layou
   combination_good asg.ShiftRight t = good_op (record { is_op = record { row = record { kind = refl; sizes = tt }; fits = tt }; led = tt; state = refl }) good_end
   combination_good asg.UnsignedShiftRight t = good_op (record { is_op = record { row = record { kind = refl; sizes = tt }; fits = tt }; led = tt; state = refl }) good_end
 
-  called_good : (f : Callee) (count : ℕ) → IsCallee bodies count f → Good (called f count ∷ [])
+  called_good : (f : Callee) (count : ℕ) → IsCallee bodies count f → Good (call_line f count ∷ [])
   unfolding has_type
   called_good (InUnit f) count is = good_jump Jsr f (omega arith) good_end
   called_good (Engine routine) count is = good_op (record { is_op = record { row = record { kind = refl; sizes = tt }; fits = (omega (arith, is.0), omega (arith, is.1)) }; led = tt; state = refl }) good_end
@@ -317,7 +317,7 @@ module _ (lead : BothLeadOn) (whole : List Line) (total bodies : ℕ) (l : Layou
       good_both f (good_op (copying_emits whole) (good_jump Jz n (omega arith) (good_both g (good_op e (good_label n (omega arith) good_end)))))
   binary_good n Never op left right few e f g = good_both f (good_both g (good_op e good_end))
 
-  argument_good : (n depth : ℕ) (b : Bool) (value : List Line) → n + argument_labels b ≤ total → depth ≤ depth_limit → Good value → Good (argument_code l n depth b value)
+  argument_good : (n depth : ℕ) (b : Bool) (value : List Line) → n + argument_labels b ≤ total → depth ≤ frame_limit → Good value → Good (argument_code l n depth b value)
   argument_good n depth true value few d f = good_state depth n d (omega arith) (good_both f (good_both good_return (good_label n (omega arith) good_end)))
   argument_good n depth false value few d f = f
 
@@ -366,7 +366,7 @@ module _ (lead : BothLeadOn) (whole : List Line) (total bodies : ℕ) (l : Layou
   first_few false count = omega arith
 
   mutual
-    emit_good : (n depth : ℕ) (x : TypedExpr) → IsExpr bodies l x → n + labels x ≤ total → depth + weight x ≤ depth_limit → Good (emit l n depth x)
+    emit_good : (n depth : ℕ) (x : TypedExpr) → IsExpr bodies l x → n + labels x ≤ total → depth + weight x ≤ frame_limit → Good (emit l n depth x)
     emit_good n depth (literal k) is few d = good_op (constant_emits whole k is) good_end
     emit_good n depth (name t p) is few d = name_good depth t p is (omega arith)
     emit_good n depth (call t f xs ks) is few d =
@@ -387,7 +387,7 @@ module _ (lead : BothLeadOn) (whole : List Line) (total bodies : ℕ) (l : Layou
         (good_both (combination_good o t) (home_good (write l (depth + cells l.structs t) (cells l.structs t)) (home l x)
         (λ g. write_emits whole l (depth + cells l.structs t) (cells l.structs t) g (omega (arith, is.0.few)) (omega arith) is.0.few))))
 
-    all_good : (n depth : ℕ) (xs : TypedExprs) → AreExprs bodies l xs → n + all_labels xs ≤ total → depth + all_weight xs ≤ depth_limit → Good (emit_all l n depth xs)
+    all_good : (n depth : ℕ) (xs : TypedExprs) → AreExprs bodies l xs → n + all_labels xs ≤ total → depth + all_weight xs ≤ frame_limit → Good (emit_all l n depth xs)
     all_good n depth no_typed are few d = good_end
     all_good n depth (more_typed x xs) are few d =
         good_both (all_good n depth xs are.1 (omega arith) (omega arith))
@@ -396,26 +396,26 @@ module _ (lead : BothLeadOn) (whole : List Line) (total bodies : ℕ) (l : Layou
 
   -- ---- parts of statements
 
-  evaluated_good : (n depth : ℕ) (x : Option TypedExpr) → IsSome bodies l x → n + some_labels x ≤ total → depth + some_weight x ≤ depth_limit → Good (evaluated l n depth x)
+  evaluated_good : (n depth : ℕ) (x : Option TypedExpr) → IsSome bodies l x → n + some_labels x ≤ total → depth + some_weight x ≤ frame_limit → Good (evaluated l n depth x)
   evaluated_good n depth None is few d = good_end
   evaluated_good n depth (Some x) is few d = good_both (emit_good n depth x is few d) (dropped_good (cells l.structs (type_of x)) (omega (arith, few_cells x is)))
 
-  tested_good : (n depth : ℕ) (x : Option TypedExpr) → IsSome bodies l x → n + some_labels x ≤ total → depth + some_weight x ≤ depth_limit → Good (tested l n depth x)
+  tested_good : (n depth : ℕ) (x : Option TypedExpr) → IsSome bodies l x → n + some_labels x ≤ total → depth + some_weight x ≤ frame_limit → Good (tested l n depth x)
   tested_good n depth None is few d = good_op (one_emits whole) good_end
   tested_good n depth (Some x) is few d = emit_good n depth x is few d
 
-  returned_good : (n depth : ℕ) (x : Option TypedExpr) → IsSome bodies l x → n + some_labels x ≤ total → depth + some_weight x ≤ depth_limit → Good (returned l n depth x)
+  returned_good : (n depth : ℕ) (x : Option TypedExpr) → IsSome bodies l x → n + some_labels x ≤ total → depth + some_weight x ≤ frame_limit → Good (returned l n depth x)
   returned_good n depth None is few d = dropped_good depth (omega arith)
   returned_good n depth (Some x) is few d =
       good_both (emit_good n depth x is few d)
       (good_op (storing_emits whole (depth + 2 * cells l.structs (type_of x)) (cells l.structs (type_of x)) (omega (arith, few_cells x is)) (few_cells x is))
       (dropped_good (depth + cells l.structs (type_of x)) (omega (arith, few_cells x is))))
 
-  initial_good : (n depth : ℕ) (t : Ty) (x : Option TypedExpr) → IsType l t → IsSome bodies l x → n + some_labels x ≤ total → depth + some_weight x ≤ depth_limit → Good (initial l n depth t x)
+  initial_good : (n depth : ℕ) (t : Ty) (x : Option TypedExpr) → IsType l t → IsSome bodies l x → n + some_labels x ≤ total → depth + some_weight x ≤ frame_limit → Good (initial l n depth t x)
   initial_good n depth t None of is few d = started_good (cell_types l.structs t) of.kinds
   initial_good n depth t (Some x) of is few d = emit_good n depth x is few d
 
-  names_good : (n depth : ℕ) (xs : List TypedName) → AreNames bodies l xs → n + names_labels xs ≤ total → depth + names_weight xs ≤ depth_limit → Good (emit_names l n depth xs)
+  names_good : (n depth : ℕ) (xs : List TypedName) → AreNames bodies l xs → n + names_labels xs ≤ total → depth + names_weight xs ≤ frame_limit → Good (emit_names l n depth xs)
   names_good n depth [] are few d = good_end
   names_good n depth (x ∷ xs) are few d =
       good_both (initial_good n depth x.name.ty x.value are.0 are.1 (omega arith) (omega arith))
@@ -525,7 +525,7 @@ module _ (lead : BothLeadOn) (whole : List Line) (total bodies : ℕ) (l : Layou
     continues : c ≡ true → out.continue_to < total
 
   mutual
-    stmt_good : (out : Exits) (n depth : ℕ) (b c : Bool) (x : TypedStmt) → IsStmt bodies l b c x → Lead b c out → n + stmt_labels x ≤ total → depth + stmt_weight x ≤ depth_limit
+    stmt_good : (out : Exits) (n depth : ℕ) (b c : Bool) (x : TypedStmt) → IsStmt bodies l b c x → Lead b c out → n + stmt_labels x ≤ total → depth + stmt_weight x ≤ frame_limit
         → Good (emit_stmt l out n depth x)
     stmt_good out n depth b c (block i xs) is to few d =
         good_both (stmts_good out n depth b c None xs is to tt few d) (dropped_good (all_declared_cells l.structs xs) (omega (arith, all_declared_few b c xs is)))
@@ -570,7 +570,7 @@ module _ (lead : BothLeadOn) (whole : List Line) (total bodies : ℕ) (l : Layou
     stmt_good out n depth b c (default_label i) is to few d = good_end
 
     stmts_good : (out : Exits) (n depth : ℕ) (b c : Bool) (at : Option ℕ) (xs : TypedStmts) → AreStmts bodies l b c xs → Lead b c out → AtFits at xs → n + all_stmt_labels xs ≤ total
-        → depth + all_stmt_weight xs ≤ depth_limit → Good (emit_stmts l out n depth at xs)
+        → depth + all_stmt_weight xs ≤ frame_limit → Good (emit_stmts l out n depth at xs)
     stmts_good out n depth b c at no_stmt are to f few d = good_end
     stmts_good out n depth b c at (more_stmts x xs) are to f few d =
         good_both (placed_good at x xs f) (good_both (stmt_good out n depth b c x are.0 to (omega arith) (omega arith))
@@ -581,7 +581,7 @@ module _ (lead : BothLeadOn) (whole : List Line) (total bodies : ℕ) (l : Layou
   no_lead : Lead false false no_exits
   no_lead = record { breaks = λ h. absurd cc; continues = λ h. absurd cc }
 
-  function_good : (n f : ℕ) (ps : List TypedParameter) (body : TypedStmts) → AreStmts bodies l false false body → params_cells l.structs ps + all_stmt_weight body ≤ depth_limit
+  function_good : (n f : ℕ) (ps : List TypedParameter) (body : TypedStmts) → AreStmts bodies l false false body → params_cells l.structs ps + all_stmt_weight body ≤ frame_limit
       → n + all_stmt_labels body ≤ total → f < total → Good (emit_function l n f ps body)
   function_good n f ps body are d few lt =
       good_label f lt (good_both (stmts_good no_exits n (params_cells l.structs ps) false false None body are no_lead tt few d)
@@ -597,7 +597,7 @@ module _ (lead : BothLeadOn) (whole : List Line) (total bodies : ℕ) (l : Layou
   functions_good n f (function i t x ps (Some body) ∷ is) are few some =
       good_both (function_good n f ps body are.0 are.1 (omega arith) (omega arith)) (functions_good (n + all_stmt_labels body) (f + 1) is are.2 (omega arith) (omega arith))
 
-  globals_good : (n depth : ℕ) (is : List TypedItem) → AreItems bodies l is → n + globals_labels is ≤ total → depth + globals_weight is ≤ depth_limit → Good (emit_globals l n depth is)
+  globals_good : (n depth : ℕ) (is : List TypedItem) → AreItems bodies l is → n + globals_labels is ≤ total → depth + globals_weight is ≤ frame_limit → Good (emit_globals l n depth is)
   globals_good n depth [] are few d = good_end
   globals_good n depth (structure i x ls ∷ is) are few d = globals_good n depth is are few d
   globals_good n depth (constant i t x v ∷ is) are few d = globals_good n depth is are few d
@@ -611,7 +611,7 @@ module _ (lead : BothLeadOn) (whole : List Line) (total bodies : ℕ) (l : Layou
   entry_good (Main f) is = good_jump Jsr f (omega arith) good_end
   entry_good (Conditional f) is = good_op (cell_emits whole Int tt) (good_jump Jsr f (omega arith) (dropped_good 1 (omega arith)))
 
-  start_good : (n : ℕ) (b : Bool) (is : List TypedItem) (entry : EntryPoint) → AreItems bodies l is → IsEntry bodies entry → n + start_labels b is ≤ total → globals_weight is ≤ depth_limit
+  start_good : (n : ℕ) (b : Bool) (is : List TypedItem) (entry : EntryPoint) → AreItems bodies l is → IsEntry bodies entry → n + start_labels b is ≤ total → globals_weight is ≤ frame_limit
       → Good (emit_start l n b is entry)
   unfolding has_type
   start_good n false is entry are at few d = good_both (entry_good entry at) good_return
@@ -624,7 +624,7 @@ module _ (lead : BothLeadOn) (whole : List Line) (total bodies : ℕ) (l : Layou
       (good_both (dropped_good l.globals (omega arith)) good_return)))))))
 
   unit_good : (n m : ℕ) (b : Bool) (is : List TypedItem) (entry : EntryPoint) → AreItems bodies l is → IsEntry bodies entry → n + start_labels b is ≤ total
-      → m + functions_labels is ≤ total → body_count is ≤ total → globals_weight is ≤ depth_limit → Good (emit_start l n b is entry ++ emit_functions l m 0 is)
+      → m + functions_labels is ≤ total → body_count is ≤ total → globals_weight is ≤ frame_limit → Good (emit_start l n b is entry ++ emit_functions l m 0 is)
   unit_good n m b is entry are at f g h d = good_both (start_good n b is entry are at f d) (functions_good m 0 is are g (omega arith))
 
 -- ---- the end
@@ -667,7 +667,7 @@ unit_whole add lead close u bounded =
     let total : ℕ = (unit_code u).labels in
     let has_place : (k : ℕ) → k < total → 1 ≤ placements lines k = λ k lt. placed_some k total (placements lines k) (unit_placed add l b is u.entry k) lt in
     let few : body_count is ≤ total = omega arith in
-    let shallow : l.globals ≤ depth_limit = omega (arith, globals_few (body_count is) l is bounded.items, bounded.globals) in
+    let shallow : l.globals ≤ frame_limit = omega (arith, globals_few (body_count is) l is bounded.items, bounded.globals) in
     let good = unit_good lead lines total (body_count is) l has_place few shallow (body_count is) (body_count is + start_labels b is) b is u.entry
     bounded.items bounded.entry (omega arith) (omega arith) few bounded.globals in
     record {

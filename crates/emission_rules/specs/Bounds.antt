@@ -27,8 +27,8 @@ use Rattle.emission_rules.specs.Units.{body_count}
 -- ---- depth
 
 -- how many cells a frame may have, values under way among them
-abbrev pub depth_limit : ℕ
-depth_limit = 2 ^ 28
+abbrev pub frame_limit : ℕ
+frame_limit = 2 ^ 28
 
 -- at most so many cells lie above the frame while an expression's code runs
 abbrev mutual
@@ -167,7 +167,7 @@ module _ (bodies : ℕ) (l : Layout) where
   AreItems [] = Unit {0}
   AreItems (global m t xs ∷ is) = AreNames xs × AreItems is
   AreItems (function m t x ps (Some body) ∷ is) =
-      AreStmts false false body × (params_cells l.structs ps + all_stmt_weight body ≤ depth_limit) × AreItems is
+      AreStmts false false body × (params_cells l.structs ps + all_stmt_weight body ≤ frame_limit) × AreItems is
   AreItems (_ ∷ is) = AreItems is
 
 abbrev pub IsEntry : ℕ → EntryPoint → Type 0
@@ -176,5 +176,5 @@ IsEntry bodies (Conditional f) = f < bodies
 
 pub record IsBounded (u : TypedUnit) : Type 0 where
   pub items : AreItems (body_count u.items) (layout_of u) u.items
-  pub globals : globals_weight u.items ≤ depth_limit
+  pub globals : globals_weight u.items ≤ frame_limit
   pub entry : IsEntry (body_count u.items) u.entry

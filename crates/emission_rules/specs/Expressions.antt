@@ -142,9 +142,9 @@ result_room l (InUnit f) t = cell_types l.structs t
 result_room l (Engine routine) t = []
 
 -- a function's code begins at the label of its number
-abbrev pub called : Callee → ℕ → Line
-called (InUnit f) count = JumpTo Jsr f
-called (Engine routine) count = Instruction (ops.Action routine count)
+abbrev pub call_line : Callee → ℕ → Line
+call_line (InUnit f) count = JumpTo Jsr f
+call_line (Engine routine) count = Instruction (ops.Action routine count)
 
 abbrev pub argument_labels : Bool → ℕ
 argument_labels captured = if captured then 1 else 0
@@ -193,7 +193,7 @@ abbrev mutual
       started (result_room l f t)
       ++ (constants ks
       ++ (emit_all l n (depth + length (result_room l f t) + length ks) xs
-      ++ called f (count_arguments xs + length ks) ∷ []))
+      ++ call_line f (count_arguments xs + length ks) ∷ []))
   emit l n depth (member t x offset) =
       member_code l depth (cells l.structs (type_of x)) offset (cells l.structs t) (home l x) (emit l n depth x)
   emit l n depth (prefix t o x) = prefix_code l depth o (home l x) (emit l n depth x)

@@ -3,7 +3,7 @@ use Rattle.std.specs.Prelude.{◌≡◌, ◌≤◌, ℕ, map, nat_lt, if◌then�
 use Rattle.std.specs.List.{AllByRecursion}
 use Rattle.nwq_value.specs.Limits.{file_limit}
 use Rattle.ncs_code.specs.File.{header_size, file_length, IsCode}
-use Rattle.ncs_emit.specs.Labelled.{LabelledCode, placements, place_of, program}
+use Rattle.ncs_emit.specs.Labelled.{LabelledCode, placements, place_of_label, program}
 use Rattle.ncs_emit.specs.Leading.{LineFits, LeadsOn, Closes}
 use Rattle.ncs_emit.specs.Standing.{LinesStand}
 use Rattle.nss_tree.specs.Source.{SourceTree}
@@ -38,7 +38,7 @@ EachPlacedOnce = (u : TypedUnit) (label : ℕ) → placements (unit_code u).line
 -- So each line stands at its place in the program: an instruction begins there, and a jump leads to
 -- the place of its label.
 abbrev pub CodeStands : Type 0
-CodeStands = (u : TypedUnit) → LinesStand (program (unit_code u).lines) (place_of (unit_code u).lines) header_size (unit_code u).lines
+CodeStands = (u : TypedUnit) → LinesStand (program (unit_code u).lines) (place_of_label (unit_code u).lines) header_size (unit_code u).lines
 
 -- The code of a unit that keeps the bounds has spellings, leads on and closes.
 abbrev pub CodeIsWhole : Type 0

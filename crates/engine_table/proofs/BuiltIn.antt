@@ -16,15 +16,15 @@ use Rattle.engine_table.specs.Symbols.{placed_all}
 use Rattle.engine_table.specs.Grammar.{structure_of}
 use Rattle.engine_table.specs.Headers.{HasTable, IsRefused, OneHeader, Comes, nothing, function_fault, constant_fault, value_fault, same_const}
 use Rattle.engine_table.specs.Laws.{BuiltInHasTable}
-use Rattle.engine_table.specs.Turns.{turn, run}
+use Rattle.engine_table.specs.Turns.{turn, declarations_read}
 use Rattle.engine_table.proofs.Whole.{right}
 
 abbrev come_to : Option (List Lexeme) → Result EngineTable HeaderFault
 come_to None = Err NoMemory
-come_to (Some ts) = run (length header_text) nothing stage.Start (placed_all ts)
+come_to (Some ts) = declarations_read (length header_text) nothing stage.Start (placed_all ts)
 
 computed : come_to (tokens_in 6000 0 header_text) ≡ Ok header_table
-unfolding tokens_in pass form is_word header_text header_table header_constants header_routines run turn structure_of function_fault constant_fault value_fault same_const routine_named constant_named engine_role role_of_row role_without_row has_signature ty_eq tys_eq
+unfolding tokens_in pass form is_word header_text header_table header_constants header_routines declarations_read turn structure_of function_fault constant_fault value_fault same_const routine_named constant_named engine_role role_of_row role_without_row has_signature ty_eq tys_eq
 computed = refl
 
 none_come : ◌≡◌ {A = Result EngineTable HeaderFault} (Err NoMemory) (Ok header_table) → ⊥

@@ -27,7 +27,7 @@ use Rattle.engine_table.specs.Grammar as grammar
 use Rattle.engine_table.specs.Grammar.{sign_at, type_in, structure_of, defined, has_constants, constant_in, negative, brackets, Loose, Value, Heading, ParameterType, Parameter, Parameters, ParameterList, Line}
 use Rattle.engine_table.specs.Headers as header
 use Rattle.engine_table.specs.Headers.{function_fault, constant_fault, value_fault, differs, fault_unless, same_const, IsClear, Clashes}
-use Rattle.engine_table.specs.Turns.{Next, goes, misfit, unless_fault, typed, start_turn, given, type_of, param_turn, valued_turn, owner_fault, got, is_minus_of_int, loose_by, value_by, params_turn, behind_turn, turn}
+use Rattle.engine_table.specs.Turns.{TurnResult, goes, misfit, unless_fault, typed, start_turn, given, type_of, param_turn, valued_turn, owner_fault, got, is_minus_of_int, loose_by, value_by, params_turn, behind_turn, turn}
 use Rattle.engine_table.proofs.Progress.{two, three, four}
 
 -- a line was read, with the tokens behind it, or it broke at a token or at the end
@@ -35,7 +35,7 @@ pub data Outcome : Type 0 where
   Got : Declaration → List Placed → Outcome
   Broke : HeaderFault → List Placed → Outcome
 
-abbrev pub line_by : Next → Placed → List Placed → (Stage → Outcome) → Outcome
+abbrev pub line_by : TurnResult → Placed → List Placed → (Stage → Outcome) → Outcome
 line_by (Ok (Goes s)) x xs on = on s
 line_by (Ok (Gives d)) x xs on = Got d xs
 line_by (Err f) x xs on = Broke f (x ∷ xs)
@@ -45,10 +45,10 @@ line end k s [] = Broke (Header end) []
 line end k s (x ∷ xs) = line_by (turn k s x.place x.symbol) x xs (λ next. line end k next xs)
 
 -- one token: what its turn is decides
-pub by_turn : (end : ℕ) (k : Known) (s : Stage) (x : Placed) (xs : List Placed) (t : Next) → turn k s x.place x.symbol ≡ t
+pub by_turn : (end : ℕ) (k : Known) (s : Stage) (x : Placed) (xs : List Placed) (t : TurnResult) → turn k s x.place x.symbol ≡ t
     → line end k s (x ∷ xs) ≡ line_by t x xs (λ next. line end k next xs)
 unfolding line
-by_turn end k s x xs t e = ap (λ (z : Next). line_by z x xs (λ next. line end k next xs)) e
+by_turn end k s x xs t e = ap (λ (z : TurnResult). line_by z x xs (λ next. line end k next xs)) e
 
 module _ (end : ℕ) (k : Known) where
   abbrev read : Stage → List Placed → Outcome
@@ -195,7 +195,7 @@ module _ (end : ℕ) (k : Known) where
   param_reads : (s : Stage) (f : Function) (a : Param) (ys : List Placed) (p : ℕ) (g : Sign) (i : List Placed) → Enters s f → Ends g → Parameter k a ys
       → read s (ys ++ sign_at p g ∷ i) ≡ line_by (param_turn f a p (symbol.Sign g)) (sign_at p g) i (λ next. read next i)
   param_reads s f a ys p g i enters ends (grammar.required t xs type) =
-      type_reads s f t xs p g i enters type ∙ ap (λ (z : Next). line_by z (sign_at p g) i (λ next. read next i)) (ends.behind f t p)
+      type_reads s f t xs p g i enters type ∙ ap (λ (z : TurnResult). line_by z (sign_at p g) i (λ next. read next i)) (ends.behind f t p)
   param_reads s f a ys p g i enters ends (grammar.optional t c xs vs e type is) =
       ap (read s) (three xs (sign_at e sign.Equals) vs (sign_at p g ∷ i)) ∙ type_reads s f t xs e sign.Equals (vs ++ sign_at p g ∷ i) enters type
       ∙ value_ok (owner.Parameter f t) t c vs (sign_at p g) i refl is refl ends.value
@@ -214,12 +214,12 @@ module _ (end : ℕ) (k : Known) where
       → read (stage.Params (function_of d [])) (xs ++ sign_at c sign.Comma ∷ i) ≡ read (stage.Param (function_of d ps)) i
   params_comma d ps xs c i (grammar.one a ys is) few =
       param_reads (stage.Params (function_of d [])) (function_of d []) a ys c sign.Comma i (enters_params (function_of d [])) comma_ends is
-      ∙ ap (λ (z : Next). line_by z (sign_at c sign.Comma) i (λ next. read next i)) (comma_turn (function_of d []) a c few)
+      ∙ ap (λ (z : TurnResult). line_by z (sign_at c sign.Comma) i (λ next. read next i)) (comma_turn (function_of d []) a c few)
   params_comma d ps xs c i (grammar.more qs a ys zs e before few' is) few =
       ap (read (stage.Params (function_of d []))) (three ys (sign_at e sign.Comma) zs (sign_at c sign.Comma ∷ i))
       ∙ params_comma d qs ys e (zs ++ sign_at c sign.Comma ∷ i) before few'
       ∙ param_reads (stage.Param (function_of d qs)) (function_of d qs) a zs c sign.Comma i (enters_param (function_of d qs)) comma_ends is
-      ∙ ap (λ (z : Next). line_by z (sign_at c sign.Comma) i (λ next. read next i)) (comma_turn (function_of d qs) a c few)
+      ∙ ap (λ (z : TurnResult). line_by z (sign_at c sign.Comma) i (λ next. read next i)) (comma_turn (function_of d qs) a c few)
 
   params_close : (d : Declared) (ps : List Param) (xs : List Placed) (c : ℕ) (i : List Placed) → Parameters k ps xs
       → read (stage.Params (function_of d [])) (xs ++ sign_at c sign.Close ∷ i) ≡ read (stage.Closed (function_of d ps)) i

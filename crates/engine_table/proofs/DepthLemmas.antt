@@ -22,7 +22,7 @@ use Rattle.engine_table.specs.declared.stage.Turn.TheVariants.{Goes, Gives}
 use Rattle.engine_table.specs.Symbols.{Placed}
 use Rattle.engine_table.specs.Grammar.{type_in, structure_of, defined, has_constants, constant_in, negative, brackets}
 use Rattle.engine_table.specs.Headers.{function_fault, constant_fault}
-use Rattle.engine_table.specs.Turns.{Next, goes, misfit, unless_fault, typed, start_turn, hash_turn, define_turn, given, typed_turn, named_turn, type_of, param_turn, constant_end, valued_turn, owner_fault, got, minus_turn, is_minus_of_int, constant_turn, loose_by, value_by, params_turn, behind_turn, param_type_turn, closed_turn, turn, depth_of, Leads, Follows}
+use Rattle.engine_table.specs.Turns.{TurnResult, goes, misfit, unless_fault, typed, start_turn, hash_turn, define_turn, given, typed_turn, named_turn, type_of, param_turn, constant_end, valued_turn, owner_fault, got, minus_turn, is_minus_of_int, constant_turn, loose_by, value_by, params_turn, behind_turn, param_type_turn, closed_turn, turn, depth_of, Leads, Follows}
 use Rattle.engine_table.proofs.KeepLemmas.{same_turn, no_turn, unless, choose}
 
 -- a turn goes on inside so many brackets at most
@@ -30,10 +30,10 @@ abbrev IsInside : ℕ → Turn → Type 0
 IsInside n (Goes s) = depth_of s ≤ n
 IsInside n (Gives d) = Unit {0}
 
-is_turn : (n : ℕ) (a t : Turn) → ◌≡◌ {A = Next} (Ok a) (Ok t) → IsInside n a → IsInside n t
+is_turn : (n : ℕ) (a t : Turn) → ◌≡◌ {A = TurnResult} (Ok a) (Ok t) → IsInside n a → IsInside n t
 is_turn n a t e h = subst (IsInside n) (same_turn a t e) h
 
-flat : (n : ℕ) (s : Stage) (t : Turn) → depth_of s ≡ 0 → ◌≡◌ {A = Next} (Ok (Goes s)) (Ok t) → IsInside n t
+flat : (n : ℕ) (s : Stage) (t : Turn) → depth_of s ≡ 0 → ◌≡◌ {A = TurnResult} (Ok (Goes s)) (Ok t) → IsInside n t
 flat n s t none e = is_turn n (Goes s) t e (omega (arith, none))
 
 typed_flat : (n : ℕ) (to : Ty → Stage) (o : Option Ty) (p : ℕ) (t : Turn) → ((u : Ty) → depth_of (to u) ≡ 0) → typed to o p ≡ Ok t → IsInside n t

@@ -33,7 +33,7 @@ use Rattle.engine_table.specs.Names.{is_among}
 use Rattle.engine_table.specs.Symbols.{IsSymbol}
 use Rattle.engine_table.specs.Grammar.{word_type, type_in, structure_of, defined, has_constants, has_type, of_type, constant_in, negative, brackets}
 use Rattle.engine_table.specs.Headers.{function_fault, constant_fault, value_fault}
-use Rattle.engine_table.specs.Turns.{Next, goes, misfit, unless_fault, typed, start_turn, hash_turn, define_turn, given, typed_turn, named_turn, type_of, param_turn, constant_end, valued_turn, owner_fault, checked, got, minus_turn, is_minus_of_int, constant_turn, loose_by, value_by, params_turn, behind_turn, param_type_turn, closed_turn, turn, IsOpen, KeepsOwner, KeepsValue, KeepsStage, KeepsDeclaration, KeepsTurn}
+use Rattle.engine_table.specs.Turns.{TurnResult, goes, misfit, unless_fault, typed, start_turn, hash_turn, define_turn, given, typed_turn, named_turn, type_of, param_turn, constant_end, valued_turn, owner_fault, checked, got, minus_turn, is_minus_of_int, constant_turn, loose_by, value_by, params_turn, behind_turn, param_type_turn, closed_turn, turn, IsOpen, KeepsOwner, KeepsValue, KeepsStage, KeepsDeclaration, KeepsTurn}
 
 -- ---- no fault
 
@@ -64,20 +64,20 @@ free_constant k d e = (none_of (routine_named d.name k.table.routines) None _ e)
 
 -- ---- what a turn keeps
 
-pub same_turn : (a b : Turn) → ◌≡◌ {A = Next} (Ok a) (Ok b) → a ≡ b
+pub same_turn : (a b : Turn) → ◌≡◌ {A = TurnResult} (Ok a) (Ok b) → a ≡ b
 same_turn a b e = cc
 
-pub no_turn : (f : HeaderFault) (t : Turn) → ◌≡◌ {A = Next} (Err f) (Ok t) → ⊥
+pub no_turn : (f : HeaderFault) (t : Turn) → ◌≡◌ {A = TurnResult} (Err f) (Ok t) → ⊥
 no_turn f t e = cc
 
-is_turn : (k : Known) (a t : Turn) → ◌≡◌ {A = Next} (Ok a) (Ok t) → KeepsTurn k a → KeepsTurn k t
+is_turn : (k : Known) (a t : Turn) → ◌≡◌ {A = TurnResult} (Ok a) (Ok t) → KeepsTurn k a → KeepsTurn k t
 is_turn k a t e h = subst (KeepsTurn k) (same_turn a t e) h
 
-pub unless : (P : Type 0) (o : Option HeaderFault) (next : Next) (t : Turn) → (o ≡ None → next ≡ Ok t → P) → unless_fault o next ≡ Ok t → P
+pub unless : (P : Type 0) (o : Option HeaderFault) (next : TurnResult) (t : Turn) → (o ≡ None → next ≡ Ok t → P) → unless_fault o next ≡ Ok t → P
 unless P None next t h e = h refl e
 unless P (Some f) next t h e = absurd (no_turn f t e)
 
-pub choose : (P : Type 0) (b : Bool) (one other : Next) (t : Turn) → (b ≡ true → one ≡ Ok t → P) → (b ≡ false → other ≡ Ok t → P)
+pub choose : (P : Type 0) (b : Bool) (one other : TurnResult) (t : Turn) → (b ≡ true → one ≡ Ok t → P) → (b ≡ false → other ≡ Ok t → P)
     → (if b then one else other) ≡ Ok t → P
 choose P true one other t h g e = h refl e
 choose P false one other t h g e = g refl e

@@ -6,8 +6,8 @@ use Rattle.std.proofs.lemmas.List.Elements.{All-nil, All-cons, All-take, All-dro
 use Rattle.std.specs.Prelude.{All}
 use Rattle.std.specs.List.{list_all}
 use Rattle.nwq_value.specs.Limits.{text_limit}
-use Rattle.nss_lexer.specs.declared.token.Kind.{Kind}
-use Rattle.nss_lexer.specs.declared.token.Kind.TheVariants as kind
+use Rattle.nss_lexer.specs.declared.token.TokenKind.{TokenKind}
+use Rattle.nss_lexer.specs.declared.token.TokenKind.TheVariants as kind
 use Rattle.nss_lexer.specs.Lexemes.{IsLexeme}
 use Rattle.nss_lexer.specs.Splitting.{Lexeme, IsFirstToken, Splits, whole, broken, token}
 use Rattle.nss_lexer.specs.Strings.{string_value, ValuesAreBytes}
@@ -33,7 +33,7 @@ all_bytes (b ∷ bytes) e =
 -- ---- tokens
 
 module _ (values : ValuesAreBytes) where
-  lexeme_bounds : (k : Kind) (text : List ℕ) → IsLexeme k text → All IsByte text → IsSymbol (symbol_by k text)
+  lexeme_bounds : (k : TokenKind) (text : List ℕ) → IsLexeme k text → All IsByte text → IsSymbol (symbol_by k text)
   lexeme_bounds kind.Name text h all = tt
   lexeme_bounds kind.Word text h all = tt
   lexeme_bounds (kind.Int n) text h all = h.1

@@ -1,6 +1,6 @@
 -- However far a line has come, some tokens more make it whole.
 use Rattle.std.proofs.Common.{◌≡◌, ℕ, zero, suc, Bool, true, false, List, [], ◌∷◌, ◌++◌, codes, Option, Some, None, refl, sym, ap, subst, ◌∙◌, append_assoc, append-nil, arith}
-use Rattle.nss_lexer.specs.declared.token.Kind.TheVariants as kind
+use Rattle.nss_lexer.specs.declared.token.TokenKind.TheVariants as kind
 use Rattle.nss_lexer.specs.Lexemes.{is_word, is_sign, decimal}
 use Rattle.nss_lexer.specs.Strings.{string_value, quoted, closed}
 use Rattle.nwq_value.specs.declared.value.Ty.{Ty}

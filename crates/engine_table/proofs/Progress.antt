@@ -28,7 +28,7 @@ use Rattle.engine_table.specs.Grammar as grammar
 use Rattle.engine_table.specs.Grammar.{sign_at, type_in, structure_of, defined, has_constants, constant_in, negative, brackets, Loose, Value, Heading, ParameterType, Parameter, Parameters, ParameterList, Line}
 use Rattle.engine_table.specs.Headers as header
 use Rattle.engine_table.specs.Headers.{function_fault, constant_fault, value_fault, IsClear, Clashes, IsPrefix}
-use Rattle.engine_table.specs.Turns.{Next, goes, misfit, unless_fault, typed, start_turn, hash_turn, define_turn, given, typed_turn, named_turn, type_of, param_turn, constant_end, valued_turn, owner_fault, checked, got, minus_turn, is_minus_of_int, loose_by, value_by, params_turn, behind_turn, param_type_turn, closed_turn, turn}
+use Rattle.engine_table.specs.Turns.{TurnResult, goes, misfit, unless_fault, typed, start_turn, hash_turn, define_turn, given, typed_turn, named_turn, type_of, param_turn, constant_end, valued_turn, owner_fault, checked, got, minus_turn, is_minus_of_int, loose_by, value_by, params_turn, behind_turn, param_type_turn, closed_turn, turn}
 
 -- ---- regrouping
 
@@ -89,7 +89,7 @@ pub data Begun (k : Known) : Stage → List Placed → Type 0 where
       → Begun k (stage.Closed (record { head = d; params = ps })) (hs ++ sign_at o sign.Open ∷ (xs ++ sign_at c sign.Close ∷ []))
 
 -- what a token makes of the tokens before it
-abbrev pub After : Known → List Placed → Placed → Next → Type 0
+abbrev pub After : Known → List Placed → Placed → TurnResult → Type 0
 After k xs x (Ok (Goes s)) = Begun k s (xs ++ x ∷ [])
 After k xs x (Ok (Gives d)) = Line k d (xs ++ x ∷ []) × IsClear k d
 After k xs x (Err f) = (f ≡ Header x.place) ⊎ Clashes k f (xs ++ x ∷ [])
@@ -116,11 +116,11 @@ closed_of k g ws c (listed d ps hs xs o h free are) =
 
 -- ---- choices
 
-either : (P : Next → Type 0) (b : Bool) (x y : Next) → (b ≡ true → P x) → (b ≡ false → P y) → P (if b then x else y)
+either : (P : TurnResult → Type 0) (b : Bool) (x y : TurnResult) → (b ≡ true → P x) → (b ≡ false → P y) → P (if b then x else y)
 either P true x y h g = h refl
 either P false x y h g = g refl
 
-unless : (P : Next → Type 0) (o : Option HeaderFault) (next : Next) → (o ≡ None → P next) → ((f : HeaderFault) → o ≡ Some f → P (Err f)) → P (unless_fault o next)
+unless : (P : TurnResult → Type 0) (o : Option HeaderFault) (next : TurnResult) → (o ≡ None → P next) → ((f : HeaderFault) → o ≡ Some f → P (Err f)) → P (unless_fault o next)
 unless P None next h g = h refl
 unless P (Some f) next h g = g f refl
 

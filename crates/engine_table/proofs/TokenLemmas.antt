@@ -12,8 +12,8 @@ use Rattle.engine_table.specs.declared.stage.Turn.{Turn}
 use Rattle.engine_table.specs.declared.stage.Turn.TheVariants.{Goes, Gives}
 use Rattle.engine_table.specs.Symbols.{Placed, at, placed_of, placed_all}
 use Rattle.engine_table.specs.Headers as header
-use Rattle.engine_table.specs.Headers.{Fails, Comes, HasTable, IsFaulty, IsRefused, IsAnswer, after, nothing}
-use Rattle.engine_table.specs.Turns.{Next, known_of, turn_at, ended, run_by, run, Leads, Follows, Answers, KeepsStage, HasTokens, HasTokensUpTo, depth_of}
+use Rattle.engine_table.specs.Headers.{HeaderFails, Comes, HasTable, IsFaulty, IsRefused, IsAnswer, after, nothing}
+use Rattle.engine_table.specs.Turns.{TurnResult, known_of, turn_at, ended, run_by, declarations_read, Leads, Follows, Answers, KeepsStage, HasTokens, HasTokensUpTo, depth_of}
 use Rattle.engine_table.specs.Held.{IsCounted}
 use Rattle.engine_table.proofs.DepthLemmas.{follows_depth}
 use Rattle.engine_table.proofs.Whole.{right, IsClash, clash_is}
@@ -50,7 +50,7 @@ falls bytes at t first = omega (arith, first.from, first.some, first.within)
 pub record ReadsOn (bytes : List ℕ) (r : Reader) (left : List Lexeme) (ending : Option ℕ) : Type 0 where
   pub all : List Lexeme
   pub are : Splits bytes 0 0 all ending
-  pub same : run (length bytes) nothing stage.Start (placed_all all) ≡ run (length bytes) (known_of r.known) r.stage (placed_all left)
+  pub same : declarations_read (length bytes) nothing stage.Start (placed_all all) ≡ declarations_read (length bytes) (known_of r.known) r.stage (placed_all left)
 
 -- whatever tokens are left, the text has tokens that come to what these come to
 pub record IsRead (bytes : List ℕ) (at : ℕ) (r : Reader) : Type 0 where
@@ -66,8 +66,8 @@ read_none bytes r known start counted = record {
   leads = λ left ending split. record {
     all = left;
     are = split;
-    same = ap (λ (z : Known). run (length bytes) z stage.Start (placed_all left)) (sym known)
-        ∙ ap (λ (z : Stage). run (length bytes) (known_of r.known) z (placed_all left)) (sym start);
+    same = ap (λ (z : Known). declarations_read (length bytes) z stage.Start (placed_all left)) (sym known)
+        ∙ ap (λ (z : Stage). declarations_read (length bytes) (known_of r.known) z (placed_all left)) (sym start);
   };
   keeps = subst (KeepsStage (known_of r.known)) (sym start) tt;
   counted = counted;
@@ -75,14 +75,14 @@ read_none bytes r known start counted = record {
 }
 
 led : (end : ℕ) (k : Known) (xs : List Placed) (what : Turn) (k' : Known) (s' : Stage) → Leads k what k' s'
-    → run_by (Ok what) (λ n. run end k n xs) (λ g. run end (after k g) stage.Start xs) ≡ run end k' s' xs
-led end k xs (Goes n) k' s' leads = ap (λ (z : Stage). run end k z xs) (sym leads.1) ∙ ap (λ (z : Known). run end z s' xs) (sym leads.0)
-led end k xs (Gives d) k' s' leads = ap (λ (z : Known). run end z stage.Start xs) (sym leads.0) ∙ ap (λ (z : Stage). run end k' z xs) (sym leads.1)
+    → run_by (Ok what) (λ n. declarations_read end k n xs) (λ g. declarations_read end (after k g) stage.Start xs) ≡ declarations_read end k' s' xs
+led end k xs (Goes n) k' s' leads = ap (λ (z : Stage). declarations_read end k z xs) (sym leads.1) ∙ ap (λ (z : Known). declarations_read end z s' xs) (sym leads.0)
+led end k xs (Gives d) k' s' leads = ap (λ (z : Known). declarations_read end z stage.Start xs) (sym leads.0) ∙ ap (λ (z : Stage). declarations_read end k' z xs) (sym leads.1)
 
-followed : (end : ℕ) (k : Known) (s : Stage) (x : Placed) (xs : List Placed) (k' : Known) (s' : Stage) → Follows k s x k' s' → run end k s (x ∷ xs) ≡ run end k' s' xs
-unfolding run
+followed : (end : ℕ) (k : Known) (s : Stage) (x : Placed) (xs : List Placed) (k' : Known) (s' : Stage) → Follows k s x k' s' → declarations_read end k s (x ∷ xs) ≡ declarations_read end k' s' xs
+unfolding declarations_read
 followed end k s x xs k' s' f =
-    ap (λ (z : Next). run_by z (λ n. run end k n xs) (λ g. run end (after k g) stage.Start xs)) f.is ∙ led end k xs f.what k' s' f.leads
+    ap (λ (z : TurnResult). run_by z (λ n. declarations_read end k n xs) (λ g. declarations_read end (after k g) stage.Start xs)) f.is ∙ led end k xs f.what k' s' f.leads
 
 pub read_more : (bytes : List ℕ) (at : ℕ) (r next : Reader) (t : Lexeme) → IsRead bytes at r → IsFirst bytes 0 at (Found t)
     → Follows (known_of r.known) r.stage (placed_of t) (known_of next.known) next.stage → KeepsStage (known_of next.known) next.stage → IsCounted next.known
@@ -116,7 +116,7 @@ clash_fault (Header p) h = absurd h
 clash_fault (Bad p) h = absurd h
 clash_fault NoMemory h = absurd h
 
-fails_fault : (end : ℕ) (k : Known) (f : HeaderFault) (xs : List Placed) → Fails end k f xs → IsToken_fault f
+fails_fault : (end : ℕ) (k : Known) (f : HeaderFault) (xs : List Placed) → HeaderFails end k f xs → IsToken_fault f
 fails_fault end k f xs (header.later j d g ys zs is clear rest) = fails_fault end (after k d) f zs rest
 fails_fault end k f xs (header.clash j g ys zs clash) = clash_fault f (clash_is k f ys clash)
 fails_fault end k f xs (header.misfit j ys x zs m) = tt
@@ -129,24 +129,24 @@ refused_by bytes (Many p) h is = is
 refused_by bytes (Bad p) h is = absurd h
 refused_by bytes NoMemory h is = tt
 
-answer_ok : (bytes : List ℕ) (all : List Lexeme) (table : EngineTable) → AreTokens bytes 0 all → run (length bytes) nothing stage.Start (placed_all all) ≡ Ok table → HasTable bytes table
+answer_ok : (bytes : List ℕ) (all : List Lexeme) (table : EngineTable) → AreTokens bytes 0 all → declarations_read (length bytes) nothing stage.Start (placed_all all) ≡ Ok table → HasTable bytes table
 answer_ok bytes all table are e = (all, are, subst (Comes (length bytes) nothing (placed_all all)) e (right (length bytes) nothing (placed_all all)))
 
-answer_err : (bytes : List ℕ) (all : List Lexeme) (f : HeaderFault) → AreTokens bytes 0 all → run (length bytes) nothing stage.Start (placed_all all) ≡ Err f → IsRefused bytes f
+answer_err : (bytes : List ℕ) (all : List Lexeme) (f : HeaderFault) → AreTokens bytes 0 all → declarations_read (length bytes) nothing stage.Start (placed_all all) ≡ Err f → IsRefused bytes f
 answer_err bytes all f are e =
-    let fails : Fails (length bytes) nothing f (placed_all all) = subst (Comes (length bytes) nothing (placed_all all)) e (right (length bytes) nothing (placed_all all)) in
+    let fails : HeaderFails (length bytes) nothing f (placed_all all) = subst (Comes (length bytes) nothing (placed_all all)) e (right (length bytes) nothing (placed_all all)) in
     refused_by bytes f (fails_fault (length bytes) nothing f (placed_all all) fails) (all, are, fails)
 
 -- a text that ends here
 pub read_all_ok : (bytes : List ℕ) (at : ℕ) (r : Reader) (result : Result EngineTable HeaderFault) → IsRead bytes at r → IsFirst bytes 0 at AtEnd
     → result ≡ ended (length bytes) (known_of r.known) r.stage → IfOk result (HasTable bytes)
-unfolding run
+unfolding declarations_read
 read_all_ok bytes at r (Ok table) so first is = let on = so.leads [] None (whole at first) in answer_ok bytes on.all table on.are (on.same ∙ sym is)
 read_all_ok bytes at r (Err f) so first is = tt
 
 pub read_all_err : (bytes : List ℕ) (at : ℕ) (r : Reader) (result : Result EngineTable HeaderFault) → IsRead bytes at r → IsFirst bytes 0 at AtEnd
     → result ≡ ended (length bytes) (known_of r.known) r.stage → IfErr result (IsRefused bytes)
-unfolding run
+unfolding declarations_read
 read_all_err bytes at r (Ok table) so first is = tt
 read_all_err bytes at r (Err f) so first is = let on = so.leads [] None (whole at first) in answer_err bytes on.all f on.are (on.same ∙ sym is)
 
@@ -162,12 +162,12 @@ read_bad_behind bytes at place r t so first has =
 
 broken_at : (bytes : List ℕ) (at : ℕ) (r : Reader) (t : Lexeme) (f : HeaderFault) → IsRead bytes at r → IsFirst bytes 0 at (Found t)
     → HasTokens bytes t.end → turn_at (known_of r.known) r.stage (placed_of t) ≡ Err f → IsRefused bytes f
-unfolding run
+unfolding declarations_read
 broken_at bytes at r t f so first has e =
     let on = so.leads (t ∷ has.tokens) None (token at t has.tokens None first has.are) in
     let rest = placed_all has.tokens in
     answer_err bytes on.all f on.are
-    (on.same ∙ ap (λ (z : Next). run_by z (λ n. run (length bytes) (known_of r.known) n rest) (λ g. run (length bytes) (after (known_of r.known) g) stage.Start rest)) e)
+    (on.same ∙ ap (λ (z : TurnResult). run_by z (λ n. declarations_read (length bytes) (known_of r.known) n rest) (λ g. declarations_read (length bytes) (after (known_of r.known) g) stage.Start rest)) e)
 
 -- a token at which it breaks, with no bad byte behind it
 pub read_broken : (bytes : List ℕ) (at : ℕ) (r : Reader) (t : Lexeme) (f : HeaderFault) → IsRead bytes at r → IsFirst bytes 0 at (Found t)
@@ -197,7 +197,7 @@ answered bytes ts (Err f) are fails =
 
 some_by : (bytes : List ℕ) (ts : List Lexeme) (ending : Option ℕ) → Splits bytes 0 0 ts ending → (answer : Result EngineTable HeaderFault) × IsAnswer bytes answer
 some_by bytes ts None are =
-    let o = run (length bytes) nothing stage.Start (placed_all ts) in (o, answered bytes ts o are (right (length bytes) nothing (placed_all ts)))
+    let o = declarations_read (length bytes) nothing stage.Start (placed_all ts) in (o, answered bytes ts o are (right (length bytes) nothing (placed_all ts)))
 some_by bytes ts (Some place) are = (Err (Bad place), ((λ e. cc), (ts, are)))
 
 pub some_answer : SomeSplit → (bytes : List ℕ) → (answer : Result EngineTable HeaderFault) × IsAnswer bytes answer

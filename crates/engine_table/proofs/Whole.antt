@@ -19,8 +19,8 @@ use Rattle.engine_table.specs.Symbols.{Placed, placed_all}
 use Rattle.engine_table.specs.Grammar as grammar
 use Rattle.engine_table.specs.Grammar.{sign_at, structure_of, has_constants, Loose, Value, Heading, Line}
 use Rattle.engine_table.specs.Headers as header
-use Rattle.engine_table.specs.Headers.{function_fault, constant_fault, value_fault, differs, fault_unless, same_const, IsClear, Clashes, IsPrefix, IsInside, IsMisfit, Lines, Fails, Comes, HasTable, IsFaulty, IsRefused, IsAnswer, OneHeader, after, after_all, nothing}
-use Rattle.engine_table.specs.Turns.{Next, turn, ended, run_by, run, HasBegun}
+use Rattle.engine_table.specs.Headers.{function_fault, constant_fault, value_fault, differs, fault_unless, same_const, IsClear, Clashes, IsPrefix, IsInside, IsMisfit, Lines, HeaderFails, Comes, HasTable, IsFaulty, IsRefused, IsAnswer, OneHeader, after, after_all, nothing}
+use Rattle.engine_table.specs.Turns.{TurnResult, turn, ended, run_by, declarations_read, HasBegun}
 use Rattle.engine_table.proofs.Progress as progress
 use Rattle.engine_table.proofs.Progress.{two, three, four, moved, Begun, After, step, clear_made}
 use Rattle.engine_table.proofs.Prefixes.{begun_prefix, unspelled}
@@ -188,7 +188,7 @@ onward end k s next before x xs by (broke to ys y zs f same begun cause e) =
     (subst (λ (z : List Placed). (f ≡ Header y.place) ⊎ Clashes k f (z ++ y ∷ [])) (two before x ys) cause) (λ i. by (ys ++ y ∷ i) ∙ e i)
 
 walk_by : (end : ℕ) (k : Known) (s : Stage) (before : List Placed) (x : Placed) (xs : List Placed) → Begun k s before
-    → ((next : Stage) (bs : List Placed) → Begun k next bs → Walk end k next bs xs) → (t : Next) → turn k s x.place x.symbol ≡ t → After k before x t
+    → ((next : Stage) (bs : List Placed) → Begun k next bs → Walk end k next bs xs) → (t : TurnResult) → turn k s x.place x.symbol ≡ t → After k before x t
     → Walk end k s before (x ∷ xs)
 walk_by end k s before x xs begun more (Ok (Goes next)) e is =
     onward end k s next before x xs (λ i. by_turn end k s x i (Ok (Goes next)) e) (more next (before ++ x ∷ []) is)
@@ -237,7 +237,7 @@ inside_reached end k xs inside = inside_by end k xs inside (walk end k xs stage.
 whole_prefix : (k : Known) (d : Declaration) (xs : List Placed) → Line k d xs → IsPrefix k xs
 whole_prefix k d xs is = ([], d, subst (Line k d) (sym (append-nil xs)) is)
 
-misfit_by : (end : ℕ) (k : Known) (xs : List Placed) (x : Placed) (ys : List Placed) (r : Reached end k xs) (t : Next) → IsMisfit k xs x → turn k r.to x.place x.symbol ≡ t
+misfit_by : (end : ℕ) (k : Known) (xs : List Placed) (x : Placed) (ys : List Placed) (r : Reached end k xs) (t : TurnResult) → IsMisfit k xs x → turn k r.to x.place x.symbol ≡ t
     → After k xs x t → line end k stage.Start (xs ++ x ∷ ys) ≡ Broke (Header x.place) (x ∷ ys)
 misfit_by end k xs x ys r (Ok (Goes next)) m e is = absurd (m.through (unspelled k (xs ++ x ∷ []) (begun_prefix k next (xs ++ x ∷ []) is)))
 misfit_by end k xs x ys r (Ok (Gives d)) m e is = absurd (m.through (whole_prefix k d (xs ++ x ∷ []) is.0))
@@ -280,21 +280,21 @@ has_begun k s xs x begun = by (begun_stage k s (xs ++ x ∷ []) begun) where
   by (inl h) = h
   by (inr e) = absurd (no_empty xs x [] e)
 
-got_by : (end : ℕ) (k : Known) (s : Stage) (x : Placed) (xs : List Placed) (d : Declaration) (r : List Placed) (t : Next) → turn k s x.place x.symbol ≡ t
-    → ((next : Stage) → line end k next xs ≡ Got d r → run end k next xs ≡ run end (after k d) stage.Start r)
-    → line_by t x xs (λ next. line end k next xs) ≡ Got d r → run end k s (x ∷ xs) ≡ run end (after k d) stage.Start r
-unfolding run
+got_by : (end : ℕ) (k : Known) (s : Stage) (x : Placed) (xs : List Placed) (d : Declaration) (r : List Placed) (t : TurnResult) → turn k s x.place x.symbol ≡ t
+    → ((next : Stage) → line end k next xs ≡ Got d r → declarations_read end k next xs ≡ declarations_read end (after k d) stage.Start r)
+    → line_by t x xs (λ next. line end k next xs) ≡ Got d r → declarations_read end k s (x ∷ xs) ≡ declarations_read end (after k d) stage.Start r
+unfolding declarations_read
 got_by end k s x xs d r (Ok (Goes next)) e more is =
-    ap (λ (t : Next). run_by t (λ n. run end k n xs) (λ g. run end (after k g) stage.Start xs)) e ∙ more next is
+    ap (λ (t : TurnResult). run_by t (λ n. declarations_read end k n xs) (λ g. declarations_read end (after k g) stage.Start xs)) e ∙ more next is
 got_by end k s x xs d r (Ok (Gives g)) e more is =
     let parts : (g ≡ d) × (xs ≡ r) = same g d xs r is in
-    ap (λ (t : Next). run_by t (λ n. run end k n xs) (λ g. run end (after k g) stage.Start xs)) e
-    ∙ ap (λ (z : Declaration). run end (after k z) stage.Start xs) parts.0 ∙ ap (run end (after k d) stage.Start) parts.1 where
+    ap (λ (t : TurnResult). run_by t (λ n. declarations_read end k n xs) (λ g. declarations_read end (after k g) stage.Start xs)) e
+    ∙ ap (λ (z : Declaration). declarations_read end (after k z) stage.Start xs) parts.0 ∙ ap (declarations_read end (after k d) stage.Start) parts.1 where
       same : (g d : Declaration) (xs r : List Placed) → Got g xs ≡ Got d r → (g ≡ d) × (xs ≡ r)
       same g d xs r e = (cc, cc)
 got_by end k s x xs d r (Err f) e more is = absurd (got_broke d f r (x ∷ xs) (sym is))
 
-run_got : (end : ℕ) (k : Known) (xs : List Placed) (s : Stage) (d : Declaration) (r : List Placed) → line end k s xs ≡ Got d r → run end k s xs ≡ run end (after k d) stage.Start r
+run_got : (end : ℕ) (k : Known) (xs : List Placed) (s : Stage) (d : Declaration) (r : List Placed) → line end k s xs ≡ Got d r → declarations_read end k s xs ≡ declarations_read end (after k d) stage.Start r
 unfolding line
 run_got end k [] s d r e = absurd (got_broke d (Header end) r [] (sym e))
 run_got end k (x ∷ xs) s d r e = got_by end k s x xs d r (turn k s x.place x.symbol) refl (λ next e'. run_got end k xs next d r e') e
@@ -303,35 +303,35 @@ ended_at : (end : ℕ) (k : Known) (s : Stage) → HasBegun s → ended end k s 
 ended_at end k stage.Start h = absurd h
 ended_at end k s h = refl
 
-broke_by : (end : ℕ) (k : Known) (s : Stage) (before : List Placed) (x : Placed) (xs : List Placed) (f : HeaderFault) (left : List Placed) (t : Next) → turn k s x.place x.symbol ≡ t
+broke_by : (end : ℕ) (k : Known) (s : Stage) (before : List Placed) (x : Placed) (xs : List Placed) (f : HeaderFault) (left : List Placed) (t : TurnResult) → turn k s x.place x.symbol ≡ t
     → After k before x t
-    → ((next : Stage) (bs : List Placed) → Begun k next bs → HasBegun next → line end k next xs ≡ Broke f left → run end k next xs ≡ Err f)
-    → line_by t x xs (λ next. line end k next xs) ≡ Broke f left → run end k s (x ∷ xs) ≡ Err f
-unfolding run
+    → ((next : Stage) (bs : List Placed) → Begun k next bs → HasBegun next → line end k next xs ≡ Broke f left → declarations_read end k next xs ≡ Err f)
+    → line_by t x xs (λ next. line end k next xs) ≡ Broke f left → declarations_read end k s (x ∷ xs) ≡ Err f
+unfolding declarations_read
 broke_by end k s before x xs f left (Ok (Goes next)) e is more h =
-    ap (λ (t : Next). run_by t (λ n. run end k n xs) (λ g. run end (after k g) stage.Start xs)) e
+    ap (λ (t : TurnResult). run_by t (λ n. declarations_read end k n xs) (λ g. declarations_read end (after k g) stage.Start xs)) e
     ∙ more next (before ++ x ∷ []) is (has_begun k next before x is) h
 broke_by end k s before x xs f left (Ok (Gives d)) e is more h = absurd (got_broke d f xs left h)
 broke_by end k s before x xs f left (Err g) e is more h =
-    ap (λ (t : Next). run_by t (λ n. run end k n xs) (λ g. run end (after k g) stage.Start xs)) e ∙ ap (λ (z : HeaderFault). Err z) (same_break g f (x ∷ xs) left h)
+    ap (λ (t : TurnResult). run_by t (λ n. declarations_read end k n xs) (λ g. declarations_read end (after k g) stage.Start xs)) e ∙ ap (λ (z : HeaderFault). Err z) (same_break g f (x ∷ xs) left h)
 
 run_broke_in : (end : ℕ) (k : Known) (xs : List Placed) (s : Stage) (before : List Placed) (f : HeaderFault) (left : List Placed) → Begun k s before → HasBegun s
-    → line end k s xs ≡ Broke f left → run end k s xs ≡ Err f
-unfolding line run
+    → line end k s xs ≡ Broke f left → declarations_read end k s xs ≡ Err f
+unfolding line declarations_read
 run_broke_in end k [] s before f left begun h e = ended_at end k s h ∙ ap (λ (z : HeaderFault). Err z) (same_break (Header end) f [] left e)
 run_broke_in end k (x ∷ xs) s before f left begun h e =
     broke_by end k s before x xs f left (turn k s x.place x.symbol) refl (step k s before x.place x.symbol begun)
     (λ next bs b h' e'. run_broke_in end k xs next bs f left b h' e') e
 
-run_broke : (end : ℕ) (k : Known) (xs : List Placed) (f : HeaderFault) (left : List Placed) → xs ≢ [] → line end k stage.Start xs ≡ Broke f left → run end k stage.Start xs ≡ Err f
+run_broke : (end : ℕ) (k : Known) (xs : List Placed) (f : HeaderFault) (left : List Placed) → xs ≢ [] → line end k stage.Start xs ≡ Broke f left → declarations_read end k stage.Start xs ≡ Err f
 unfolding line
 run_broke end k [] f left some e = absurd (some refl)
 run_broke end k (x ∷ xs) f left some e =
     broke_by end k stage.Start [] x xs f left (turn k stage.Start x.place x.symbol) refl (step k stage.Start [] x.place x.symbol progress.start)
     (λ next bs b h' e'. run_broke_in end k xs next bs f left b h' e') e
 
-lines_run : (end : ℕ) (k : Known) (ds : List Declaration) (xs : List Placed) → Lines k ds xs → run end k stage.Start xs ≡ Ok (after_all k ds).table
-unfolding run
+lines_run : (end : ℕ) (k : Known) (ds : List Declaration) (xs : List Placed) → Lines k ds xs → declarations_read end k stage.Start xs ≡ Ok (after_all k ds).table
+unfolding declarations_read
 lines_run end k ds xs (header.none j) = refl
 lines_run end k ds xs (header.more j d es ys zs is clear rest) =
     run_got end k (ys ++ zs) stage.Start d zs (line_got end k d ys zs is clear) ∙ lines_run end (after k d) es zs rest
@@ -340,7 +340,7 @@ clash_some : (end : ℕ) (k : Known) (f : HeaderFault) (xs ys : List Placed) →
 unfolding line
 clash_some end k f xs ys clash = λ e. no_misfit k f xs ys end end [] clash (ap (line end k stage.Start) e)
 
-fails_run : (end : ℕ) (k : Known) (f : HeaderFault) (xs : List Placed) → Fails end k f xs → run end k stage.Start xs ≡ Err f
+fails_run : (end : ℕ) (k : Known) (f : HeaderFault) (xs : List Placed) → HeaderFails end k f xs → declarations_read end k stage.Start xs ≡ Err f
 fails_run end k f xs (header.later j d g ys zs is clear rest) =
     run_got end k (ys ++ zs) stage.Start d zs (line_got end k d ys zs is clear) ∙ fails_run end (after k d) f zs rest
 fails_run end k f xs (header.clash j g ys zs clash) =
@@ -370,14 +370,14 @@ got_shorter : (end : ℕ) (k : Known) (xs : List Placed) (s : Stage) (d : Declar
 unfolding line
 got_shorter end k [] s d r e = absurd (got_broke d (Header end) r [] (sym e))
 got_shorter end k (x ∷ xs) s d r e = by (turn k s x.place x.symbol) (λ next e'. got_shorter end k xs next d r e') e where
-  by : (t : Next) → ((next : Stage) → line end k next xs ≡ Got d r → length r < length xs) → line_by t x xs (λ next. line end k next xs) ≡ Got d r → length r < suc (length xs)
+  by : (t : TurnResult) → ((next : Stage) → line end k next xs ≡ Got d r → length r < length xs) → line_by t x xs (λ next. line end k next xs) ≡ Got d r → length r < suc (length xs)
   by (Ok (Goes next)) more e = let h = more next e in omega (arith, h)
   by (Ok (Gives g)) more e = let h = ap length (same_got g d xs r e) in omega (arith, h)
   by (Err f) more e = absurd (got_broke d f r (x ∷ xs) (sym e))
 
-right_by : (end : ℕ) (k : Known) (xs : List Placed) → ((j : Known) (ys : List Placed) → length ys < length xs → Comes end j ys (run end j stage.Start ys))
-    → Walk end k stage.Start [] xs → Comes end k xs (run end k stage.Start xs)
-unfolding line run
+right_by : (end : ℕ) (k : Known) (xs : List Placed) → ((j : Known) (ys : List Placed) → length ys < length xs → Comes end j ys (declarations_read end j stage.Start ys))
+    → Walk end k stage.Start [] xs → Comes end k xs (declarations_read end k stage.Start xs)
+unfolding line declarations_read
 right_by end k [] more (reached to begun e) = ([], header.none k, refl)
 right_by end k (x ∷ xs) more (reached to begun e) =
     let breaks : line end k stage.Start (x ∷ xs) ≡ Broke (Header end) [] = ap (line end k stage.Start) (sym (append-nil (x ∷ xs))) ∙ e [] in
@@ -386,12 +386,12 @@ right_by end k (x ∷ xs) more (reached to begun e) =
     (header.short k (x ∷ xs) (λ none. no_empty [] x xs none) inside)
 right_by end k xs more (whole d ys zs same is clear e) =
     let reads : line end k stage.Start xs ≡ Got d zs = ap (line end k stage.Start) same ∙ e zs in
-    come_as end k xs (ys ++ zs) _ (run end (after k d) stage.Start zs) same (run_got end k xs stage.Start d zs reads)
-    (prepend end k d ys zs (run end (after k d) stage.Start zs) is clear (more (after k d) zs (got_shorter end k xs stage.Start d zs reads)))
+    come_as end k xs (ys ++ zs) _ (declarations_read end (after k d) stage.Start zs) same (run_got end k xs stage.Start d zs reads)
+    (prepend end k d ys zs (declarations_read end (after k d) stage.Start zs) is clear (more (after k d) zs (got_shorter end k xs stage.Start d zs reads)))
 right_by end k xs more (broke to ys x zs f same begun (inl is) e) =
     let reads : line end k stage.Start (ys ++ x ∷ zs) ≡ Broke (Header x.place) (x ∷ zs) = e zs ∙ ap (λ (z : HeaderFault). Broke z (x ∷ zs)) is in
     come_as end k xs (ys ++ x ∷ zs) _ (Err (Header x.place)) same
-    (ap (run end k stage.Start) same ∙ run_broke end k (ys ++ x ∷ zs) (Header x.place) (x ∷ zs) (λ none. no_empty ys x zs none) reads)
+    (ap (declarations_read end k stage.Start) same ∙ run_broke end k (ys ++ x ∷ zs) (Header x.place) (x ∷ zs) (λ none. no_empty ys x zs none) reads)
     (header.misfit k ys x zs (record {
       inside = inside_misfit end k to ys (x ∷ zs) x.place (x ∷ zs) begun reads;
       through = λ prefix. let (rest, d, line_is) = prefix in
@@ -401,19 +401,19 @@ right_by end k xs more (broke to ys x zs f same begun (inl is) e) =
     }))
 right_by end k xs more (broke to ys x zs f same begun (inr clash) e) =
     come_as end k xs ((ys ++ x ∷ []) ++ zs) _ (Err f) (same ∙ sym (two ys x zs))
-    (ap (run end k stage.Start) same ∙ run_broke end k (ys ++ x ∷ zs) f (x ∷ zs) (λ none. no_empty ys x zs none) (e zs))
+    (ap (declarations_read end k stage.Start) same ∙ run_broke end k (ys ++ x ∷ zs) f (x ∷ zs) (λ none. no_empty ys x zs none) (e zs))
     (header.clash k f (ys ++ x ∷ []) zs clash)
 
-right_in : (n : ℕ) (end : ℕ) (k : Known) (xs : List Placed) → length xs < n → Comes end k xs (run end k stage.Start xs)
+right_in : (n : ℕ) (end : ℕ) (k : Known) (xs : List Placed) → length xs < n → Comes end k xs (declarations_read end k stage.Start xs)
 right_in zero end k xs h = absurd (omega (arith, h))
 right_in (suc n) end k xs h = right_by end k xs (λ j ys less. right_in n end j ys (omega (arith, h, less))) (walk end k xs stage.Start [] progress.start)
 
 -- reading comes to what the grammar has
-pub right : (end : ℕ) (k : Known) (xs : List Placed) → Comes end k xs (run end k stage.Start xs)
+pub right : (end : ℕ) (k : Known) (xs : List Placed) → Comes end k xs (declarations_read end k stage.Start xs)
 right end k xs = right_in (suc (length xs)) end k xs (omega arith)
 
 -- and the grammar has nothing else
-comes_run : (end : ℕ) (k : Known) (xs : List Placed) (o : Result EngineTable HeaderFault) → Comes end k xs o → run end k stage.Start xs ≡ o
+comes_run : (end : ℕ) (k : Known) (xs : List Placed) (o : Result EngineTable HeaderFault) → Comes end k xs o → declarations_read end k stage.Start xs ≡ o
 comes_run end k xs (Ok table) (ds, are, same) = lines_run end k ds xs are ∙ ap (λ (z : EngineTable). Ok z) (sym same)
 comes_run end k xs (Err f) fails = fails_run end k f xs fails
 
@@ -425,7 +425,7 @@ OneSplit = (bytes : List ℕ) (file at : ℕ) (ts us : List Lexeme) (e f : Optio
 -- a fault that isn't want of memory is a bad byte, or one of the tokens
 data Refusal (bytes : List ℕ) : HeaderFault → Type 0 where
   bad : (place : ℕ) (tokens : List Lexeme) → Splits bytes 0 0 tokens (Some place) → Refusal bytes (Bad place)
-  faulty : (f : HeaderFault) (tokens : List Lexeme) → Splits bytes 0 0 tokens None → run (length bytes) nothing stage.Start (placed_all tokens) ≡ Err f → Refusal bytes f
+  faulty : (f : HeaderFault) (tokens : List Lexeme) → Splits bytes 0 0 tokens None → declarations_read (length bytes) nothing stage.Start (placed_all tokens) ≡ Err f → Refusal bytes f
 
 faulty_of : (bytes : List ℕ) (f : HeaderFault) → IsFaulty bytes f → Refusal bytes f
 faulty_of bytes f (tokens, are, fails) = faulty f tokens are (comes_run (length bytes) nothing (placed_all tokens) (Err f) fails)
@@ -447,7 +447,7 @@ ok_err : (a : EngineTable) (f : HeaderFault) → ◌≡◌ {A = Result EngineTab
 ok_err a f e = cc
 
 table_run : (bytes : List ℕ) (a : EngineTable) (tokens : List Lexeme) → Comes (length bytes) nothing (placed_all tokens) (Ok a)
-    → run (length bytes) nothing stage.Start (placed_all tokens) ≡ Ok a
+    → declarations_read (length bytes) nothing stage.Start (placed_all tokens) ≡ Ok a
 table_run bytes a tokens h = comes_run (length bytes) nothing (placed_all tokens) (Ok a) h
 
 one_fault : OneSplit → (bytes : List ℕ) (f g : HeaderFault) → Refusal bytes f → Refusal bytes g → f ≡ g
@@ -455,16 +455,16 @@ one_fault one bytes f g (bad p ts s) (bad q us t) = ap (λ (z : ℕ). Bad z) (sa
 one_fault one bytes f g (bad p ts s) (faulty h us t e) = absurd (none-some p (sym (one bytes 0 0 ts us _ _ s t).1))
 one_fault one bytes f g (faulty h us t e) (bad p ts s) = absurd (none-some p (one bytes 0 0 us ts _ _ t s).1)
 one_fault one bytes f g (faulty h ts s e) (faulty j us t e') =
-    same_err f g (sym e ∙ ap (λ (z : List Lexeme). run (length bytes) nothing stage.Start (placed_all z)) (one bytes 0 0 ts us _ _ s t).0 ∙ e')
+    same_err f g (sym e ∙ ap (λ (z : List Lexeme). declarations_read (length bytes) nothing stage.Start (placed_all z)) (one bytes 0 0 ts us _ _ s t).0 ∙ e')
 
 one_table : OneSplit → (bytes : List ℕ) (a b : EngineTable) → HasTable bytes a → HasTable bytes b → a ≡ b
 one_table one bytes a b (ts, s, x) (us, t, y) =
-    same_ok a b (sym (table_run bytes a ts x) ∙ ap (λ (z : List Lexeme). run (length bytes) nothing stage.Start (placed_all z)) (one bytes 0 0 ts us _ _ s t).0 ∙ table_run bytes b us y)
+    same_ok a b (sym (table_run bytes a ts x) ∙ ap (λ (z : List Lexeme). declarations_read (length bytes) nothing stage.Start (placed_all z)) (one bytes 0 0 ts us _ _ s t).0 ∙ table_run bytes b us y)
 
 not_both : OneSplit → (bytes : List ℕ) (a : EngineTable) (f : HeaderFault) → HasTable bytes a → Refusal bytes f → ⊥
 not_both one bytes a f (ts, s, x) (bad p us t) = none-some p (one bytes 0 0 ts us _ _ s t).1
 not_both one bytes a f (ts, s, x) (faulty g us t e) =
-    ok_err a f (sym (table_run bytes a ts x) ∙ ap (λ (z : List Lexeme). run (length bytes) nothing stage.Start (placed_all z)) (one bytes 0 0 ts us _ _ s t).0 ∙ e)
+    ok_err a f (sym (table_run bytes a ts x) ∙ ap (λ (z : List Lexeme). declarations_read (length bytes) nothing stage.Start (placed_all z)) (one bytes 0 0 ts us _ _ s t).0 ∙ e)
 
 pub one_header : OneSplit → ((bytes : List ℕ) → (answer : Result EngineTable HeaderFault) × IsAnswer bytes answer) → OneHeader
 one_header one some_answer = record {

@@ -13,7 +13,7 @@ use Rattle.engine_table.specs.Symbols.{Placed, placed_all}
 use Rattle.engine_table.specs.Grammar as grammar
 use Rattle.engine_table.specs.Grammar.{sign_at, Heading}
 use Rattle.engine_table.specs.Headers as header
-use Rattle.engine_table.specs.Headers.{function_fault, constant_fault, value_fault, differs, fault_unless, same_const, Clashes, Fails, IsFaulty, IsRefused, IsWithin, nothing}
+use Rattle.engine_table.specs.Headers.{function_fault, constant_fault, value_fault, differs, fault_unless, same_const, Clashes, HeaderFails, IsFaulty, IsRefused, IsWithin, nothing}
 
 -- each of these tokens begins in a text of so many bytes
 AllWithin : ℕ → List Placed → Type 0
@@ -95,7 +95,7 @@ clash_within size k f xs (header.loose b d g hs vs e p s h free has is ends faul
 
 -- ---- whole texts
 
-fails_within : (size : ℕ) (k : Known) (f : HeaderFault) (xs : List Placed) → Fails size k f xs → AllWithin size xs → IsWithin size f
+fails_within : (size : ℕ) (k : Known) (f : HeaderFault) (xs : List Placed) → HeaderFails size k f xs → AllWithin size xs → IsWithin size f
 unfolding AllWithin
 fails_within size k f xs (header.later j d g ys zs is clear rest) all = fails_within size (header.after k d) f zs rest (within_right size ys zs all)
 fails_within size k f xs (header.clash j g ys zs clash) all = clash_within size k f ys clash (within_left size ys zs all)

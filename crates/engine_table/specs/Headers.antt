@@ -7,7 +7,7 @@ use Rattle.nwq_value.specs.declared.engine.Routine.{Routine}
 use Rattle.nwq_value.specs.Engine.{EngineTable, routine_named, constant_named}
 use Rattle.nwq_value.specs.Limits.{routine_limit}
 use Rattle.nwq_value.specs.Roles.{engine_role, types_of}
-use Rattle.nss_lexer.specs.declared.token.Kind.{Kind}
+use Rattle.nss_lexer.specs.declared.token.TokenKind.{TokenKind}
 use Rattle.nss_lexer.specs.Lexemes.{IsLexeme}
 use Rattle.nss_lexer.specs.Splitting.{Lexeme, AreTokens, AreTokensUpTo}
 use Rattle.engine_table.specs.declared.symbol.Symbol.{Symbol}
@@ -110,7 +110,7 @@ pub data Clashes (k : Known) : HeaderFault → List Placed → Type 0 where
 
 -- a token can spell the symbol
 pub record IsSpelled (s : Symbol) : Type 0 where
-  pub kind : Kind
+  pub kind : TokenKind
   pub text : List ℕ
   pub lexeme : IsLexeme kind text
   pub same : symbol_by kind text ≡ s
@@ -149,17 +149,17 @@ pub data Lines : Known → List Declaration → List Placed → Type 0 where
       → Lines k (d ∷ ds) (xs ++ ys)
 
 -- the tokens of a text of so many bytes are clear lines up to one that is at fault
-pub data Fails (end : ℕ) : Known → HeaderFault → List Placed → Type 0 where
-  later : (k : Known) (d : Declaration) (f : HeaderFault) (xs ys : List Placed) → Line k d xs → IsClear k d → Fails end (after k d) f ys
-      → Fails end k f (xs ++ ys)
-  clash : (k : Known) (f : HeaderFault) (xs ys : List Placed) → Clashes k f xs → Fails end k f (xs ++ ys)
-  misfit : (k : Known) (xs : List Placed) (s : Placed) (ys : List Placed) → IsMisfit k xs s → Fails end k (Header s.place) (xs ++ s ∷ ys)
-  short : (k : Known) (xs : List Placed) → xs ≢ [] → IsInside k xs → Fails end k (Header end) xs
+pub data HeaderFails (end : ℕ) : Known → HeaderFault → List Placed → Type 0 where
+  later : (k : Known) (d : Declaration) (f : HeaderFault) (xs ys : List Placed) → Line k d xs → IsClear k d → HeaderFails end (after k d) f ys
+      → HeaderFails end k f (xs ++ ys)
+  clash : (k : Known) (f : HeaderFault) (xs ys : List Placed) → Clashes k f xs → HeaderFails end k f (xs ++ ys)
+  misfit : (k : Known) (xs : List Placed) (s : Placed) (ys : List Placed) → IsMisfit k xs s → HeaderFails end k (Header s.place) (xs ++ s ∷ ys)
+  short : (k : Known) (xs : List Placed) → xs ≢ [] → IsInside k xs → HeaderFails end k (Header end) xs
 
 -- the table that tokens stand for, or their first fault
 abbrev pub Comes : ℕ → Known → List Placed → Result EngineTable HeaderFault → Type 0
 Comes end k tokens (Ok table) = (ds : List Declaration) × Lines k ds tokens × (table ≡ (after_all k ds).table)
-Comes end k tokens (Err f) = Fails end k f tokens
+Comes end k tokens (Err f) = HeaderFails end k f tokens
 
 -- the text is a header with this table
 abbrev pub HasTable : List ℕ → EngineTable → Type 0

@@ -2,8 +2,8 @@
 use Rattle.std.specs.Prelude.{ℕ, ◌^◌, ◌<◌, ◌≤◌, All, Bool, ◌||◌, ◌==◌, List, [], ◌∷◌, length, take, codes, bytes_eq, if◌then◌else◌}
 use Rattle.std.specs.List.{AllByRecursion}
 use Rattle.nwq_value.specs.Limits.{text_limit}
-use Rattle.nss_lexer.specs.declared.token.Kind.{Kind}
-use Rattle.nss_lexer.specs.declared.token.Kind.TheVariants as kind
+use Rattle.nss_lexer.specs.declared.token.TokenKind.{TokenKind}
+use Rattle.nss_lexer.specs.declared.token.TokenKind.TheVariants as kind
 use Rattle.nss_lexer.specs.Splitting.{Lexeme}
 use Rattle.nss_lexer.specs.Strings.{string_value}
 use Rattle.engine_table.specs.declared.symbol.Word.{Word}
@@ -61,7 +61,7 @@ sign_of (b ∷ []) = sign_byte b
 sign_of (b ∷ c ∷ more) = sign.Other
 
 -- a string is seen as the bytes that it stands for, of which a text keeps the first 8,192
-abbrev pub symbol_by : Kind → List ℕ → Symbol
+abbrev pub symbol_by : TokenKind → List ℕ → Symbol
 symbol_by kind.Name text = symbol.Name text
 symbol_by kind.Word text = symbol.Word (word_of text)
 symbol_by (kind.Int n) text = symbol.Int n

@@ -34,53 +34,53 @@ use Rattle.engine_table.specs.Headers.{after, function_fault, constant_fault, va
 abbrev pub known_of : KnownInCode → Known
 known_of k = record { words = k.words; table = k.table }
 
-abbrev pub Next : Type 0
-Next = Result Turn HeaderFault
+abbrev pub TurnResult : Type 0
+TurnResult = Result Turn HeaderFault
 
-abbrev pub goes : Stage → Next
+abbrev pub goes : Stage → TurnResult
 goes s = Ok (Goes s)
 
 -- a token at this place that fits no production
-abbrev pub misfit : ℕ → Next
+abbrev pub misfit : ℕ → TurnResult
 misfit p = Err (Header p)
 
-abbrev pub unless_fault : Option HeaderFault → Next → Next
+abbrev pub unless_fault : Option HeaderFault → TurnResult → TurnResult
 unless_fault None next = next
 unless_fault (Some f) next = Err f
 
 -- ---- starts of lines, and defines
 
-abbrev pub typed : (Ty → Stage) → Option Ty → ℕ → Next
+abbrev pub typed : (Ty → Stage) → Option Ty → ℕ → TurnResult
 typed to (Some t) p = goes (to t)
 typed to None p = misfit p
 
-abbrev pub start_turn : List (List ℕ) → ℕ → Symbol → Next
+abbrev pub start_turn : List (List ℕ) → ℕ → Symbol → TurnResult
 start_turn words p (symbol.Sign sign.Hash) = goes stage.Hash
 start_turn words p (symbol.Word word.Const) = goes stage.Const
 start_turn words p s = typed (stage.Typed false) (type_in words s) p
 
-abbrev pub hash_turn : ℕ → Symbol → Next
+abbrev pub hash_turn : ℕ → Symbol → TurnResult
 hash_turn p (symbol.Name n) = if bytes_eq n (codes "define") then goes stage.Define else misfit p
 hash_turn p _ = misfit p
 
-abbrev pub define_turn : ℕ → Symbol → Next
+abbrev pub define_turn : ℕ → Symbol → TurnResult
 define_turn p (symbol.Name n) = goes (stage.Defined n)
 define_turn p _ = misfit p
 
-abbrev pub given : Option Declaration → ℕ → Next
+abbrev pub given : Option Declaration → ℕ → TurnResult
 given (Some d) p = Ok (Gives d)
 given None p = misfit p
 
-abbrev pub defined_turn : List ℕ → ℕ → Symbol → Next
+abbrev pub defined_turn : List ℕ → ℕ → Symbol → TurnResult
 defined_turn n p s = given (defined (structure_of n) s) p
 
 -- ---- names
 
-abbrev pub typed_turn : Bool → Ty → ℕ → Symbol → Next
+abbrev pub typed_turn : Bool → Ty → ℕ → Symbol → TurnResult
 typed_turn b t p (symbol.Name n) = goes (stage.Named b (record { ty = t; place = p; name = n }))
 typed_turn b t p _ = misfit p
 
-abbrev pub named_turn : Known → Bool → Declared → ℕ → Symbol → Next
+abbrev pub named_turn : Known → Bool → Declared → ℕ → Symbol → TurnResult
 named_turn k b d p (symbol.Sign sign.Equals) = unless_fault (constant_fault k d) (goes (stage.Value (owner.Constant d)))
 named_turn k false d p (symbol.Sign sign.Open) = unless_fault (function_fault k d) (goes (stage.Params (record { head = d; params = [] })))
 named_turn k b d p _ = misfit p
@@ -92,18 +92,18 @@ type_of (owner.Constant d) = d.ty
 type_of (owner.Parameter f t) = t
 
 -- a parameter is whole where `,` or `)` follows
-abbrev pub param_turn : Function → Param → ℕ → Symbol → Next
+abbrev pub param_turn : Function → Param → ℕ → Symbol → TurnResult
 param_turn f x p (symbol.Sign sign.Comma) =
     if nat_lt (length f.params + 1) parameter_limit then goes (stage.Param (record f { params = f.params ++ x ∷ [] })) else misfit p
 param_turn f x p (symbol.Sign sign.Close) = goes (stage.Closed (record f { params = f.params ++ x ∷ [] }))
 param_turn f x p _ = misfit p
 
-abbrev pub constant_end : Declared → Option Const → ℕ → Symbol → Next
+abbrev pub constant_end : Declared → Option Const → ℕ → Symbol → TurnResult
 constant_end d c p (symbol.Sign sign.Semicolon) = Ok (Gives (declaration.Constant d c))
 constant_end d c p _ = misfit p
 
 -- the token behind a value
-abbrev pub valued_turn : Owner → Option Const → ℕ → Symbol → Next
+abbrev pub valued_turn : Owner → Option Const → ℕ → Symbol → TurnResult
 valued_turn (owner.Constant d) c p s = constant_end d c p s
 valued_turn (owner.Parameter f t) c p s = param_turn f (record { ty = t; default = c }) p s
 
@@ -112,14 +112,14 @@ abbrev pub owner_fault : Known → Owner → Option Const → Option HeaderFault
 owner_fault k (owner.Constant d) c = value_fault k d c
 owner_fault k (owner.Parameter f t) c = None
 
-abbrev pub checked : Known → Owner → Option Const → Next → Next
+abbrev pub checked : Known → Owner → Option Const → TurnResult → TurnResult
 checked k o c next = unless_fault (owner_fault k o c) next
 
-abbrev pub got : Known → Owner → Option Const → ℕ → Next
+abbrev pub got : Known → Owner → Option Const → ℕ → TurnResult
 got k o (Some c) p = checked k o (Some c) (goes (stage.Valued o (Some c)))
 got k o None p = misfit p
 
-abbrev pub minus_turn : Known → Owner → ℕ → Symbol → Next
+abbrev pub minus_turn : Known → Owner → ℕ → Symbol → TurnResult
 minus_turn k o p (symbol.Int n) = got k o (Some (negative n)) p
 minus_turn k o p _ = misfit p
 
@@ -127,44 +127,44 @@ abbrev pub is_minus_of_int : Ty → Symbol → Bool
 is_minus_of_int ty.Int (symbol.Sign sign.Minus) = true
 is_minus_of_int t s = false
 
-abbrev pub constant_turn : Known → Owner → Ty → ℕ → Symbol → Next
+abbrev pub constant_turn : Known → Owner → Ty → ℕ → Symbol → TurnResult
 constant_turn k o t p s = if is_minus_of_int t s then goes (stage.Minus o) else got k o (constant_in k.table.constants t s) p
 
-abbrev pub loose_by : Known → Owner → Option ℕ → ℕ → Symbol → Next
+abbrev pub loose_by : Known → Owner → Option ℕ → ℕ → Symbol → TurnResult
 loose_by k o (Some e) p s = goes (stage.Loose o e)
 loose_by k o None p s = checked k o None (valued_turn o None p s)
 
-abbrev pub loose_turn : Known → Owner → ℕ → ℕ → Symbol → Next
+abbrev pub loose_turn : Known → Owner → ℕ → ℕ → Symbol → TurnResult
 loose_turn k o d p s = loose_by k o (brackets d s) p s
 
-abbrev pub value_by : Bool → Known → Owner → ℕ → Symbol → Next
+abbrev pub value_by : Bool → Known → Owner → ℕ → Symbol → TurnResult
 value_by true k o p s = constant_turn k o (type_of o) p s
 value_by false k o p s = loose_turn k o zero p s
 
-abbrev pub value_turn : Known → Owner → ℕ → Symbol → Next
+abbrev pub value_turn : Known → Owner → ℕ → Symbol → TurnResult
 value_turn k o p s = value_by (has_constants (type_of o)) k o p s
 
 -- ---- parameters
 
-abbrev pub params_turn : List (List ℕ) → Function → ℕ → Symbol → Next
+abbrev pub params_turn : List (List ℕ) → Function → ℕ → Symbol → TurnResult
 params_turn words f p (symbol.Sign sign.Close) = goes (stage.Closed f)
 params_turn words f p s = typed (stage.ParamType f) (type_in words s) p
 
 -- behind a parameter's type and name
-abbrev pub behind_turn : Function → Ty → ℕ → Symbol → Next
+abbrev pub behind_turn : Function → Ty → ℕ → Symbol → TurnResult
 behind_turn f t p (symbol.Sign sign.Equals) = goes (stage.Value (owner.Parameter f t))
 behind_turn f t p s = param_turn f (record { ty = t; default = None }) p s
 
-abbrev pub param_type_turn : Function → Ty → ℕ → Symbol → Next
+abbrev pub param_type_turn : Function → Ty → ℕ → Symbol → TurnResult
 param_type_turn f t p (symbol.Name n) = goes (stage.ParamName f t)
 param_type_turn f t p s = behind_turn f t p s
 
-abbrev pub closed_turn : Function → ℕ → Symbol → Next
+abbrev pub closed_turn : Function → ℕ → Symbol → TurnResult
 closed_turn f p (symbol.Sign sign.Semicolon) = Ok (Gives (declaration.Function f))
 closed_turn f p _ = misfit p
 
 -- what a token at this place does
-unfoldable pub turn : Known → Stage → ℕ → Symbol → Next
+unfoldable pub turn : Known → Stage → ℕ → Symbol → TurnResult
 turn k stage.Start p s = start_turn k.words p s
 turn k stage.Hash p s = hash_turn p s
 turn k stage.Define p s = define_turn p s
@@ -182,7 +182,7 @@ turn k (stage.ParamType f t) p s = param_type_turn f t p s
 turn k (stage.ParamName f t) p s = behind_turn f t p s
 turn k (stage.Closed f) p s = closed_turn f p s
 
-abbrev pub turn_at : Known → Stage → Placed → Next
+abbrev pub turn_at : Known → Stage → Placed → TurnResult
 turn_at k s x = turn k s x.place x.symbol
 
 -- inside how many brackets of a value a line is
@@ -246,14 +246,14 @@ abbrev pub ended : ℕ → Known → Stage → Result EngineTable HeaderFault
 ended end k stage.Start = Ok k.table
 ended end k _ = Err (Header end)
 
-abbrev pub run_by : Next → (Stage → Result EngineTable HeaderFault) → (Declaration → Result EngineTable HeaderFault) → Result EngineTable HeaderFault
+abbrev pub run_by : TurnResult → (Stage → Result EngineTable HeaderFault) → (Declaration → Result EngineTable HeaderFault) → Result EngineTable HeaderFault
 run_by (Ok (Goes s)) on line = on s
 run_by (Ok (Gives d)) on line = line d
 run_by (Err f) on line = Err f
 
-unfoldable pub run : ℕ → Known → Stage → List Placed → Result EngineTable HeaderFault
-run end k s [] = ended end k s
-run end k s (x ∷ xs) = run_by (turn k s x.place x.symbol) (λ next. run end k next xs) (λ d. run end (after k d) stage.Start xs)
+unfoldable pub declarations_read : ℕ → Known → Stage → List Placed → Result EngineTable HeaderFault
+declarations_read end k s [] = ended end k s
+declarations_read end k s (x ∷ xs) = run_by (turn k s x.place x.symbol) (λ next. declarations_read end k next xs) (λ d. declarations_read end (after k d) stage.Start xs)
 
 -- ---- what code answers
 

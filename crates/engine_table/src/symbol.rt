@@ -5,7 +5,7 @@ ghost use Rattle.nwq_value.specs.Limits.{name_limit};
 ghost use Rattle.engine_table.specs.Symbols as spec;
 ghost use Rattle.engine_table.specs.declared.symbol.Symbol.TheVariants as symbol;
 
-use nss_lexer::{Kind, Token, literal};
+use nss_lexer::{Token, TokenKind, literal};
 use nwq_value::{NoMemory, Text};
 use std::alloc::Global;
 
@@ -176,11 +176,11 @@ pub(crate) fn symbol_of(alloc: Global, token: &Token<'_>) -> Result<Symbol, NoMe
     ensures bounds { IfOk result spec.IsSymbol }
 {
     match token.kind {
-        Kind::Name => Ok(Symbol::Name(name_text(alloc, token.text)?)),
-        Kind::Word => Ok(Symbol::Word(word_of(token.text))),
-        Kind::Int(value) => Ok(Symbol::Int(value)),
-        Kind::Float => Ok(Symbol::Float),
-        Kind::Text => Ok(text_symbol(literal(alloc, token.text)?)),
-        Kind::Sign => Ok(Symbol::Sign(sign_of(token.text))),
+        TokenKind::Name => Ok(Symbol::Name(name_text(alloc, token.text)?)),
+        TokenKind::Word => Ok(Symbol::Word(word_of(token.text))),
+        TokenKind::Int(value) => Ok(Symbol::Int(value)),
+        TokenKind::Float => Ok(Symbol::Float),
+        TokenKind::Text => Ok(text_symbol(literal(alloc, token.text)?)),
+        TokenKind::Sign => Ok(Symbol::Sign(sign_of(token.text))),
     }
 }

@@ -10,11 +10,11 @@ use Rattle.std.proofs.Math.Seq.{take-append_seam, drop-append_seam, get_or-appen
 use Rattle.std.proofs.lemmas.Bool.Decides.{nat_tests}
 use Rattle.std.proofs.lemmas.Fmt.{decimal_is_IsNumeral, decimal_nonempty}
 use Rattle.std.proofs.lemmas.Str.Parse.{numerals_by_value, tells_all_ascii_digits}
-use Rattle.nss_lexer.specs.declared.token.Kind.TheVariants.{Int}
+use Rattle.nss_lexer.specs.declared.token.TokenKind.TheVariants.{Int}
 use Rattle.nss_lexer.specs.declared.bytes.Class.TheVariants.{Decimal}
 use Rattle.nss_lexer.specs.Bytes.{is_blank, is_letter, is_decimal}
 use Rattle.nss_lexer.specs.Splitting.{Lexeme, begins_comment}
-use Rattle.nss_lexer.specs.Reading.{run, scanned, form, lexeme, pass, number_form, decimal_form, hexadecimal_form, begins_hexadecimal}
+use Rattle.nss_lexer.specs.Reading.{class_run, scanned, form, lexeme, pass, number_form, decimal_form, hexadecimal_form, begins_hexadecimal}
 use Rattle.nss_lexer.specs.Computed.{tokens_in}
 use Rattle.nss_include.specs.Pieces.{is_hash}
 
@@ -85,7 +85,7 @@ module _ (d : ℕ) (ds : List ℕ) (b : ℕ) (rest : List ℕ) (digits : AreDigi
   abbrev all : List ℕ
   all = d ∷ (ds ++ b ∷ rest)
 
-  length_run : run Decimal all ≡ suc (length ds)
+  length_run : class_run Decimal all ≡ suc (length ds)
   length_run = run_digits (d ∷ ds) b rest digits ends.digit
 
   end_byte : slice_index all (suc (length ds)) ≡ b

@@ -4,7 +4,7 @@ use Rattle.gff_tree.specs.declared.tree.Field.{Field}
 use Rattle.gff_tree.specs.declared.tree.Node.{Node}
 use Rattle.gff_tree.specs.Tree.{Scalar, PlainLeaf, Holds, plain_leaf, plain_node, fields_list, nodes_list}
 use Rattle.gff_read.specs.declared.fault.TreeFault.{TreeFault}
-use Rattle.gff_read.specs.declared.kind.Kind.{Kind}
+use Rattle.gff_read.specs.declared.kind.FieldKind.{FieldKind}
 use Rattle.gff_read.specs.Rows.{◌>>=◌, PlainRow, leaf_for, scalar_for}
 use Rattle.gff_read.specs.Charge.{IsScalar, field_charge, leaf_charge, word_charge, node_charge, fields_charge, nodes_charge, shape_charge, rows_charge}
 
@@ -30,6 +30,6 @@ from_scalar (Ok s) holds e =
 from_scalar (Err fault) holds e = absurd cc
 
 -- the value of a field that holds no struct holds none
-pub leaf_is_scalar : (bytes : List ℕ) (field : ℕ) (k : Kind) (word : ℕ) (holds : PlainLeaf) → leaf_for bytes field k word ≡ given holds → IsScalar holds
+pub leaf_is_scalar : (bytes : List ℕ) (field : ℕ) (k : FieldKind) (word : ℕ) (holds : PlainLeaf) → leaf_for bytes field k word ≡ given holds → IsScalar holds
 unfolding leaf_for
 leaf_is_scalar bytes field k word holds e = from_scalar (scalar_for bytes field k word) holds e

@@ -12,7 +12,7 @@ use Rattle.gff_bytes.specs.declared.rows.Range.{Range}
 use Rattle.gff_bytes.specs.declared.rows.StructRow.{StructRow}
 use Rattle.gff_bytes.specs.declared.rows.Part.TheVariants as part
 use Rattle.gff_bytes.specs.File.{count_of, struct_row}
-use Rattle.gff_read.specs.declared.kind.Kind.{Kind}
+use Rattle.gff_read.specs.declared.kind.FieldKind.{FieldKind}
 use Rattle.gff_tree.specs.Tree.{PlainNode, PlainFields, PlainLeaf, PlainNodes, Struct, NoField, MoreFields, Holds, Child, Children, NoNode, MoreNodes, differ_after, are_distinct}
 use Rattle.gff_read.specs.Rows.{PlainShape, PlainRow, Value, One, Many}
 use Rattle.gff_read.specs.Stands.{ShapeStands, RowsStand, Meaning, NodesStand, LeafStands, FieldsStand, NodeStands}
@@ -70,7 +70,7 @@ abbrev AreValues : List PlainRow → Type 0
 AreValues [] = Unit {0}
 AreValues (row ∷ rows) = IsValue row.shape × AreValues rows
 
-is_value : (bytes : List ℕ) (k : Kind) (word : ℕ) (shape : PlainShape) → ShapeStands bytes k word shape → IsValue shape
+is_value : (bytes : List ℕ) (k : FieldKind) (word : ℕ) (shape : PlainShape) → ShapeStands bytes k word shape → IsValue shape
 is_value bytes k word (Value (Holds scalar)) s = tt
 is_value bytes k word (Value (Child node)) s = s
 is_value bytes k word (Value (Children nodes)) s = s

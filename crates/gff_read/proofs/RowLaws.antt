@@ -7,8 +7,8 @@ use Rattle.std.proofs.lemmas.List.{append-nil, map_push}
 use Rattle.gff_bytes.specs.declared.rows.StructRow.{StructRow}
 use Rattle.gff_bytes.specs.File.{field_row, label_row, list_word}
 use Rattle.gff_read.specs.declared.fault.TreeFault.{TreeFault}
-use Rattle.gff_read.specs.declared.kind.Kind.{Kind}
-use Rattle.gff_read.specs.declared.kind.Kind.TheVariants as kind
+use Rattle.gff_read.specs.declared.kind.FieldKind.{FieldKind}
+use Rattle.gff_read.specs.declared.kind.FieldKind.TheVariants as kind
 use Rattle.gff_tree.specs.Label.{label_text}
 use Rattle.gff_tree.specs.Tree.{Scalar, Holds, Child, Children, differ_after}
 use Rattle.gff_read.specs.Rows.{◌>>=◌, placed, kinds, of_kind, words_from, PlainShape, PlainRow, Value, One, Many, leaf_for, scalar_for, shape_for, has_label, row_for, field_number, rows_from}
@@ -28,7 +28,7 @@ words_read : (bytes : List ℕ) (place : ℕ) (words : List ℕ) → WordsStand 
 words_read bytes place [] s = refl
 words_read bytes place (w ∷ ws) s = rw (s.0, words_read bytes (place + 4) ws s.1) refl
 
-value_stands : (bytes : List ℕ) (field : ℕ) (k : Kind) (word : ℕ) (s : PlainShape) → (leaf_for bytes field k word >>= λ holds. Ok (Value holds)) ≡ Ok s → ShapeStands bytes k word s
+value_stands : (bytes : List ℕ) (field : ℕ) (k : FieldKind) (word : ℕ) (s : PlainShape) → (leaf_for bytes field k word >>= λ holds. Ok (Value holds)) ≡ Ok s → ShapeStands bytes k word s
 unfolding leaf_for
 value_stands bytes field k word s e =
     let b = bind_ok (leaf_for bytes field k word) (λ holds. Ok (Value holds)) s e in
@@ -36,11 +36,11 @@ value_stands bytes field k word s e =
     let made : Value (Holds l.0) ≡ s = ap Value (ok_is (Holds l.0) b.0 l.2) ∙ ok_is (Value b.0) s b.2 in
     subst (ShapeStands bytes k word) made (scalar_stands bytes field k word l.0 l.1)
 
-value_read : (bytes : List ℕ) (field : ℕ) (k : Kind) (word : ℕ) (s : Scalar) → ScalarStands bytes k word s → (leaf_for bytes field k word >>= λ holds. Ok (Value holds)) ≡ Ok (Value (Holds s))
+value_read : (bytes : List ℕ) (field : ℕ) (k : FieldKind) (word : ℕ) (s : Scalar) → ScalarStands bytes k word s → (leaf_for bytes field k word >>= λ holds. Ok (Value holds)) ≡ Ok (Value (Holds s))
 unfolding leaf_for
 value_read bytes field k word s stands = rw (scalar_read bytes field k word s stands) refl
 
-shape_stands : (bytes : List ℕ) (field : ℕ) (k : Kind) (word : ℕ) (s : PlainShape) → shape_for bytes field k word ≡ Ok s → ShapeStands bytes k word s
+shape_stands : (bytes : List ℕ) (field : ℕ) (k : FieldKind) (word : ℕ) (s : PlainShape) → shape_for bytes field k word ≡ Ok s → ShapeStands bytes k word s
 unfolding shape_for
 shape_stands bytes field kind.Struct word s e = subst (ShapeStands bytes kind.Struct word) (ok_is (One word) s e) (refl, refl)
 shape_stands bytes field kind.List word s e =
@@ -65,7 +65,7 @@ shape_stands bytes field kind.Loc word s e = value_stands bytes field kind.Loc w
 shape_stands bytes field kind.Void word s e = value_stands bytes field kind.Void word s e
 
 -- a type of value is read as one
-scalar_shape : (bytes : List ℕ) (field : ℕ) (k : Kind) (word : ℕ) (s : Scalar) → ScalarStands bytes k word s → shape_for bytes field k word ≡ (leaf_for bytes field k word >>= λ holds. Ok (Value holds))
+scalar_shape : (bytes : List ℕ) (field : ℕ) (k : FieldKind) (word : ℕ) (s : Scalar) → ScalarStands bytes k word s → shape_for bytes field k word ≡ (leaf_for bytes field k word >>= λ holds. Ok (Value holds))
 unfolding shape_for
 scalar_shape bytes field kind.Struct word s is = absurd is
 scalar_shape bytes field kind.List word s is = absurd is
@@ -84,18 +84,18 @@ scalar_shape bytes field kind.Res word s is = refl
 scalar_shape bytes field kind.Loc word s is = refl
 scalar_shape bytes field kind.Void word s is = refl
 
-shape_read : (bytes : List ℕ) (field : ℕ) (k : Kind) (word : ℕ) (s : PlainShape) → ShapeStands bytes k word s → shape_for bytes field k word ≡ Ok s
+shape_read : (bytes : List ℕ) (field : ℕ) (k : FieldKind) (word : ℕ) (s : PlainShape) → ShapeStands bytes k word s → shape_for bytes field k word ≡ Ok s
 unfolding shape_for
 shape_read bytes field k word (Value (Holds s)) is = scalar_shape bytes field k word s is ∙ value_read bytes field k word s is
 shape_read bytes field k word (Value (Child node)) is = absurd is
 shape_read bytes field k word (Value (Children nodes)) is = absurd is
 shape_read bytes field k word (One n) is =
-    subst (λ (j : Kind). shape_for bytes field j word ≡ Ok (One n)) (sym is.0) (ap (λ (m : ℕ). Ok (One m)) (sym is.1))
+    subst (λ (j : FieldKind). shape_for bytes field j word ≡ Ok (One n)) (sym is.0) (ap (λ (m : ℕ). Ok (One m)) (sym is.1))
 shape_read bytes field k word (Many ns) is =
     let listed : shape_for bytes field kind.List word ≡ Ok (Many ns) = rw (is.1, words_read bytes (word + 4) ns is.2) refl in
-    subst (λ (j : Kind). shape_for bytes field j word ≡ Ok (Many ns)) (sym is.0) listed
+    subst (λ (j : FieldKind). shape_for bytes field j word ≡ Ok (Many ns)) (sym is.0) listed
 
-kind_ok : {A : Type 0} (field : ℕ) (o : Option Kind) (f : Kind → Result A TreeFault) (y : A) → of_kind field o f ≡ Ok y → (k : Kind) × (o ≡ Some k) × (f k ≡ Ok y)
+kind_ok : {A : Type 0} (field : ℕ) (o : Option FieldKind) (f : FieldKind → Result A TreeFault) (y : A) → of_kind field o f ≡ Ok y → (k : FieldKind) × (o ≡ Some k) × (f k ≡ Ok y)
 kind_ok field None f y e = absurd cc
 kind_ok field (Some k) f y e = (k, refl, e)
 

@@ -13,8 +13,8 @@ use Rattle.std.proofs.lemmas.Map.Text.{is_eq-slice_cmp}
 use Rattle.std.specs.Str.{bytes_eq}
 use Rattle.gff_bytes.specs.declared.rows.StructRow.{StructRow}
 use Rattle.gff_bytes.specs.File.{list_word}
-use Rattle.gff_read.specs.declared.row.Row.{Row}
-use Rattle.gff_read.specs.Rows.{◌>>=◌, placed, parts_in, part_in, words_from, PlainRow, rows_from, row_for, field_number, has_label, Fails}
+use Rattle.gff_read.specs.declared.row.FieldRow.{FieldRow}
+use Rattle.gff_read.specs.Rows.{◌>>=◌, placed, parts_in, part_in, words_from, PlainRow, rows_from, row_for, field_number, has_label, TreeFails}
 use Rattle.gff_read.specs.Held.{plain_row}
 use Rattle.gff_read.specs.Used.{has_text, HasLabels, AddsLabel}
 
@@ -28,7 +28,7 @@ one_more front x (Ok xs) = ap Ok (sym (append_assoc front (x ∷ []) xs))
 one_more front x (Err e) = refl
 
 -- a fault of a step is a fault of the whole
-pub fault_of : {A B : Type 0} (e : TreeFault) (read : Result A TreeFault) (whole : Result B TreeFault) → Fails e read → (read ≡ Err e → whole ≡ Err e) → Fails e whole
+pub fault_of : {A B : Type 0} (e : TreeFault) (read : Result A TreeFault) (whole : Result B TreeFault) → TreeFails e read → (read ≡ Err e → whole ≡ Err e) → TreeFails e whole
 fault_of (fault.Range r) read whole here so = so here
 fault_of (fault.Kind n) read whole here so = so here
 fault_of (fault.Shared n) read whole here so = so here
@@ -53,7 +53,7 @@ words_step bytes place k j front now word whole before more read grown =
     rw grown (sym (one_more front word (words_from bytes (place + 4) j)) ∙ opened)
 
 pub words_end : (e : TreeFault) (bytes : List ℕ) (place k j : ℕ) (front : List ℕ) (whole : Result (List ℕ) TreeFault) →
-    with_front front (words_from bytes place k) ≡ whole → k ≡ suc j → Fails e (placed (list_word bytes place)) → Fails e whole
+    with_front front (words_from bytes place k) ≡ whole → k ≡ suc j → TreeFails e (placed (list_word bytes place)) → TreeFails e whole
 words_end e bytes place k j front whole before more here =
     fault_of e (placed (list_word bytes place)) whole here (λ failed.
     (let at : with_front front (words_from bytes place (suc j)) ≡ whole = subst (λ (i : ℕ). with_front front (words_from bytes place i) ≡ whole) more before in
@@ -89,9 +89,9 @@ has_label_more (row ∷ rows) next label =
     ap (λ (b : Bool). bytes_eq label row.label || b) (has_label_more rows next label) ∙ or_swaps (bytes_eq label row.label) (bytes_eq label next.label) (has_label rows label)
 
 -- no label is used before the first field
-pub no_labels : (used : BTreeSet (Bor (List ℕ))) (rows : List Row) (label : Bor (List ℕ)) → used.keys ≡ [] → rows ≡ [] → has_text used label ≡ has_label (map plain_row rows) label.now
+pub no_labels : (used : BTreeSet (Bor (List ℕ))) (rows : List FieldRow) (label : Bor (List ℕ)) → used.keys ≡ [] → rows ≡ [] → has_text used label ≡ has_label (map plain_row rows) label.now
 no_labels used rows label empty none =
-    ap (λ (keys : List (Bor (List ℕ))). has_text (record { keys = keys }) label) empty ∙ sym (ap (λ (rs : List Row). has_label (map plain_row rs) label.now) none)
+    ap (λ (keys : List (Bor (List ℕ))). has_text (record { keys = keys }) label) empty ∙ sym (ap (λ (rs : List FieldRow). has_label (map plain_row rs) label.now) none)
 
 -- what an insertion into the set of labels adds
 pub inserts_label : (before after : BTreeSet (Bor (List ℕ))) (key : Bor (List ℕ)) (text : List ℕ) →
@@ -110,14 +110,14 @@ labels_step before after front now next same adds grown label =
     adds label ∙ ap (λ (b : Bool). bytes_eq label.now next.label || b) (same label) ∙ sym more
 
 pub rows_end : (e : TreeFault) (bytes : List ℕ) (row : StructRow) (i k j : ℕ) (front : List PlainRow) (whole : Result (List PlainRow) TreeFault) →
-    rows_from bytes row i k front ≡ whole → k ≡ suc j → Fails e (placed (field_number bytes row i)) → Fails e whole
+    rows_from bytes row i k front ≡ whole → k ≡ suc j → TreeFails e (placed (field_number bytes row i)) → TreeFails e whole
 rows_end e bytes row i k j front whole before more here =
     fault_of e (placed (field_number bytes row i)) whole here (λ failed.
     (let at : rows_from bytes row i (suc j) front ≡ whole = subst (λ (m : ℕ). rows_from bytes row i m front ≡ whole) more before in
     sym (rw failed at at)))
 
 pub rows_stop : (e : TreeFault) (bytes : List ℕ) (row : StructRow) (i k j field : ℕ) (front : List PlainRow) (whole : Result (List PlainRow) TreeFault) →
-    rows_from bytes row i k front ≡ whole → k ≡ suc j → placed (field_number bytes row i) ≡ Ok field → Fails e (row_for bytes front field) → Fails e whole
+    rows_from bytes row i k front ≡ whole → k ≡ suc j → placed (field_number bytes row i) ≡ Ok field → TreeFails e (row_for bytes front field) → TreeFails e whole
 rows_stop e bytes row i k j field front whole before more numbered here =
     fault_of e (row_for bytes front field) whole here (λ failed.
     (let at : rows_from bytes row i (suc j) front ≡ whole = subst (λ (m : ℕ). rows_from bytes row i m front ≡ whole) more before in

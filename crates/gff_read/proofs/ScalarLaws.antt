@@ -6,8 +6,8 @@ use Rattle.std.proofs.lemmas.Bool.{ltb-false, le-ltb}
 use Rattle.gff_bytes.specs.File.{data_at}
 use Rattle.gff_tree.specs.declared.tree.Loc.{Loc}
 use Rattle.gff_tree.specs.declared.tree.LocPart.{LocPart}
-use Rattle.gff_read.specs.declared.kind.Kind.{Kind}
-use Rattle.gff_read.specs.declared.kind.Kind.TheVariants as kind
+use Rattle.gff_read.specs.declared.kind.FieldKind.{FieldKind}
+use Rattle.gff_read.specs.declared.kind.FieldKind.TheVariants as kind
 use Rattle.gff_tree.specs.Tree as tree
 use Rattle.gff_tree.specs.Tree.{Scalar}
 use Rattle.gff_read.specs.Rows.{◌>>=◌, bad_data, bytes_for, number_in, number_for, counted_for, name_for, part_in, parts_in, localized_in, scalar_for}
@@ -94,7 +94,7 @@ localized_read field body loc s =
     let parts : parts_in field (number_in 4 (drop 4 body)) (drop 8 body) ≡ Ok loc.parts = subst (λ (n : ℕ). parts_in field n (drop 8 body) ≡ Ok loc.parts) s.count (parts_read field (drop 8 body) loc.parts s.parts) in
     rw (head, parts, ← s.str_ref) refl
 
-pub scalar_stands : (bytes : List ℕ) (field : ℕ) (k : Kind) (word : ℕ) (s : Scalar) → scalar_for bytes field k word ≡ Ok s → ScalarStands bytes k word s
+pub scalar_stands : (bytes : List ℕ) (field : ℕ) (k : FieldKind) (word : ℕ) (s : Scalar) → scalar_for bytes field k word ≡ Ok s → ScalarStands bytes k word s
 unfolding scalar_for
 scalar_stands bytes field kind.Byte word s e = sym (ok_is _ s e)
 scalar_stands bytes field kind.Char word s e = sym (ok_is _ s e)
@@ -132,7 +132,7 @@ scalar_stands bytes field kind.Void word s e =
 scalar_stands bytes field kind.Struct word s e = absurd cc
 scalar_stands bytes field kind.List word s e = absurd cc
 
-pub scalar_read : (bytes : List ℕ) (field : ℕ) (k : Kind) (word : ℕ) (s : Scalar) → ScalarStands bytes k word s → scalar_for bytes field k word ≡ Ok s
+pub scalar_read : (bytes : List ℕ) (field : ℕ) (k : FieldKind) (word : ℕ) (s : Scalar) → ScalarStands bytes k word s → scalar_for bytes field k word ≡ Ok s
 unfolding scalar_for
 scalar_read bytes field kind.Byte word s is = ap Ok (sym is)
 scalar_read bytes field kind.Char word s is = ap Ok (sym is)

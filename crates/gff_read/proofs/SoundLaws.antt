@@ -8,8 +8,8 @@ use Rattle.gff_bytes.specs.declared.rows.Range.{Range}
 use Rattle.gff_bytes.specs.declared.rows.Part.TheVariants as part
 use Rattle.gff_bytes.specs.declared.rows.StructRow.{StructRow}
 use Rattle.gff_bytes.specs.File.{data_at, count_of, start_of}
-use Rattle.gff_read.specs.declared.kind.Kind.{Kind}
-use Rattle.gff_read.specs.declared.kind.Kind.TheVariants as kind
+use Rattle.gff_read.specs.declared.kind.FieldKind.{FieldKind}
+use Rattle.gff_read.specs.declared.kind.FieldKind.TheVariants as kind
 use Rattle.gff_tree.specs.Tree.{Scalar, PlainNode, PlainFields, PlainLeaf, PlainNodes, Struct, NoField, MoreFields, Holds, Child, Children, NoNode, MoreNodes, labels_of, are_distinct, is_sound_scalar, is_sound_node, are_sound_fields, is_sound_leaf, are_sound_nodes, is_sound}
 use Rattle.gff_read.specs.Rows.{PlainShape, PlainRow, Value, One, Many}
 use Rattle.gff_read.specs.Stands.{ScalarStands, ShapeStands, RowsStand, Meaning, NodesStand, LeafStands, FieldsStand, NodeStands}
@@ -26,7 +26,7 @@ data_short bytes place count text e = by_test (nat_le (place + count) (count_of 
 made_sound : (s t : Scalar) → s ≡ t → is_sound_scalar t ≡ true → is_sound_scalar s ≡ true
 made_sound s t is sound = ap is_sound_scalar is ∙ sound
 
-scalar_sound : (bytes : List ℕ) (k : Kind) (word : ℕ) (s : Scalar) → ScalarStands bytes k word s → is_sound_scalar s ≡ true
+scalar_sound : (bytes : List ℕ) (k : FieldKind) (word : ℕ) (s : Scalar) → ScalarStands bytes k word s → is_sound_scalar s ≡ true
 scalar_sound bytes kind.Byte word s is = made_sound s _ is refl
 scalar_sound bytes kind.Char word s is = made_sound s _ is refl
 scalar_sound bytes kind.Word word s is = made_sound s _ is refl
@@ -57,7 +57,7 @@ abbrev SoundRows : List PlainRow → Type 0
 SoundRows [] = Unit {0}
 SoundRows (row ∷ rows) = (sound_shape row.shape ≡ true) × SoundRows rows
 
-shape_sound : (bytes : List ℕ) (k : Kind) (word : ℕ) (s : PlainShape) → ShapeStands bytes k word s → sound_shape s ≡ true
+shape_sound : (bytes : List ℕ) (k : FieldKind) (word : ℕ) (s : PlainShape) → ShapeStands bytes k word s → sound_shape s ≡ true
 shape_sound bytes k word (Value (Holds s)) is = scalar_sound bytes k word s is
 shape_sound bytes k word (Value (Child node)) is = absurd is
 shape_sound bytes k word (Value (Children nodes)) is = absurd is

@@ -16,7 +16,7 @@ use Rattle.gff_read.specs.declared.fault.TreeFault.TheVariants as fault
 use Rattle.gff_tree.specs.Tree.{PlainNode, PlainFields, PlainLeaf, PlainNodes, Struct, NoField, MoreFields, Holds, Child, Children, NoNode, MoreNodes, differ_after}
 use Rattle.gff_read.specs.Rows.{◌>>=◌, placed, PlainShape, PlainRow, Value, One, Many, rows_from, rows_of}
 use Rattle.gff_read.specs.Stands.{Meaning, NodesStand, LeafStands, FieldsStand, StructStands, NodeStands, RowsStand}
-use Rattle.gff_read.specs.Walk.{Marks, Reading, struct_count, entered, node_at, fields_at, leaf_at, nodes_at}
+use Rattle.gff_read.specs.Walk.{Marks, Reading, struct_count, struct_entered, node_at, fields_at, leaf_at, nodes_at}
 use Rattle.gff_read.proofs.Steps.{bind_ok, guard_ok, ok_is, placed_ok}
 use Rattle.gff_read.proofs.RowLaws.{labels, rows_stand, rows_read}
 use Rattle.gff_read.proofs.WalkLemmas.{node_step, below}
@@ -211,16 +211,16 @@ row_inside bytes n row e = in_test (nat_lt n (count_of bytes part.Struct)) _ _ e
     in_test true x y h is = ltb-true _ _ is
     in_test false x y h is = absurd cc
 
-entered_ok : (depth : ℕ) (bytes : List ℕ) (n : ℕ) (marks : Marks) (row : StructRow) → entered depth bytes n marks ≡ Ok row → (struct_row bytes n ≡ Ok row) × (get_or marks n false ≡ false) × (0 < depth)
-unfolding entered
+entered_ok : (depth : ℕ) (bytes : List ℕ) (n : ℕ) (marks : Marks) (row : StructRow) → struct_entered depth bytes n marks ≡ Ok row → (struct_row bytes n ≡ Ok row) × (get_or marks n false ≡ false) × (0 < depth)
+unfolding struct_entered
 entered_ok depth bytes n marks row e =
     let b = bind_ok (placed (struct_row bytes n)) _ row e in
     let g = guard_ok (get_or marks n false) (fault.Shared n) _ row b.2 in
     let h = guard_ok (depth == 0) (fault.Deep n) (Ok b.0) row g.1 in
     (placed_ok (struct_row bytes n) b.0 b.1 ∙ ap Ok (ok_is b.0 row h.1), g.0, grind (arith, nat_tests))
 
-entered_is : (depth : ℕ) (bytes : List ℕ) (n : ℕ) (marks : Marks) (row : StructRow) → struct_row bytes n ≡ Ok row → get_or marks n false ≡ false → entered (suc depth) bytes n marks ≡ Ok row
-unfolding entered
+entered_is : (depth : ℕ) (bytes : List ℕ) (n : ℕ) (marks : Marks) (row : StructRow) → struct_row bytes n ≡ Ok row → get_or marks n false ≡ false → struct_entered (suc depth) bytes n marks ≡ Ok row
+unfolding struct_entered
 entered_is depth bytes n marks row e unmarked = rw (e, unmarked, eqb-suc-zero depth) refl
 
 node_sound : (bytes : List ℕ) (depth : ℕ) → Agrees (struct_count bytes) (node_at depth bytes) (NodeStands depth bytes) →
@@ -229,7 +229,7 @@ node_sound : (bytes : List ℕ) (depth : ℕ) → Agrees (struct_count bytes) (n
 unfolding node_at rows_of
 node_sound bytes depth agrees n marks seen node after m e =
     let count = struct_count bytes in
-    let b = bind_ok (entered (suc depth) bytes n marks) _ (node, after) e in
+    let b = bind_ok (struct_entered (suc depth) bytes n marks) _ (node, after) e in
     let i = entered_ok (suc depth) bytes n marks b.0 b.1 in
     let r = bind_ok (rows_of bytes b.0) _ (node, after) b.2 in
     let f = bind_ok (fields_at (node_at depth bytes) r.0 (slice_set marks n true)) (λ fields. Ok (Struct b.0.kind fields.0, fields.1)) (node, after) r.2 in
@@ -274,7 +274,7 @@ node_complete bytes depth agrees n marks seen (Struct kind fields) uses m s d =
 
 none_at : (bytes : List ℕ) (n : ℕ) (marks : Marks) (r : PlainNode × Marks) → node_at 0 bytes n marks ≡ Ok r → ⊥
 none_at bytes n marks r e =
-    let b = bind_ok (entered 0 bytes n marks) (below 0 bytes n marks) r (sym (node_step 0 bytes n marks) ∙ e) in
+    let b = bind_ok (struct_entered 0 bytes n marks) (below 0 bytes n marks) r (sym (node_step 0 bytes n marks) ∙ e) in
     let i = entered_ok 0 bytes n marks b.0 b.1 in
     absurd (omega (arith, i.2))
 

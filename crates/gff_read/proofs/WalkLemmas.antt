@@ -8,9 +8,9 @@ use Rattle.gff_read.specs.declared.fault.TreeFault.TheVariants as fault
 use Rattle.gff_tree.specs.declared.tree.Field.{Field}
 use Rattle.gff_tree.specs.declared.tree.Node.{Node}
 use Rattle.gff_tree.specs.Tree.{PlainNode, PlainFields, PlainNodes, Struct, MoreFields, MoreNodes, plain_node, plain_leaf, plain_field, fields_before, nodes_before}
-use Rattle.gff_read.specs.Rows.{◌>>=◌, Fails, placed, PlainRow, rows_of}
+use Rattle.gff_read.specs.Rows.{◌>>=◌, TreeFails, placed, PlainRow, rows_of}
 use Rattle.gff_read.proofs.RowLemmas.{fault_of}
-use Rattle.gff_read.specs.Walk.{Marks, Reading, entered, node_at, leaf_at, fields_at, nodes_at}
+use Rattle.gff_read.specs.Walk.{Marks, Reading, struct_entered, node_at, leaf_at, fields_at, nodes_at}
 
 abbrev pub with_fields : List Field → Result (PlainFields × Marks) TreeFault → Result (PlainFields × Marks) TreeFault
 with_fields front (Ok rest) = Ok (fields_before (map plain_field front) rest.0, rest.1)
@@ -31,28 +31,28 @@ never_in (Ok row) true n f g = refl
 never_in (Ok row) false n f g = refl
 never_in (Err e) marked n f g = refl
 
-pub node_step : (depth : ℕ) (bytes : List ℕ) (n : ℕ) (marks : Marks) → node_at depth bytes n marks ≡ (entered depth bytes n marks >>= below (depth - 1) bytes n marks)
-unfolding node_at entered
+pub node_step : (depth : ℕ) (bytes : List ℕ) (n : ℕ) (marks : Marks) → node_at depth bytes n marks ≡ (struct_entered depth bytes n marks >>= below (depth - 1) bytes n marks)
+unfolding node_at struct_entered
 node_step zero bytes n marks = never_in (placed (struct_row bytes n)) (get_or marks n false) n (λ row. Err (fault.Deep n)) (below 0 bytes n marks)
 node_step (suc depth) bytes n marks =
     let same : depth ≡ suc depth - 1 = omega arith in
-    ap (λ (d : ℕ). entered (suc depth) bytes n marks >>= below d bytes n marks) same
+    ap (λ (d : ℕ). struct_entered (suc depth) bytes n marks >>= below d bytes n marks) same
 
-pub node_refused : (e : TreeFault) (depth : ℕ) (bytes : List ℕ) (n : ℕ) (marks : Marks) → Fails e (entered depth bytes n marks) → Fails e (node_at depth bytes n marks)
+pub node_refused : (e : TreeFault) (depth : ℕ) (bytes : List ℕ) (n : ℕ) (marks : Marks) → TreeFails e (struct_entered depth bytes n marks) → TreeFails e (node_at depth bytes n marks)
 node_refused e depth bytes n marks here =
-    fault_of e (entered depth bytes n marks) (node_at depth bytes n marks) here (λ failed. node_step depth bytes n marks ∙ rw failed refl)
+    fault_of e (struct_entered depth bytes n marks) (node_at depth bytes n marks) here (λ failed. node_step depth bytes n marks ∙ rw failed refl)
 
-pub node_rows_fail : (e : TreeFault) (depth : ℕ) (bytes : List ℕ) (n : ℕ) (marks : Marks) (row : StructRow) → entered depth bytes n marks ≡ Ok row → Fails e (rows_of bytes row) → Fails e (node_at depth bytes n marks)
+pub node_rows_fail : (e : TreeFault) (depth : ℕ) (bytes : List ℕ) (n : ℕ) (marks : Marks) (row : StructRow) → struct_entered depth bytes n marks ≡ Ok row → TreeFails e (rows_of bytes row) → TreeFails e (node_at depth bytes n marks)
 node_rows_fail e depth bytes n marks row in_row here =
     fault_of e (rows_of bytes row) (node_at depth bytes n marks) here (λ failed. node_step depth bytes n marks ∙ rw (in_row, failed) refl)
 
 pub node_fields_fail : (e : TreeFault) (depth : ℕ) (bytes : List ℕ) (n : ℕ) (marks : Marks) (row : StructRow) (rows : List PlainRow) →
-    entered depth bytes n marks ≡ Ok row → rows_of bytes row ≡ Ok rows → Fails e (fields_at (node_at (depth - 1) bytes) rows (slice_set marks n true)) → Fails e (node_at depth bytes n marks)
+    struct_entered depth bytes n marks ≡ Ok row → rows_of bytes row ≡ Ok rows → TreeFails e (fields_at (node_at (depth - 1) bytes) rows (slice_set marks n true)) → TreeFails e (node_at depth bytes n marks)
 node_fields_fail e depth bytes n marks row rows in_row all here =
     fault_of e (fields_at (node_at (depth - 1) bytes) rows (slice_set marks n true)) (node_at depth bytes n marks) here (λ failed. node_step depth bytes n marks ∙ rw (in_row, all, failed) refl)
 
 pub node_made : (depth : ℕ) (bytes : List ℕ) (n : ℕ) (marks after : Marks) (row : StructRow) (rows : List PlainRow) (fields : PlainFields) (node : PlainNode) →
-    entered depth bytes n marks ≡ Ok row → rows_of bytes row ≡ Ok rows → fields_at (node_at (depth - 1) bytes) rows (slice_set marks n true) ≡ Ok (fields, after) → node ≡ Struct row.kind fields →
+    struct_entered depth bytes n marks ≡ Ok row → rows_of bytes row ≡ Ok rows → fields_at (node_at (depth - 1) bytes) rows (slice_set marks n true) ≡ Ok (fields, after) → node ≡ Struct row.kind fields →
     node_at depth bytes n marks ≡ Ok (node, after)
 node_made depth bytes n marks after row rows fields node in_row all read made = node_step depth bytes n marks ∙ rw (in_row, all, read, made) refl
 

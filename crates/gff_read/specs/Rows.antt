@@ -13,8 +13,8 @@ use Rattle.gff_tree.specs.declared.tree.Loc.{Loc}
 use Rattle.gff_tree.specs.declared.tree.LocPart.{LocPart}
 use Rattle.gff_read.specs.declared.fault.TreeFault.{TreeFault}
 use Rattle.gff_read.specs.declared.fault.TreeFault.TheVariants as fault
-use Rattle.gff_read.specs.declared.kind.Kind.{Kind}
-use Rattle.gff_read.specs.declared.kind.Kind.TheVariants as kind
+use Rattle.gff_read.specs.declared.kind.FieldKind.{FieldKind}
+use Rattle.gff_read.specs.declared.kind.FieldKind.TheVariants as kind
 use Rattle.gff_tree.specs.Label.{label_text}
 use Rattle.gff_tree.specs.Tree as tree
 use Rattle.gff_tree.specs.Tree.{Scalar, PlainLeaf}
@@ -25,13 +25,13 @@ abbrev pub ◌>>=◌ : {A B : Type 0} → Result A TreeFault → (A → Result B
 (Err e) >>= f = Err e
 
 -- what a call returned, seen by `view`, is what the reading gives, unless memory ran out
-abbrev pub Fails : {Y : Type 0} → TreeFault → Result Y TreeFault → Type 0
-Fails fault.NoMemory read = Unit {0}
-Fails e read = read ≡ Err e
+abbrev pub TreeFails : {Y : Type 0} → TreeFault → Result Y TreeFault → Type 0
+TreeFails fault.NoMemory read = Unit {0}
+TreeFails e read = read ≡ Err e
 
 abbrev pub Gives : {X Y : Type 0} → (X → Y) → Result X TreeFault → Result Y TreeFault → Type 0
 Gives view (Ok x) read = read ≡ Ok (view x)
-Gives view (Err e) read = Fails e read
+Gives view (Err e) read = TreeFails e read
 
 -- a place that the file has not is the fault
 abbrev pub placed : {X : Type 0} → Result X Range → Result X TreeFault
@@ -51,7 +51,7 @@ unfoldable pub number_in : ℕ → List ℕ → ℕ
 number_in width bytes = little_number width bytes
 
 -- the field types in the order of their numbers
-abbrev pub kinds : List Kind
+abbrev pub kinds : List FieldKind
 kinds = kind.Byte ∷ kind.Char ∷ kind.Word ∷ kind.Short ∷ kind.Dword ∷ kind.Int ∷ kind.Dword64 ∷ kind.Int64 ∷ kind.Float ∷ kind.Double ∷ kind.Str ∷ kind.Res ∷ kind.Loc ∷ kind.Void ∷ kind.Struct ∷ kind.List ∷ []
 
 -- so many bytes of the field data, then a number of so many bytes
@@ -90,7 +90,7 @@ localized_in field bytes =
     else (parts_in field (number_in 4 (drop 4 bytes)) (drop 8 bytes) >>= λ parts. Ok (record { str_ref = number_in 4 bytes; parts = parts }))
 
 -- the value of a field, by its type and its DataOrDataOffset
-unfoldable pub scalar_for : List ℕ → ℕ → Kind → ℕ → Result Scalar TreeFault
+unfoldable pub scalar_for : List ℕ → ℕ → FieldKind → ℕ → Result Scalar TreeFault
 scalar_for bytes field kind.Byte word = Ok (tree.Byte (word % 256))
 scalar_for bytes field kind.Char word = Ok (tree.Char (cast_signed w8 (word % 256)))
 scalar_for bytes field kind.Word word = Ok (tree.Word (word % 65536))
@@ -107,7 +107,7 @@ scalar_for bytes field kind.Loc word = counted_for bytes field word >>= λ body.
 scalar_for bytes field kind.Void word = counted_for bytes field word >>= λ raw. Ok (tree.Void raw)
 scalar_for bytes field _ word = bad_data field
 
-unfoldable pub leaf_for : List ℕ → ℕ → Kind → ℕ → Result PlainLeaf TreeFault
+unfoldable pub leaf_for : List ℕ → ℕ → FieldKind → ℕ → Result PlainLeaf TreeFault
 leaf_for bytes field k word = scalar_for bytes field k word >>= λ scalar. Ok (tree.Holds scalar)
 
 -- so many numbers of the list indices
@@ -125,7 +125,7 @@ pub record PlainRow : Type 0 where
   pub label : List ℕ
   pub shape : PlainShape
 
-unfoldable pub shape_for : List ℕ → ℕ → Kind → ℕ → Result PlainShape TreeFault
+unfoldable pub shape_for : List ℕ → ℕ → FieldKind → ℕ → Result PlainShape TreeFault
 shape_for bytes field kind.Struct word = Ok (One word)
 shape_for bytes field kind.List word =
     placed (list_word bytes word) >>= λ count. (words_from bytes (word + 4) count >>= λ words. Ok (Many words))
@@ -134,7 +134,7 @@ shape_for bytes field k word = leaf_for bytes field k word >>= λ holds. Ok (Val
 abbrev pub has_label : List PlainRow → List ℕ → Bool
 has_label rows label = list_any (bytes_eq label) (map (λ row. row.label) rows)
 
-abbrev pub of_kind : {X : Type 0} → ℕ → Option Kind → (Kind → Result X TreeFault) → Result X TreeFault
+abbrev pub of_kind : {X : Type 0} → ℕ → Option FieldKind → (FieldKind → Result X TreeFault) → Result X TreeFault
 of_kind field None next = Err (fault.Kind field)
 of_kind field (Some k) next = next k
 

@@ -7,8 +7,8 @@ use Rattle.gff_bytes.specs.declared.rows.FieldRow.{FieldRow}
 use Rattle.gff_bytes.specs.File.{open_fault, struct_row, field_row, label_row, list_word, data_at}
 use Rattle.gff_tree.specs.declared.tree.Loc.{Loc}
 use Rattle.gff_tree.specs.declared.tree.LocPart.{LocPart}
-use Rattle.gff_read.specs.declared.kind.Kind.{Kind}
-use Rattle.gff_read.specs.declared.kind.Kind.TheVariants as kind
+use Rattle.gff_read.specs.declared.kind.FieldKind.{FieldKind}
+use Rattle.gff_read.specs.declared.kind.FieldKind.TheVariants as kind
 use Rattle.gff_tree.specs.Label.{label_text}
 use Rattle.gff_tree.specs.Tree as tree
 use Rattle.gff_tree.specs.Tree.{Scalar, PlainNode, PlainFields, PlainLeaf, PlainNodes, Struct, NoField, MoreFields, Holds, Child, Children, NoNode, MoreNodes, are_distinct}
@@ -39,7 +39,7 @@ pub record LocalizedStands (body : List ℕ) (loc : Loc) : Type 0 where
   pub parts : PartsStand (drop 8 body) loc.parts
 
 -- a value by its field's type and DataOrDataOffset
-abbrev pub ScalarStands : List ℕ → Kind → ℕ → Scalar → Type 0
+abbrev pub ScalarStands : List ℕ → FieldKind → ℕ → Scalar → Type 0
 ScalarStands bytes kind.Byte word s = s ≡ tree.Byte (word % 256)
 ScalarStands bytes kind.Char word s = s ≡ tree.Char (cast_signed w8 (word % 256))
 ScalarStands bytes kind.Word word s = s ≡ tree.Word (word % 65536)
@@ -63,7 +63,7 @@ WordsStand bytes place [] = Unit {0}
 WordsStand bytes place (n ∷ ns) = (list_word bytes place ≡ Ok n) × WordsStand bytes (place + 4) ns
 
 -- what a field holds, structs by their numbers
-abbrev pub ShapeStands : List ℕ → Kind → ℕ → PlainShape → Type 0
+abbrev pub ShapeStands : List ℕ → FieldKind → ℕ → PlainShape → Type 0
 ShapeStands bytes k word (Value (Holds s)) = ScalarStands bytes k word s
 ShapeStands bytes k word (Value (Child node)) = ⊥
 ShapeStands bytes k word (Value (Children nodes)) = ⊥
@@ -73,7 +73,7 @@ ShapeStands bytes k word (Many ns) = (k ≡ kind.List) × (list_word bytes word 
 -- a field of the file
 pub record RowStands (bytes : List ℕ) (field : ℕ) (row : PlainRow) : Type 0 where
   pub entry : FieldRow
-  pub of_kind : Kind
+  pub of_kind : FieldKind
   pub name : List ℕ
   pub entry-is : field_row bytes field ≡ Ok entry
   pub kind-is : slice_get kinds entry.kind ≡ Some of_kind
@@ -137,7 +137,7 @@ pub record Stands (bytes : List ℕ) (gff : PlainGff) : Type 0 where
   pub uses : List ℕ
   pub opens : open_fault bytes ≡ None
   pub file_type : gff.file_type ≡ take 4 bytes
-  pub top : NodeStands tree.depth_limit bytes 0 gff.top uses
+  pub top : NodeStands tree.struct_depth_limit bytes 0 gff.top uses
   pub distinct : IsTrue (are_distinct nat_eq uses)
 
 -- bytes stand for one tree at most

@@ -5,7 +5,7 @@ use Rattle.gff_bytes.specs.declared.rows.StructRow.{StructRow}
 use Rattle.gff_bytes.specs.File.{count_of, struct_row}
 use Rattle.gff_read.specs.declared.fault.TreeFault.{TreeFault}
 use Rattle.gff_read.specs.declared.fault.TreeFault.TheVariants as fault
-use Rattle.gff_tree.specs.Tree.{depth_limit, PlainNode, PlainFields, PlainLeaf, PlainNodes, Struct, NoField, MoreFields, Child, Children, NoNode, MoreNodes}
+use Rattle.gff_tree.specs.Tree.{struct_depth_limit, PlainNode, PlainFields, PlainLeaf, PlainNodes, Struct, NoField, MoreFields, Child, Children, NoNode, MoreNodes}
 use Rattle.gff_tree.specs.Whole.{PlainGff}
 use Rattle.gff_read.specs.Rows.{◌>>=◌, placed, PlainRow, PlainShape, Value, One, Many, rows_of}
 
@@ -35,21 +35,21 @@ fields_at one (row ∷ rows) marks =
     leaf_at one row.shape marks >>= λ first. (fields_at one rows first.1 >>= λ rest. Ok (MoreFields row.label first.0 rest.0, rest.1))
 
 -- the tests at a struct, with so many levels left: its range, that it wasn't reached yet, its depth
-unfoldable pub entered : ℕ → List ℕ → ℕ → Marks → Result StructRow TreeFault
-entered depth bytes n marks =
+unfoldable pub struct_entered : ℕ → List ℕ → ℕ → Marks → Result StructRow TreeFault
+struct_entered depth bytes n marks =
     placed (struct_row bytes n) >>= λ row. (if slice_index_or marks n false then Err (fault.Shared n)
     else (if depth == 0 then Err (fault.Deep n) else Ok row))
 
 -- the struct of a number, with so many levels left: it is entered, all its fields are read, then
 -- the structs below it
 unfoldable pub node_at : ℕ → List ℕ → Reading
-node_at zero bytes n marks = entered 0 bytes n marks >>= λ row. Err (fault.Deep n)
+node_at zero bytes n marks = struct_entered 0 bytes n marks >>= λ row. Err (fault.Deep n)
 node_at (suc depth) bytes n marks =
-    entered (suc depth) bytes n marks >>= λ row.
+    struct_entered (suc depth) bytes n marks >>= λ row.
     (rows_of bytes row >>= λ rows.
     (fields_at (node_at depth bytes) rows (slice_set marks n true) >>= λ fields. Ok (Struct row.kind fields.0, fields.1)))
 
 -- the tree of a file, or the first test that fails
 unfoldable pub tree_of : List ℕ → Result PlainGff TreeFault
 tree_of bytes =
-    node_at depth_limit bytes 0 (replicate (struct_count bytes) false) >>= λ top. Ok (record { file_type = take 4 bytes; top = top.0 })
+    node_at struct_depth_limit bytes 0 (replicate (struct_count bytes) false) >>= λ top. Ok (record { file_type = take 4 bytes; top = top.0 })

@@ -3,7 +3,7 @@ ghost use Rattle.gff_read.specs.Rows.{kinds};
 
 /// The types of a field, in the order of their numbers.
 #[derive(Clone, Copy)]
-pub enum Kind {
+pub enum FieldKind {
     Byte,
     Char,
     Word,
@@ -22,28 +22,28 @@ pub enum Kind {
     List,
 }
 
-const KINDS: [Kind; 16] = [
-    Kind::Byte,
-    Kind::Char,
-    Kind::Word,
-    Kind::Short,
-    Kind::Dword,
-    Kind::Int,
-    Kind::Dword64,
-    Kind::Int64,
-    Kind::Float,
-    Kind::Double,
-    Kind::Str,
-    Kind::Res,
-    Kind::Loc,
-    Kind::Void,
-    Kind::Struct,
-    Kind::List,
+const KINDS: [FieldKind; 16] = [
+    FieldKind::Byte,
+    FieldKind::Char,
+    FieldKind::Word,
+    FieldKind::Short,
+    FieldKind::Dword,
+    FieldKind::Int,
+    FieldKind::Dword64,
+    FieldKind::Int64,
+    FieldKind::Float,
+    FieldKind::Double,
+    FieldKind::Str,
+    FieldKind::Res,
+    FieldKind::Loc,
+    FieldKind::Void,
+    FieldKind::Struct,
+    FieldKind::List,
 ];
 
-impl Kind {
+impl FieldKind {
     /// The type of that number.
-    pub fn of(n: u32) -> Option<Kind>
+    pub fn of(n: u32) -> Option<FieldKind>
         ensures kind { result ≡ slice_get kinds n }
     {
         KINDS.get(n as usize).copied()

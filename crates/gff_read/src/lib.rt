@@ -17,6 +17,6 @@ mod walk;
 
 pub use budget::TREE_BYTES;
 pub use fault::TreeFault;
-pub use kind::Kind;
+pub use kind::FieldKind;
 pub use laws::one_tree;
 pub use reader::{read, read_within};

@@ -13,7 +13,7 @@ ghost use Rattle.nwq_value.specs.Limits.{file_limit};
 
 use crate::budget::{FIELD_BYTES, WORD_BYTES, charge, charge_data};
 use crate::fault::TreeFault;
-use crate::kind::Kind;
+use crate::kind::FieldKind;
 use crate::scalar::leaf;
 use gff_bytes::{StructRow, View};
 use gff_tree::{Label, Leaf, before_zero};
@@ -30,7 +30,7 @@ pub enum Shape {
 
 /// A field of the file: its label, and what it holds before the walk goes down into it.
 #[derive(Drop)]
-pub struct Row {
+pub struct FieldRow {
     pub label: Label,
     pub shape: Shape,
 }
@@ -77,7 +77,7 @@ fn list_shape(
     word: u32,
     left: &mut u64,
 ) -> Result<Shape, TreeFault>
-    ensures read { Gives plain_shape result (shape_for view.now field Kind.List word) }
+    ensures read { Gives plain_shape result (shape_for view.now field FieldKind.List word) }
     ensures charged { IfOk result (λ shape.
         left.old ≡ left.new + shape_charge (plain_shape shape)) }
 {
@@ -90,7 +90,7 @@ fn read_shape(
     alloc: Global,
     view: &View<'_>,
     field: u32,
-    kind: Kind,
+    kind: FieldKind,
     word: u32,
     left: &mut u64,
 ) -> Result<Shape, TreeFault>
@@ -99,8 +99,8 @@ fn read_shape(
         left.old ≡ left.new + shape_charge (plain_shape shape)) }
 {
     match kind {
-        Kind::Struct => Ok(Shape::One(word)),
-        Kind::List => list_shape(alloc, view, field, word, left),
+        FieldKind::Struct => Ok(Shape::One(word)),
+        FieldKind::List => list_shape(alloc, view, field, word, left),
         _ => {
             let value = leaf(alloc, view, field, kind, word)?;
             charge_data(left, &value)?;
@@ -137,7 +137,7 @@ fn read_row<'a>(
     used: &mut BTreeSet<&'a [u8]>,
     field: u32,
     left: &mut u64,
-) -> Result<Row, TreeFault>
+) -> Result<FieldRow, TreeFault>
     ensures added { IfOk result (λ row. AddsLabel used.old row.label used.new) }
     ensures read { (rows : List PlainRow) → HasLabels used.old rows →
         Gives plain_row result (row_for view.now rows field) }
@@ -145,12 +145,12 @@ fn read_row<'a>(
         left.old ≡ left.new + shape_charge (plain_shape row.shape)) }
 {
     let entry = view.field_at(field)?;
-    match Kind::of(entry.kind) {
+    match FieldKind::of(entry.kind) {
         None => Err(TreeFault::Kind(field)),
         Some(kind) => {
             let label = take_label(used, view.label_at(entry.label)?, field)?;
             let shape = read_shape(alloc, view, field, kind, entry.word, left)?;
-            Ok(Row { label, shape })
+            Ok(FieldRow { label, shape })
         }
     }
 }
@@ -178,7 +178,7 @@ pub fn read_rows(
     view: &View<'_>,
     entry: StructRow,
     left: &mut u64,
-) -> Result<Vec<Row>, TreeFault>
+) -> Result<Vec<FieldRow>, TreeFault>
     ensures read { Gives (λ rows. map plain_row rows.items) result (rows_of view.now entry) }
     ensures charged { IfOk result (λ rows.
         left.old ≡ left.new + rows_charge (map plain_row rows.items)) }

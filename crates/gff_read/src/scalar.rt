@@ -7,7 +7,7 @@ ghost use Rattle.gff_read.specs.Rows.{parts_in, localized_in, number_in, leaf_fo
 ghost use Rattle.nwq_value.specs.Limits.{file_limit};
 
 use crate::fault::TreeFault;
-use crate::kind::Kind;
+use crate::kind::FieldKind;
 use byteorder::{ByteOrder, LittleEndian};
 use gff_bytes::{Part, Range, View};
 use gff_tree::{Leaf, Loc, LocPart, Parts};
@@ -176,7 +176,7 @@ fn localized(alloc: Global, field: u32, body: &[u8]) -> Result<Loc, TreeFault>
 /// The value of a field of a type that stands in the field data.
 #[tactic(auto, unfolding(crate::specs::Rows::leaf_for, crate::specs::Rows::scalar_for))]
 fn wide_leaf(view: &View<'_>, field: u32, word: u32) -> Result<Leaf, TreeFault>
-    ensures { Gives plain_leaf result (leaf_for view.now field Kind.Dword64 word) }
+    ensures { Gives plain_leaf result (leaf_for view.now field FieldKind.Dword64 word) }
 {
     match wide_at(view, field, word) {
         Ok(n) => Ok(Leaf::Dword64(n)),
@@ -186,7 +186,7 @@ fn wide_leaf(view: &View<'_>, field: u32, word: u32) -> Result<Leaf, TreeFault>
 
 #[tactic(auto, unfolding(crate::specs::Rows::leaf_for, crate::specs::Rows::scalar_for))]
 fn signed_leaf(view: &View<'_>, field: u32, word: u32) -> Result<Leaf, TreeFault>
-    ensures { Gives plain_leaf result (leaf_for view.now field Kind.Int64 word) }
+    ensures { Gives plain_leaf result (leaf_for view.now field FieldKind.Int64 word) }
 {
     match wide_at(view, field, word) {
         Ok(n) => Ok(Leaf::Int64(n.cast_signed())),
@@ -196,7 +196,7 @@ fn signed_leaf(view: &View<'_>, field: u32, word: u32) -> Result<Leaf, TreeFault
 
 #[tactic(auto, unfolding(crate::specs::Rows::leaf_for, crate::specs::Rows::scalar_for))]
 fn double_leaf(view: &View<'_>, field: u32, word: u32) -> Result<Leaf, TreeFault>
-    ensures { Gives plain_leaf result (leaf_for view.now field Kind.Double word) }
+    ensures { Gives plain_leaf result (leaf_for view.now field FieldKind.Double word) }
 {
     match bytes_at(view, field, word, 8) {
         Ok(read) => {
@@ -210,7 +210,7 @@ fn double_leaf(view: &View<'_>, field: u32, word: u32) -> Result<Leaf, TreeFault
 
 #[tactic(auto, unfolding(crate::specs::Rows::leaf_for, crate::specs::Rows::scalar_for))]
 fn text_leaf(alloc: Global, view: &View<'_>, field: u32, word: u32) -> Result<Leaf, TreeFault>
-    ensures { Gives plain_leaf result (leaf_for view.now field Kind.Str word) }
+    ensures { Gives plain_leaf result (leaf_for view.now field FieldKind.Str word) }
 {
     match counted_at(view, field, word) {
         Ok(text) => Ok(Leaf::Str(Items::of_slice(alloc, text)?)),
@@ -220,7 +220,7 @@ fn text_leaf(alloc: Global, view: &View<'_>, field: u32, word: u32) -> Result<Le
 
 #[tactic(auto, unfolding(crate::specs::Rows::leaf_for, crate::specs::Rows::scalar_for))]
 fn void_leaf(alloc: Global, view: &View<'_>, field: u32, word: u32) -> Result<Leaf, TreeFault>
-    ensures { Gives plain_leaf result (leaf_for view.now field Kind.Void word) }
+    ensures { Gives plain_leaf result (leaf_for view.now field FieldKind.Void word) }
 {
     match counted_at(view, field, word) {
         Ok(bytes) => Ok(Leaf::Void(Items::of_slice(alloc, bytes)?)),
@@ -230,7 +230,7 @@ fn void_leaf(alloc: Global, view: &View<'_>, field: u32, word: u32) -> Result<Le
 
 #[tactic(auto, unfolding(crate::specs::Rows::leaf_for, crate::specs::Rows::scalar_for))]
 fn name_leaf(alloc: Global, view: &View<'_>, field: u32, word: u32) -> Result<Leaf, TreeFault>
-    ensures { Gives plain_leaf result (leaf_for view.now field Kind.Res word) }
+    ensures { Gives plain_leaf result (leaf_for view.now field FieldKind.Res word) }
 {
     match name_at(view, field, word) {
         Ok(name) => Ok(Leaf::Res(Items::of_slice(alloc, name)?)),
@@ -240,7 +240,7 @@ fn name_leaf(alloc: Global, view: &View<'_>, field: u32, word: u32) -> Result<Le
 
 #[tactic(auto, unfolding(crate::specs::Rows::leaf_for, crate::specs::Rows::scalar_for))]
 fn localized_leaf(alloc: Global, view: &View<'_>, field: u32, word: u32) -> Result<Leaf, TreeFault>
-    ensures { Gives plain_leaf result (leaf_for view.now field Kind.Loc word) }
+    ensures { Gives plain_leaf result (leaf_for view.now field FieldKind.Loc word) }
 {
     match counted_at(view, field, word) {
         Ok(body) => match localized(alloc, field, body) {
@@ -257,26 +257,26 @@ pub fn leaf(
     alloc: Global,
     view: &View<'_>,
     field: u32,
-    kind: Kind,
+    kind: FieldKind,
     word: u32,
 ) -> Result<Leaf, TreeFault>
     ensures { Gives plain_leaf result (leaf_for view.now field kind word) }
 {
     match kind {
-        Kind::Byte => Ok(Leaf::Byte((word % 256) as u8)),
-        Kind::Char => Ok(Leaf::Char(((word % 256) as u8).cast_signed())),
-        Kind::Word => Ok(Leaf::Word((word % 65536) as u16)),
-        Kind::Short => Ok(Leaf::Short(((word % 65536) as u16).cast_signed())),
-        Kind::Dword => Ok(Leaf::Dword(word)),
-        Kind::Int => Ok(Leaf::Int(word.cast_signed())),
-        Kind::Dword64 => wide_leaf(view, field, word),
-        Kind::Int64 => signed_leaf(view, field, word),
-        Kind::Float => Ok(Leaf::Float(word.to_le_bytes())),
-        Kind::Double => double_leaf(view, field, word),
-        Kind::Str => text_leaf(alloc, view, field, word),
-        Kind::Res => name_leaf(alloc, view, field, word),
-        Kind::Loc => localized_leaf(alloc, view, field, word),
-        Kind::Void => void_leaf(alloc, view, field, word),
-        Kind::Struct | Kind::List => Err(bad_data(field)),
+        FieldKind::Byte => Ok(Leaf::Byte((word % 256) as u8)),
+        FieldKind::Char => Ok(Leaf::Char(((word % 256) as u8).cast_signed())),
+        FieldKind::Word => Ok(Leaf::Word((word % 65536) as u16)),
+        FieldKind::Short => Ok(Leaf::Short(((word % 65536) as u16).cast_signed())),
+        FieldKind::Dword => Ok(Leaf::Dword(word)),
+        FieldKind::Int => Ok(Leaf::Int(word.cast_signed())),
+        FieldKind::Dword64 => wide_leaf(view, field, word),
+        FieldKind::Int64 => signed_leaf(view, field, word),
+        FieldKind::Float => Ok(Leaf::Float(word.to_le_bytes())),
+        FieldKind::Double => double_leaf(view, field, word),
+        FieldKind::Str => text_leaf(alloc, view, field, word),
+        FieldKind::Res => name_leaf(alloc, view, field, word),
+        FieldKind::Loc => localized_leaf(alloc, view, field, word),
+        FieldKind::Void => void_leaf(alloc, view, field, word),
+        FieldKind::Struct | FieldKind::List => Err(bad_data(field)),
     }
 }

@@ -6,20 +6,21 @@ ghost use Rattle.gff_read.specs.Rows.{Gives};
 ghost use Rattle.gff_read.specs.Held.{plain_row, plain_shape};
 ghost use Rattle.gff_read.specs.Charge.{fields_charge, leaf_charge, node_charge, nodes_charge};
 ghost use Rattle.gff_read.specs.Charge.{rows_charge, shape_charge, word_charge};
-ghost use Rattle.gff_read.specs.Walk.{struct_count, entered, node_at, fields_at, leaf_at, nodes_at};
+ghost use Rattle.gff_read.specs.Walk.{struct_count, struct_entered, node_at, fields_at, leaf_at};
+ghost use Rattle.gff_read.specs.Walk.{nodes_at};
 
 use crate::budget::{STRUCT_BYTES, charge};
 use crate::fault::TreeFault;
-use crate::row::{Row, Shape, read_rows};
+use crate::row::{FieldRow, Shape, read_rows};
 use gff_bytes::{StructRow, View};
 use gff_tree::{Field, Leaf, Node};
 use std::alloc::Global;
 
 /// The tests at a struct before its fields are looked at.
-#[tactic(auto, unfolding(crate::specs::Walk::entered))]
+#[tactic(auto, unfolding(crate::specs::Walk::struct_entered))]
 fn enter(view: &View<'_>, marks: &[bool], n: u32, depth: u8) -> Result<StructRow, TreeFault>
     requires { length marks.now ≡ struct_count view.now }
-    ensures row { Gives (λ row. row) result (entered depth view.now n marks.now) }
+    ensures row { Gives (λ row. row) result (struct_entered depth view.now n marks.now) }
     ensures inside { OnOk result (n < struct_count view.now) }
     ensures room { OnOk result (0 < depth) }
 {
@@ -72,7 +73,7 @@ fn read_fields(
     alloc: Global,
     view: &View<'_>,
     marks: &mut [bool],
-    rows: Vec<Row>,
+    rows: Vec<FieldRow>,
     depth: u8,
     left: &mut u64,
 ) -> Result<Vec<Field>, TreeFault>
@@ -84,7 +85,7 @@ fn read_fields(
 {
     let mut fields = Vec::new(alloc);
     for row in rows {
-        let Row { label, shape } = row;
+        let FieldRow { label, shape } = row;
         let leaf = read_leaf(alloc, view, marks, shape, depth, left)?;
         fields.push(Field { label, leaf })?;
     }

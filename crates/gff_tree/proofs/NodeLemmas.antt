@@ -12,7 +12,7 @@ use Rattle.gff_tree.specs.declared.tree.Node.{Node, out-Node, roll-Node, roll-ou
 use Rattle.gff_tree.specs.declared.tree.Leaf.{Leaf, Row_of-Node, end_of-Node, more_of-Node, items-the_row-Node}
 use Rattle.gff_tree.specs.declared.tree.Leaf.TheViews as views
 use Rattle.gff_tree.specs.Fields.{kind_of, fields_of, node_from, list_in, found, replaced, appended}
-use Rattle.gff_tree.specs.Places.{place_of}
+use Rattle.gff_tree.specs.Places.{place_of_field}
 use Rattle.gff_tree.proofs.FieldLaws.{from_in_fields, from_in_nodes, node_is_its_fields}
 use Rattle.gff_tree.specs.Tree.{Struct, MoreFields, Children, MoreNodes, PlainField, PlainLeaf, plain_node, plain_fields, plain_leaf, plain_nodes, plain_field, fields_list, nodes_list}
 
@@ -87,37 +87,37 @@ here true i rest whole is e = let same : i ≡ i + 0 = omega arith in ap Some sa
 here false i rest whole is e = absurd cc
 
 pub place_here : (label : List ℕ) (fields : List Field) (i : ℕ) (field : Field) (whole : Option ℕ) → i < length fields → field ≡ get_or fields i field → bytes_eq label field.label ≡ true →
-    option_map (λ (k : ℕ). i + k) (place_of label (map plain_field (drop i fields))) ≡ whole → Some i ≡ whole
+    option_map (λ (k : ℕ). i + k) (place_of_field label (map plain_field (drop i fields))) ≡ whole → Some i ≡ whole
 place_here label fields i field whole lt is same at =
     let next : drop i fields ≡ field ∷ drop (i + 1) fields = rw (add-one, drop-cons fields i field) (ap (λ (f : Field). f ∷ drop (suc i) fields) (sym is)) in
-    here (bytes_eq label field.label) i (place_of label (map plain_field (drop (i + 1) fields))) whole same
-    (subst (λ (fs : List Field). option_map (λ (k : ℕ). i + k) (place_of label (map plain_field fs)) ≡ whole) next at)
+    here (bytes_eq label field.label) i (place_of_field label (map plain_field (drop (i + 1) fields))) whole same
+    (subst (λ (fs : List Field). option_map (λ (k : ℕ). i + k) (place_of_field label (map plain_field fs)) ≡ whole) next at)
 
 absent_later : (o : Option ℕ) → option_map suc o ≡ None → o ≡ None
 absent_later None e = refl
 absent_later (Some k) e = absurd cc
 
-pub place_none : (label : List ℕ) (leaf : PlainLeaf) (fields : List PlainField) → place_of label fields ≡ None → (found label fields ≡ None) × (fields ≡ replaced label leaf fields)
+pub place_none : (label : List ℕ) (leaf : PlainLeaf) (fields : List PlainField) → place_of_field label fields ≡ None → (found label fields ≡ None) × (fields ≡ replaced label leaf fields)
 place_none label leaf [] e = (refl, refl)
 place_none label leaf (field ∷ fields) e = by_test (bytes_eq label field.label) e (place_none label leaf fields)
   where
-    by_test : (b : Bool) → cond b (Some 0) (option_map suc (place_of label fields)) ≡ None → (place_of label fields ≡ None → (found label fields ≡ None) × (fields ≡ replaced label leaf fields)) →
+    by_test : (b : Bool) → cond b (Some 0) (option_map suc (place_of_field label fields)) ≡ None → (place_of_field label fields ≡ None → (found label fields ≡ None) × (fields ≡ replaced label leaf fields)) →
         (cond b (Some field.leaf) (found label fields) ≡ None) × (field ∷ fields ≡ cond b (record field { leaf = leaf } ∷ fields) (field ∷ replaced label leaf fields))
     by_test true h more = absurd cc
-    by_test false h more = let rest = more (absent_later (place_of label fields) h) in (rest.0, ap (λ (fs : List PlainField). field ∷ fs) rest.1)
+    by_test false h more = let rest = more (absent_later (place_of_field label fields) h) in (rest.0, ap (λ (fs : List PlainField). field ∷ fs) rest.1)
 
 later_is : (i : ℕ) (o : Option ℕ) → option_map suc o ≡ Some i → (j : ℕ) × (o ≡ Some j) × (i ≡ suc j)
 later_is i None e = absurd cc
 later_is i (Some j) e = (j, refl, cc)
 
 -- the field at the place of a label holds what is found, and is the one that is replaced
-pub place_some : (label : List ℕ) (leaf : PlainLeaf) (fields : List PlainField) (i : ℕ) (d : PlainField) → place_of label fields ≡ Some i →
+pub place_some : (label : List ℕ) (leaf : PlainLeaf) (fields : List PlainField) (i : ℕ) (d : PlainField) → place_of_field label fields ≡ Some i →
     (i < length fields) × (found label fields ≡ Some (get_or fields i d).leaf) × (set fields i (record { label = (get_or fields i d).label; leaf = leaf }) ≡ replaced label leaf fields)
 place_some label leaf [] i d e = absurd cc
 place_some label leaf (field ∷ fields) i d e = by_test (bytes_eq label field.label) e (λ j. place_some label leaf fields j d)
   where
-    by_test : (b : Bool) → cond b (Some 0) (option_map suc (place_of label fields)) ≡ Some i →
-        ((j : ℕ) → place_of label fields ≡ Some j → (j < length fields) × (found label fields ≡ Some (get_or fields j d).leaf) × (set fields j (record { label = (get_or fields j d).label; leaf = leaf }) ≡ replaced label leaf fields)) →
+    by_test : (b : Bool) → cond b (Some 0) (option_map suc (place_of_field label fields)) ≡ Some i →
+        ((j : ℕ) → place_of_field label fields ≡ Some j → (j < length fields) × (found label fields ≡ Some (get_or fields j d).leaf) × (set fields j (record { label = (get_or fields j d).label; leaf = leaf }) ≡ replaced label leaf fields)) →
         (i < suc (length fields)) × (cond b (Some field.leaf) (found label fields) ≡ Some (get_or (field ∷ fields) i d).leaf)
         × (set (field ∷ fields) i (record { label = (get_or (field ∷ fields) i d).label; leaf = leaf }) ≡ cond b (record field { leaf = leaf } ∷ fields) (field ∷ replaced label leaf fields))
     by_test true h more =
@@ -125,12 +125,12 @@ place_some label leaf (field ∷ fields) i d e = by_test (bytes_eq label field.l
         subst (λ (k : ℕ). (k < suc (length fields)) × (Some field.leaf ≡ Some (get_or (field ∷ fields) k d).leaf) × (set (field ∷ fields) k (record { label = (get_or (field ∷ fields) k d).label; leaf = leaf }) ≡ record field { leaf = leaf } ∷ fields)) zero_is
         (omega arith, refl, refl)
     by_test false h more =
-        let later = later_is i (place_of label fields) h in
+        let later = later_is i (place_of_field label fields) h in
         let rest = more later.0 later.1 in
         subst (λ (k : ℕ). (k < suc (length fields)) × (found label fields ≡ Some (get_or (field ∷ fields) k d).leaf) × (set (field ∷ fields) k (record { label = (get_or (field ∷ fields) k d).label; leaf = leaf }) ≡ field ∷ replaced label leaf fields)) (sym later.2)
         (omega (arith, rest.0), rest.1, ap (λ (fs : List PlainField). field ∷ fs) rest.2)
 
-pub replace_some : (label : List ℕ) (leaf : PlainLeaf) (items : List Field) (i : ℕ) (held : Field) → place_of label (map plain_field items) ≡ Some i → held ≡ get_or items i held →
+pub replace_some : (label : List ℕ) (leaf : PlainLeaf) (items : List Field) (i : ℕ) (held : Field) → place_of_field label (map plain_field items) ≡ Some i → held ≡ get_or items i held →
     (i < length items) × (found label (map plain_field items) ≡ Some (plain_leaf held.leaf))
     × ((new : Field) → new.label ≡ held.label → plain_leaf new.leaf ≡ leaf → map plain_field (set items i new) ≡ replaced label leaf (map plain_field items))
 replace_some label leaf items i held at is =
@@ -144,7 +144,7 @@ replace_some label leaf items i held at is =
           ∙ (ap (λ (h : PlainLeaf). set (map plain_field items) i (record { label = (get_or (map plain_field items) i (plain_field held)).label; leaf = h })) leaf_is ∙ some.2)),
     )
 
-pub place_below : (label : List ℕ) (items : List Field) (i : ℕ) → place_of label (map plain_field items) ≡ Some i → i < length items
+pub place_below : (label : List ℕ) (items : List Field) (i : ℕ) → place_of_field label (map plain_field items) ≡ Some i → i < length items
 place_below label [] i at = absurd cc
 place_below label (field ∷ items) i at =
     let some = place_some label (plain_leaf field.leaf) (map plain_field (field ∷ items)) i (plain_field field) at in

@@ -10,8 +10,8 @@ use Rattle.gff_tree.specs.declared.tree.Node.{Node, Node', Row_of-Field, end_of-
 
 -- how deep a struct may be, the top being 1 deep, and how many bytes the name of a resource may
 -- have
-abbrev pub depth_limit : ℕ
-depth_limit = 64
+abbrev pub struct_depth_limit : ℕ
+struct_depth_limit = 64
 
 abbrev pub resource_limit : ℕ
 resource_limit = 16
@@ -162,4 +162,4 @@ abbrev mutual
 
 -- the top has depth 1, and a struct the limit at most
 unfoldable pub is_sound : PlainNode → Bool
-is_sound top = is_sound_node depth_limit top
+is_sound top = is_sound_node struct_depth_limit top

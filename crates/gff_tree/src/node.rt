@@ -3,7 +3,7 @@
 
 ghost use Rattle.std.specs.Prelude.{◌≡◌, map, MatchOption, MatchResult, None, Some, OnOk, OnErr};
 ghost use Rattle.gff_tree.specs.Tree.{plain_node, plain_leaf, plain_field};
-ghost use Rattle.gff_tree.specs.Places.{place_of};
+ghost use Rattle.gff_tree.specs.Places.{place_of_field};
 ghost use Rattle.gff_tree.specs.Fields.{kind_of, fields_of, node_from, list_from, list_in, found};
 ghost use Rattle.gff_tree.specs.Fields.{replaced, appended};
 
@@ -90,7 +90,7 @@ impl Node {
 
 /// Where the first field of a label stands.
 fn place_in(fields: &[Field], label: &[u8]) -> Option<usize>
-    ensures { result ≡ place_of label.now (map plain_field fields.now) }
+    ensures { result ≡ place_of_field label.now (map plain_field fields.now) }
 {
     for (i, field) in fields.iter().enumerate() {
         if label == field.label.bytes() {

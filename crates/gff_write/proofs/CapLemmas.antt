@@ -7,7 +7,7 @@ use Rattle.gff_tree.specs.declared.tree.LocPart.{LocPart}
 use Rattle.gff_tree.specs.Tree.{plain_node, plain_leaf, fields_list, nodes_list}
 use Rattle.std.specs.Int.{w32, cast_unsigned}
 use Rattle.gff_tree.specs.declared.tree.Loc.{Loc}
-use Rattle.gff_write.specs.Flat.{word, wide, part_bytes, counted, localized_bytes}
+use Rattle.gff_write.specs.Flat.{word, wide, part_bytes, length_prefixed, localized_bytes}
 use Rattle.gff_write.specs.Size.{capped, index_bytes, own_count, node_bytes, leaf_bytes, fields_bytes, nodes_bytes}
 
 pub capped_small : (n : ℕ) → capped n ≤ 18446744073709551615
@@ -61,7 +61,7 @@ part_length : (part : LocPart) → length (part_bytes part) ≡ 8 + length part.
 part_length part =
     omega (
       arith,
-      length-append (word (cast_unsigned w32 part.id)) (counted part.text),
+      length-append (word (cast_unsigned w32 part.id)) (length_prefixed part.text),
       length-append (word (length part.text)) part.text,
       word_length (cast_unsigned w32 part.id),
       word_length (length part.text),
@@ -93,7 +93,7 @@ pub eight : (n : ℕ) → 8 ≡ capped (length (wide n))
 unfolding wide capped
 eight n = refl
 
-pub counted_size : (text : List ℕ) → capped (4 + length text) ≡ capped (length (counted text))
+pub counted_size : (text : List ℕ) → capped (4 + length text) ≡ capped (length (length_prefixed text))
 counted_size text = ap capped (omega (arith, length-append (word (length text)) text, word_length (length text)))
 
 pub localized_size : (loc : Loc) → capped (12 + length (flat_map part_bytes loc.parts)) ≡ capped (length (localized_bytes loc))

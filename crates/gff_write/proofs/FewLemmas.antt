@@ -8,7 +8,7 @@ use Rattle.gff_tree.specs.Tree.{PlainNode, PlainFields, PlainLeaf, PlainNodes, S
 use Rattle.gff_tree.specs.Whole.{PlainGff}
 use Rattle.gff_write.specs.declared.fault.WriteFault.TheVariants as fault
 use Rattle.gff_write.specs.declared.flat.Entry.{Entry}
-use Rattle.gff_write.specs.declared.flat.Row.{Row}
+use Rattle.gff_write.specs.declared.flat.FlatStruct.{FlatStruct}
 use Rattle.gff_write.specs.Flat.{node_count, fields_count, leaf_count, nodes_count, rows_of, rows_below, list_rows, tree_limit}
 use Rattle.gff_write.specs.File.{field_count, outcome_of, written}
 use Rattle.gff_write.specs.Size.{capped, node_bytes, fields_bytes, leaf_bytes, nodes_bytes}
@@ -38,7 +38,7 @@ entries_few : (entries : List Entry) → length entries ≤ entries_total entrie
 entries_few [] = omega arith
 entries_few (entry ∷ entries) = omega (arith, entries_few entries)
 
-rows_few : (rows : List Row) → field_count rows ≤ rows_total rows
+rows_few : (rows : List FlatStruct) → field_count rows ≤ rows_total rows
 rows_few [] = omega arith
 rows_few (row ∷ rows) = omega (arith, entries_few row.fields, rows_few rows)
 
@@ -76,11 +76,11 @@ nodes_left (item ∷ items) (suc i) = omega (arith, nodes_left items i)
 pub member_few : (items : List Node) (i : ℕ) (item : Node) → i < length items → item ≡ get_or items i item → node_count (plain_node item) ≤ nodes_count (nodes_list items)
 member_few items i item lt is = omega (arith, nodes_left items i, node_within 0 items i item (0 + nodes_count (nodes_list (drop i items))) lt is refl)
 
-pub pushed_long : (old now : List Row) (row : Row) → now ≡ old ++ row ∷ [] → length now ≡ length old + 1
+pub pushed_long : (old now : List FlatStruct) (row : FlatStruct) → now ≡ old ++ row ∷ [] → length now ≡ length old + 1
 pushed_long old now row pushed = omega (arith, ap length pushed, length-append old (row ∷ []))
 
 -- so many structs stand behind those that were put
-pub below_within : (rows initial : List Row) (items : List Field) (i : ℕ) (item : Field) → i < length items → item ≡ get_or items i item
+pub below_within : (rows initial : List FlatStruct) (items : List Field) (i : ℕ) (item : Field) → i < length items → item ≡ get_or items i item
     → rows ++ rows_below (length rows) (fields_list (drop i items)) ≡ initial ++ rows_below (length initial) (fields_list items)
     → length rows + leaf_count (plain_leaf item.leaf) ≤ length initial + fields_count (fields_list items)
 below_within rows initial items i item lt is before =
@@ -94,7 +94,7 @@ below_within rows initial items i item lt is before =
       below_length (length initial) (fields_list items),
     )
 
-pub list_within : (rows initial : List Row) (items : List Node) (i : ℕ) (item : Node) → i < length items → item ≡ get_or items i item
+pub list_within : (rows initial : List FlatStruct) (items : List Node) (i : ℕ) (item : Node) → i < length items → item ≡ get_or items i item
     → rows ++ list_rows (length rows) (nodes_list (drop i items)) ≡ initial ++ list_rows (length initial) (nodes_list items)
     → length rows + node_count (plain_node item) ≤ length initial + nodes_count (nodes_list items)
 list_within rows initial items i item lt is before =

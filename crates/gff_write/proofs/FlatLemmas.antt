@@ -4,7 +4,7 @@ use Rattle.gff_tree.specs.declared.tree.Field.{Field}
 use Rattle.gff_tree.specs.declared.tree.Node.{Node}
 use Rattle.gff_tree.specs.Tree.{PlainNode, PlainFields, PlainLeaf, PlainNodes, Struct, NoField, MoreFields, Holds, Child, Children, NoNode, MoreNodes, plain_node, plain_leaf, fields_list, nodes_list}
 use Rattle.gff_write.specs.declared.flat.Entry.{Entry}
-use Rattle.gff_write.specs.declared.flat.Row.{Row}
+use Rattle.gff_write.specs.declared.flat.FlatStruct.{FlatStruct}
 use Rattle.gff_write.specs.File.{words_up}
 use Rattle.gff_write.specs.Flat.{word, node_count, fields_count, leaf_count, nodes_count, rows_of, rows_below, leaf_rows, list_rows, entries_from}
 
@@ -27,7 +27,7 @@ mutual
   list_length n (MoreNodes node rest) =
       omega (arith, length-append (rows_of n node) (list_rows (n + node_count node) rest), rows_length n node, list_length (n + node_count node) rest)
 
-pub below_step : (rows now : List Row) (items : List Field) (i : ℕ) (item : Field) (whole : List Row) → i < length items → item ≡ get_or items i item →
+pub below_step : (rows now : List FlatStruct) (items : List Field) (i : ℕ) (item : Field) (whole : List FlatStruct) → i < length items → item ≡ get_or items i item →
     rows ++ rows_below (length rows) (fields_list (drop i items)) ≡ whole → now ≡ rows ++ leaf_rows (length rows) (plain_leaf item.leaf) → now ++ rows_below (length now) (fields_list (drop (i + 1) items)) ≡ whole
 below_step rows now items i item whole lt is before grown =
     let next : drop i items ≡ item ∷ drop (i + 1) items = rw (add-one, drop-cons items i item) (ap (λ (f : Field). f ∷ drop (suc i) items) (sym is)) in
@@ -37,9 +37,9 @@ below_step rows now items i item whole lt is before grown =
     ap length grown ∙ (length-append rows (leaf_rows (length rows) (plain_leaf item.leaf)) ∙ ap (λ (k : ℕ). length rows + k) (leaf_length (length rows) (plain_leaf item.leaf))) in
     let rest = rows_below (length rows + leaf_count (plain_leaf item.leaf)) (fields_list (drop (i + 1) items)) in
     ap (λ (k : ℕ). now ++ rows_below k (fields_list (drop (i + 1) items))) long
-    ∙ (ap (λ (rs : List Row). rs ++ rest) grown ∙ (append_assoc rows (leaf_rows (length rows) (plain_leaf item.leaf)) rest ∙ at))
+    ∙ (ap (λ (rs : List FlatStruct). rs ++ rest) grown ∙ (append_assoc rows (leaf_rows (length rows) (plain_leaf item.leaf)) rest ∙ at))
 
-pub list_step : (rows now : List Row) (items : List Node) (i : ℕ) (item : Node) (whole : List Row) → i < length items → item ≡ get_or items i item →
+pub list_step : (rows now : List FlatStruct) (items : List Node) (i : ℕ) (item : Node) (whole : List FlatStruct) → i < length items → item ≡ get_or items i item →
     rows ++ list_rows (length rows) (nodes_list (drop i items)) ≡ whole → now ≡ rows ++ rows_of (length rows) (plain_node item) → now ++ list_rows (length now) (nodes_list (drop (i + 1) items)) ≡ whole
 list_step rows now items i item whole lt is before grown =
     let next : drop i items ≡ item ∷ drop (i + 1) items = rw (add-one, drop-cons items i item) (ap (λ (f : Node). f ∷ drop (suc i) items) (sym is)) in
@@ -49,16 +49,16 @@ list_step rows now items i item whole lt is before grown =
     ap length grown ∙ (length-append rows (rows_of (length rows) (plain_node item)) ∙ ap (λ (k : ℕ). length rows + k) (rows_length (length rows) (plain_node item))) in
     let rest = list_rows (length rows + node_count (plain_node item)) (nodes_list (drop (i + 1) items)) in
     ap (λ (k : ℕ). now ++ list_rows k (nodes_list (drop (i + 1) items))) long
-    ∙ (ap (λ (rs : List Row). rs ++ rest) grown ∙ (append_assoc rows (rows_of (length rows) (plain_node item)) rest ∙ at))
+    ∙ (ap (λ (rs : List FlatStruct). rs ++ rest) grown ∙ (append_assoc rows (rows_of (length rows) (plain_node item)) rest ∙ at))
 
-pub node_done : (old pushed rows : List Row) (node : Node) (kind : ℕ) (entries : List Entry) (items : List Field) →
+pub node_done : (old pushed rows : List FlatStruct) (node : Node) (kind : ℕ) (entries : List Entry) (items : List Field) →
     rows ≡ pushed ++ rows_below (length pushed) (fields_list items) → pushed ≡ old ++ record { kind = kind; fields = entries } ∷ [] → entries ≡ entries_from (length old + 1) (fields_list items) →
     plain_node node ≡ Struct kind (fields_list items) → rows ≡ old ++ rows_of (length old) (plain_node node)
 node_done old pushed rows node kind entries items walked grown read made =
-    let row : Row = record { kind = kind; fields = entries } in
+    let row : FlatStruct = record { kind = kind; fields = entries } in
     let long : length pushed ≡ length old + 1 = ap length grown ∙ length-append old (row ∷ []) in
     let below = rows_below (length old + 1) (fields_list items) in
-    let all : rows ≡ old ++ (row ∷ below) = walked ∙ (ap (λ (k : ℕ). pushed ++ rows_below k (fields_list items)) long ∙ (ap (λ (rs : List Row). rs ++ below) grown ∙ append_assoc old (row ∷ []) below)) in
+    let all : rows ≡ old ++ (row ∷ below) = walked ∙ (ap (λ (k : ℕ). pushed ++ rows_below k (fields_list items)) long ∙ (ap (λ (rs : List FlatStruct). rs ++ below) grown ∙ append_assoc old (row ∷ []) below)) in
     all ∙ (ap (λ (es : List Entry). old ++ (record { kind = kind; fields = es } ∷ below)) read ∙ ap (λ (x : PlainNode). old ++ rows_of (length old) x) (sym made))
 
 -- one more field index is put

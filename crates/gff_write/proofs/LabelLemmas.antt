@@ -11,7 +11,7 @@ use Rattle.std.specs.Option.{option_map}
 use Rattle.std.specs.Str.{bytes_eq}
 use Rattle.indexmap.specs.IndexMap.{insert_entry}
 use Rattle.nwq_value.specs.Index.{number_under, first_place, Puts}
-use Rattle.gff_write.specs.File.{place_of, with_label}
+use Rattle.gff_write.specs.File.{label_index, with_label}
 use Rattle.gff_write.specs.Labels.{IsTable}
 
 turn : (b any : Bool) (k n : ℕ) → any ≡ nat_lt k n → (b || any) ≡ nat_lt (if b then 0 else 1 + k) (suc n)
@@ -19,11 +19,11 @@ turn true any k n same = grind (arith, nat_tests)
 turn false any k n same = same ∙ grind (arith, nat_tests)
 
 -- a label is in the table exactly where its place is below the length
-pub found_below : (table : List (List ℕ)) (label : List ℕ) → list_any (bytes_eq label) table ≡ nat_lt (place_of table label) (length table)
+pub found_below : (table : List (List ℕ)) (label : List ℕ) → list_any (bytes_eq label) table ≡ nat_lt (label_index table label) (length table)
 found_below [] label = refl
 found_below (x ∷ xs) label =
     ap (λ (b : Bool). b || list_any (bytes_eq label) xs) (nat_list_eq_equiv.symm label x)
-    ∙ turn (bytes_eq x label) (list_any (bytes_eq label) xs) (place_of xs label) (length xs) (found_below xs label)
+    ∙ turn (bytes_eq x label) (list_any (bytes_eq label) xs) (label_index xs label) (length xs) (found_below xs label)
 
 -- ---- the number of a label is its place
 
@@ -31,11 +31,11 @@ abbrev pub or_else : Option ℕ → ℕ → ℕ
 or_else None n = n
 or_else (Some i) n = i
 
-pub place_is : (label : List ℕ) (table : List (List ℕ)) → or_else (first_place label table) (length table) ≡ place_of table label
+pub place_is : (label : List ℕ) (table : List (List ℕ)) → or_else (first_place label table) (length table) ≡ label_index table label
 place_is label [] = refl
-place_is label (x ∷ xs) = by (bytes_eq label x) (first_place label xs) (place_is label xs) ∙ ap (λ (b : Bool). if b then 0 else 1 + place_of xs label) (nat_list_eq_equiv.symm label x)
+place_is label (x ∷ xs) = by (bytes_eq label x) (first_place label xs) (place_is label xs) ∙ ap (λ (b : Bool). if b then 0 else 1 + label_index xs label) (nat_list_eq_equiv.symm label x)
   where
-    by : (b : Bool) (o : Option ℕ) → or_else o (length xs) ≡ place_of xs label → or_else (if b then Some 0 else option_map suc o) (suc (length xs)) ≡ (if b then 0 else 1 + place_of xs label)
+    by : (b : Bool) (o : Option ℕ) → or_else o (length xs) ≡ label_index xs label → or_else (if b then Some 0 else option_map suc o) (suc (length xs)) ≡ (if b then 0 else 1 + label_index xs label)
     by true o h = refl
     by false None h = omega (arith, h)
     by false (Some i) h = omega (arith, h)

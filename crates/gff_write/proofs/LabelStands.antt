@@ -10,9 +10,9 @@ use Rattle.gff_bytes.specs.File.{start_of, count_of, label_row}
 use Rattle.gff_tree.specs.Label.{has_zero, label_text}
 use Rattle.gff_tree.specs.Tree.{PlainNode, PlainFields, PlainLeaf, PlainNodes, Struct, NoField, MoreFields, Holds, Child, Children, NoNode, MoreNodes}
 use Rattle.gff_write.specs.declared.flat.Entry.{Entry}
-use Rattle.gff_write.specs.declared.flat.Row.{Row}
+use Rattle.gff_write.specs.declared.flat.FlatStruct.{FlatStruct}
 use Rattle.gff_write.specs.Flat.{padded, node_count, leaf_count, entries_from, rows_of, rows_below, leaf_rows, list_rows}
-use Rattle.gff_write.specs.File.{place_of, with_label, entry_labels, row_labels, joined}
+use Rattle.gff_write.specs.File.{label_index, with_label, entry_labels, row_labels, joined}
 use Rattle.gff_write.specs.Laws.{IsLabel, IsNode, AreFields, IsLeaf, AreNodes}
 use Rattle.gff_write.proofs.PlaceLemmas.{At, front_at, next_at, moved, taken_at, low_is}
 use Rattle.gff_write.proofs.SectionLemmas.{Lies}
@@ -20,24 +20,24 @@ use Rattle.gff_write.proofs.RowLemmas.{LabelAt, LabelsAt, AllLabelsAt}
 
 -- a table has a label
 abbrev pub Has : List (List ℕ) → List ℕ → Type 0
-Has table label = place_of table label < length table
+Has table label = label_index table label < length table
 
 abbrev HasAll : List (List ℕ) → List Entry → Type 0
 HasAll table [] = Unit {0}
 HasAll table (entry ∷ entries) = Has table entry.label × HasAll table entries
 
-abbrev pub HasRows : List (List ℕ) → List Row → Type 0
+abbrev pub HasRows : List (List ℕ) → List FlatStruct → Type 0
 HasRows table [] = Unit {0}
 HasRows table (row ∷ rows) = HasAll table row.fields × HasRows table rows
 
 abbrev Grows : List (List ℕ) → List (List ℕ) → Type 0
 Grows table now = (label : List ℕ) → Has table label → Has now label
 
-place_here : (first : List ℕ) (labels : List (List ℕ)) (label : List ℕ) → bytes_eq first label ≡ true → place_of (first ∷ labels) label ≡ 0
+place_here : (first : List ℕ) (labels : List (List ℕ)) (label : List ℕ) → bytes_eq first label ≡ true → label_index (first ∷ labels) label ≡ 0
 place_here first labels label same = cond-true _ _ _ same
 
 place_later : (first : List ℕ) (labels : List (List ℕ)) (label : List ℕ) → bytes_eq first label ≡ false →
-    place_of (first ∷ labels) label ≡ 1 + place_of labels label
+    label_index (first ∷ labels) label ≡ 1 + label_index labels label
 place_later first labels label other = cond-false _ _ _ other
 
 has_here : (first : List ℕ) (labels : List (List ℕ)) (label : List ℕ) → bytes_eq first label ≡ true → Has (first ∷ labels) label
@@ -48,7 +48,7 @@ has_later first labels label other has = subst (λ (p : ℕ). p < suc (length la
 
 had_later : (first : List ℕ) (labels : List (List ℕ)) (label : List ℕ) → bytes_eq first label ≡ false → Has (first ∷ labels) label → Has labels label
 had_later first labels label other has =
-    let more : 1 + place_of labels label < suc (length labels) = subst (λ (p : ℕ). p < suc (length labels)) (place_later first labels label other) has in
+    let more : 1 + label_index labels label < suc (length labels) = subst (λ (p : ℕ). p < suc (length labels)) (place_later first labels label other) has in
     omega (arith, more)
 
 push_grows : (table : List (List ℕ)) (more : List ℕ) → Grows table (table ++ more ∷ [])
@@ -67,34 +67,34 @@ has_pushed (first ∷ labels) label =
     (λ (other : bytes_eq first label ≡ false). has_later first (labels ++ label ∷ []) label other (has_pushed labels label))
     (cases_Bool (bytes_eq first label))
 
-with_known : (table : List (List ℕ)) (label : List ℕ) → nat_lt (place_of table label) (length table) ≡ true → with_label table label ≡ table
+with_known : (table : List (List ℕ)) (label : List ℕ) → nat_lt (label_index table label) (length table) ≡ true → with_label table label ≡ table
 with_known table label known = cond-true _ _ _ known
 
-with_new : (table : List (List ℕ)) (label : List ℕ) → nat_lt (place_of table label) (length table) ≡ false → with_label table label ≡ table ++ label ∷ []
+with_new : (table : List (List ℕ)) (label : List ℕ) → nat_lt (label_index table label) (length table) ≡ false → with_label table label ≡ table ++ label ∷ []
 with_new table label new = cond-false _ _ _ new
 
 with_grows : (table : List (List ℕ)) (more : List ℕ) → Grows table (with_label table more)
 with_grows table more label has =
     ⊎_elim
-    (λ (known : nat_lt (place_of table more) (length table) ≡ true). subst (λ (t : List (List ℕ)). Has t label) (sym (with_known table more known)) has)
-    (λ (new : nat_lt (place_of table more) (length table) ≡ false).
+    (λ (known : nat_lt (label_index table more) (length table) ≡ true). subst (λ (t : List (List ℕ)). Has t label) (sym (with_known table more known)) has)
+    (λ (new : nat_lt (label_index table more) (length table) ≡ false).
     subst (λ (t : List (List ℕ)). Has t label) (sym (with_new table more new)) (push_grows table more label has))
-    (cases_Bool (nat_lt (place_of table more) (length table)))
+    (cases_Bool (nat_lt (label_index table more) (length table)))
 
 with_has : (table : List (List ℕ)) (label : List ℕ) → Has (with_label table label) label
 with_has table label =
     ⊎_elim
-    (λ (known : nat_lt (place_of table label) (length table) ≡ true).
-    subst (λ (t : List (List ℕ)). Has t label) (sym (with_known table label known)) (ltb-true (place_of table label) (length table) known))
-    (λ (new : nat_lt (place_of table label) (length table) ≡ false).
+    (λ (known : nat_lt (label_index table label) (length table) ≡ true).
+    subst (λ (t : List (List ℕ)). Has t label) (sym (with_known table label known)) (ltb-true (label_index table label) (length table) known))
+    (λ (new : nat_lt (label_index table label) (length table) ≡ false).
     subst (λ (t : List (List ℕ)). Has t label) (sym (with_new table label new)) (has_pushed table label))
-    (cases_Bool (nat_lt (place_of table label) (length table)))
+    (cases_Bool (nat_lt (label_index table label) (length table)))
 
 entries_grow : (table : List (List ℕ)) (entries : List Entry) → Grows table (entry_labels table entries)
 entries_grow table [] label has = has
 entries_grow table (entry ∷ entries) label has = entries_grow (with_label table entry.label) entries label (with_grows table entry.label label has)
 
-rows_grow : (table : List (List ℕ)) (rows : List Row) → Grows table (row_labels table rows)
+rows_grow : (table : List (List ℕ)) (rows : List FlatStruct) → Grows table (row_labels table rows)
 rows_grow table [] label has = has
 rows_grow table (row ∷ rows) label has = rows_grow (entry_labels table row.fields) rows label (entries_grow table row.fields label has)
 
@@ -106,7 +106,7 @@ entries_has table (entry ∷ entries) now grows = (
 )
 
 -- the table of structs has the labels of all their fields
-pub rows_has : (table : List (List ℕ)) (rows : List Row) → HasRows (row_labels table rows) rows
+pub rows_has : (table : List (List ℕ)) (rows : List FlatStruct) → HasRows (row_labels table rows) rows
 rows_has table [] = tt
 rows_has table (row ∷ rows) = (
   entries_has table row.fields (row_labels (entry_labels table row.fields) rows) (rows_grow (entry_labels table row.fields) rows),
@@ -122,7 +122,7 @@ abbrev FullEntries : List Entry → Type 0
 FullEntries [] = Unit {0}
 FullEntries (entry ∷ entries) = (length entry.label ≡ 16) × FullEntries entries
 
-abbrev pub FullRows : List Row → Type 0
+abbrev pub FullRows : List FlatStruct → Type 0
 FullRows [] = Unit {0}
 FullRows (row ∷ rows) = FullEntries row.fields × FullRows rows
 
@@ -133,16 +133,16 @@ full_push (first ∷ labels) label full long = (full.0, full_push labels label f
 full_with : (table : List (List ℕ)) (label : List ℕ) → AreFull table → length label ≡ 16 → AreFull (with_label table label)
 full_with table label full long =
     ⊎_elim
-    (λ (known : nat_lt (place_of table label) (length table) ≡ true). subst AreFull (sym (with_known table label known)) full)
-    (λ (new : nat_lt (place_of table label) (length table) ≡ false).
+    (λ (known : nat_lt (label_index table label) (length table) ≡ true). subst AreFull (sym (with_known table label known)) full)
+    (λ (new : nat_lt (label_index table label) (length table) ≡ false).
     subst AreFull (sym (with_new table label new)) (full_push table label full long))
-    (cases_Bool (nat_lt (place_of table label) (length table)))
+    (cases_Bool (nat_lt (label_index table label) (length table)))
 
 full_entries : (table : List (List ℕ)) (entries : List Entry) → AreFull table → FullEntries entries → AreFull (entry_labels table entries)
 full_entries table [] full long = full
 full_entries table (entry ∷ entries) full long = full_entries (with_label table entry.label) entries (full_with table entry.label full long.0) long.1
 
-pub full_rows : (table : List (List ℕ)) (rows : List Row) → AreFull table → FullRows rows → AreFull (row_labels table rows)
+pub full_rows : (table : List (List ℕ)) (rows : List FlatStruct) → AreFull table → FullRows rows → AreFull (row_labels table rows)
 full_rows table [] full long = full
 full_rows table (row ∷ rows) full long = full_rows (entry_labels table row.fields) rows (full_entries table row.fields full long.0) long.1
 
@@ -151,19 +151,19 @@ joined_length [] full = refl
 joined_length (label ∷ labels) full = let long = full.0 in omega (arith, length-append label (joined labels), joined_length labels full.1)
 
 joined_at : {bytes : List ℕ} (place : ℕ) (table : List (List ℕ)) (label : List ℕ) → AreFull table → Has table label →
-    At bytes place (joined table) → At bytes (place + 16 * place_of table label) label
+    At bytes place (joined table) → At bytes (place + 16 * label_index table label) label
 joined_at place [] label full has s = absurd (omega arith)
 joined_at {bytes = bytes} place (first ∷ labels) label full has s =
     let long = full.0 in
     ⊎_elim
     (λ (same : bytes_eq first label ≡ true).
     (let here = place_here first labels label same in
-    let spot : place ≡ place + 16 * place_of (first ∷ labels) label = omega (arith, here) in
-    subst (λ (l : List ℕ). At bytes (place + 16 * place_of (first ∷ labels) label) l) ((bytes_eq-Decides first label).0 same) (moved _ spot (front_at first (joined labels) s))))
+    let spot : place ≡ place + 16 * label_index (first ∷ labels) label = omega (arith, here) in
+    subst (λ (l : List ℕ). At bytes (place + 16 * label_index (first ∷ labels) label) l) ((bytes_eq-Decides first label).0 same) (moved _ spot (front_at first (joined labels) s))))
     (λ (other : bytes_eq first label ≡ false).
     (let later = place_later first labels label other in
     let rest = joined_at (place + 16) labels label full.1 (had_later first labels label other has) (next_at (place + 16) first (joined labels) (omega arith) s) in
-    let spot : place + 16 + 16 * place_of labels label ≡ place + 16 * place_of (first ∷ labels) label = omega (arith, later) in
+    let spot : place + 16 + 16 * label_index labels label ≡ place + 16 * label_index (first ∷ labels) label = omega (arith, later) in
     moved _ spot rest))
     (cases_Bool (bytes_eq first label))
 
@@ -172,11 +172,11 @@ label_at : {bytes : List ℕ} (table : List (List ℕ)) (label : List ℕ) → L
 unfolding label_row
 label_at {bytes = bytes} table label s full few long has =
     let count = s.counted in
-    let place = place_of table label in
-    let low : place % 4294967296 ≡ place = low_is (place_of table label) (omega arith) in
+    let place = label_index table label in
+    let low : place % 4294967296 ≡ place = low_is (label_index table label) (omega arith) in
     let at = joined_at (start_of bytes part.Label) table label full has s.at in
-    let test : nat_lt (place_of table label) (count_of bytes part.Label) ≡ true = lt-ltb _ _ (omega arith) in
-    let read : label_row bytes (place_of table label) ≡ Ok label = cond-true _ _ _ test ∙ ap Ok (taken_at 16 label long at) in
+    let test : nat_lt (label_index table label) (count_of bytes part.Label) ≡ true = lt-ltb _ _ (omega arith) in
+    let read : label_row bytes (label_index table label) ≡ Ok label = cond-true _ _ _ test ∙ ap Ok (taken_at 16 label long at) in
     subst (λ (n : ℕ). label_row bytes n ≡ Ok label) (sym low) read
 
 entry_labels_at : {bytes : List ℕ} (table : List (List ℕ)) (entries : List Entry) → Lies bytes part.Label (length table) (joined table) →
@@ -186,7 +186,7 @@ entry_labels_at table [] s full few long has = tt
 entry_labels_at table (entry ∷ entries) s full few long has = (label_at table entry.label s full few long.0 has.0, entry_labels_at table entries s full few long.1 has.1)
 
 -- each label of the structs' fields stands in its place
-pub labels_at : {bytes : List ℕ} (table : List (List ℕ)) (rows : List Row) → Lies bytes part.Label (length table) (joined table) →
+pub labels_at : {bytes : List ℕ} (table : List (List ℕ)) (rows : List FlatStruct) → Lies bytes part.Label (length table) (joined table) →
     AreFull table → length table ≤ 16777216 → FullRows rows → HasRows table rows →
     AllLabelsAt bytes table rows
 labels_at table [] s full few long has = tt
@@ -209,7 +209,7 @@ fields_full : (n : ℕ) (fields : PlainFields) → AreFields fields → FullEntr
 fields_full n NoField is = tt
 fields_full n (MoreFields label holds rest) is = (padded_length label is.0.0, fields_full (n + leaf_count holds) rest is.2)
 
-full_append : (xs ys : List Row) → FullRows xs → FullRows ys → FullRows (xs ++ ys)
+full_append : (xs ys : List FlatStruct) → FullRows xs → FullRows ys → FullRows (xs ++ ys)
 full_append [] ys a b = b
 full_append (x ∷ xs) ys a b = (a.0, full_append xs ys a.1 b)
 

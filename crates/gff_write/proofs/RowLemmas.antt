@@ -14,10 +14,10 @@ use Rattle.gff_read.specs.Rows.{field_number}
 use Rattle.gff_write.specs.declared.flat.Content.{Content}
 use Rattle.gff_write.specs.declared.flat.Content.TheVariants.{Small, Data, Number, Numbers}
 use Rattle.gff_write.specs.declared.flat.Entry.{Entry}
-use Rattle.gff_write.specs.declared.flat.Row.{Row}
+use Rattle.gff_write.specs.declared.flat.FlatStruct.{FlatStruct}
 use Rattle.gff_write.specs.Flat.{word}
 use Rattle.gff_write.specs.File as file
-use Rattle.gff_write.specs.File.{place_of, data_of, list_of, third_of, entry_bytes, entries_data, entries_lists, entries_bytes, rows_data, rows_lists, rows_fields, words_up, indices_of, second_of, rows_indices, rows_structs, field_count}
+use Rattle.gff_write.specs.File.{label_index, data_of, list_of, third_of, entry_bytes, entries_data, entries_lists, entries_bytes, rows_data, rows_lists, rows_fields, words_up, indices_of, second_of, rows_indices, rows_structs, field_count}
 use Rattle.gff_write.proofs.SizeLemmas.{entry_length, row_length, up_length}
 use Rattle.gff_write.proofs.PlaceLemmas.{At, front_at, next_at, word_length, word_stands, words_stand, low_is}
 
@@ -60,7 +60,7 @@ EntriesAt bytes field [] = Unit {0}
 EntriesAt bytes field (entry ∷ entries) = EntryAt bytes field entry × EntriesAt bytes (field + 1) entries
 
 -- a struct stands at its number, and its fields at those that it lists
-pub record RowAt (bytes : List ℕ) (n : ℕ) (row : Row) : Type 0 where
+pub record RowAt (bytes : List ℕ) (n : ℕ) (row : FlatStruct) : Type 0 where
   pub first : ℕ
   pub entry : StructRow
   pub entry-is : struct_row bytes n ≡ Ok entry
@@ -69,19 +69,19 @@ pub record RowAt (bytes : List ℕ) (n : ℕ) (row : Row) : Type 0 where
   pub numbered : (i : ℕ) → i < length row.fields → field_number bytes entry i ≡ Ok (first + i)
   pub fields : EntriesAt bytes first row.fields
 
-abbrev pub RowsAt : List ℕ → ℕ → List Row → Type 0
+abbrev pub RowsAt : List ℕ → ℕ → List FlatStruct → Type 0
 RowsAt bytes n [] = Unit {0}
 RowsAt bytes n (row ∷ rows) = RowAt bytes n row × RowsAt bytes (n + 1) rows
 
 -- the table has the label's bytes in its place
 abbrev pub LabelAt : List ℕ → List (List ℕ) → List ℕ → Type 0
-LabelAt bytes table label = label_row bytes (place_of table label % 4294967296) ≡ Ok label
+LabelAt bytes table label = label_row bytes (label_index table label % 4294967296) ≡ Ok label
 
 abbrev pub LabelsAt : List ℕ → List (List ℕ) → List Entry → Type 0
 LabelsAt bytes table [] = Unit {0}
 LabelsAt bytes table (entry ∷ entries) = LabelAt bytes table entry.label × LabelsAt bytes table entries
 
-abbrev pub AllLabelsAt : List ℕ → List (List ℕ) → List Row → Type 0
+abbrev pub AllLabelsAt : List ℕ → List (List ℕ) → List FlatStruct → Type 0
 AllLabelsAt bytes table [] = Unit {0}
 AllLabelsAt bytes table (row ∷ rows) = LabelsAt bytes table row.fields × AllLabelsAt bytes table rows
 
@@ -102,7 +102,7 @@ entry_at : {bytes : List ℕ} (table : List (List ℕ)) (field datum list : ℕ)
     In bytes part.Data datum (data_of entry.content) → In bytes part.List list (list_of entry.content) → EntryAt bytes field entry
 unfolding field_row
 entry_at {bytes = bytes} table field datum list entry small labelled s inside d l =
-    let words = words_stand entry.kind (place_of table entry.label) (third_of datum list entry.content) s in
+    let words = words_stand entry.kind (label_index table entry.label) (third_of datum list entry.content) s in
     let place = row_place bytes part.Field field in
     let test : nat_lt field (count_of bytes part.Field) ≡ true = lt-ltb _ _ inside in
     record {
@@ -192,7 +192,7 @@ numbered {bytes = bytes} entry first index count small counted is room s i insid
     numbered_more entry first index count i inside more counted word (omega arith) (subst (λ (xs : List ℕ). In bytes part.Index index xs) (indices_more first count more) s)))
     (cases_lt count 2)
 
-row_at : {bytes : List ℕ} (table : List (List ℕ)) (n first index datum list : ℕ) (row : Row) → Small_counts bytes → LabelsAt bytes table row.fields →
+row_at : {bytes : List ℕ} (table : List (List ℕ)) (n first index datum list : ℕ) (row : FlatStruct) → Small_counts bytes → LabelsAt bytes table row.fields →
     At bytes (start_of bytes part.Struct + 12 * n) (file.row_bytes first index row) → n < count_of bytes part.Struct →
     At bytes (start_of bytes part.Field + 12 * first) (entries_bytes table datum list row.fields) →
     first + length row.fields ≤ count_of bytes part.Field →
@@ -229,7 +229,7 @@ entries_length table datum list (entry ∷ entries) =
       entries_length table (datum + length (data_of entry.content)) (list + length (list_of entry.content)) entries,
     )
 
-pub rows_at : {bytes : List ℕ} (table : List (List ℕ)) (n first index datum list : ℕ) (rows : List Row) → Small_counts bytes →
+pub rows_at : {bytes : List ℕ} (table : List (List ℕ)) (n first index datum list : ℕ) (rows : List FlatStruct) → Small_counts bytes →
     AllLabelsAt bytes table rows →
     At bytes (start_of bytes part.Struct + 12 * n) (rows_structs first index rows) → n + length rows ≤ count_of bytes part.Struct →
     At bytes (start_of bytes part.Field + 12 * first) (rows_fields table datum list rows) → first + field_count rows ≤ count_of bytes part.Field →
@@ -256,14 +256,14 @@ rows_at {bytes = bytes} table n first index datum list (row ∷ rows) small labe
     )
 
 -- how long the sections of structs and fields are
-pub structs_length : (first index : ℕ) (rows : List Row) → length (rows_structs first index rows) ≡ 12 * length rows
+pub structs_length : (first index : ℕ) (rows : List FlatStruct) → length (rows_structs first index rows) ≡ 12 * length rows
 structs_length first index [] = refl
 structs_length first index (row ∷ rows) =
     let head = file.row_bytes first index row in
     let rest = rows_structs (first + length row.fields) (index + length (indices_of first (length row.fields))) rows in
     omega (arith, length-append head rest, row_length first index row, structs_length (first + length row.fields) (index + length (indices_of first (length row.fields))) rows)
 
-pub fields_length : (table : List (List ℕ)) (datum list : ℕ) (rows : List Row) → length (rows_fields table datum list rows) ≡ 12 * field_count rows
+pub fields_length : (table : List (List ℕ)) (datum list : ℕ) (rows : List FlatStruct) → length (rows_fields table datum list rows) ≡ 12 * field_count rows
 fields_length table datum list [] = refl
 fields_length table datum list (row ∷ rows) =
     let entries = entries_bytes table datum list row.fields in

@@ -12,20 +12,20 @@ use Rattle.std.proofs.lemmas.List.{append-nil, drop_at, length-append}
 use Rattle.std.proofs.lemmas.Nat.{le_bytes_4}
 use Rattle.gff_bytes.specs.declared.rows.Part.TheVariants as part
 use Rattle.gff_bytes.specs.File.{data_at, count_of}
-use Rattle.gff_read.specs.declared.kind.Kind.{Kind}
-use Rattle.gff_read.specs.declared.kind.Kind.TheVariants as kind
+use Rattle.gff_read.specs.declared.kind.FieldKind.{FieldKind}
+use Rattle.gff_read.specs.declared.kind.FieldKind.TheVariants as kind
 use Rattle.gff_tree.specs.declared.tree.Loc.{Loc}
 use Rattle.gff_tree.specs.declared.tree.LocPart.{LocPart}
 use Rattle.gff_read.specs.Rows.{number_in, kinds}
 use Rattle.gff_read.specs.Stands.{CountedStands, PartsStand, LocalizedStands, ScalarStands}
 use Rattle.gff_tree.specs.Tree as tree
 use Rattle.gff_tree.specs.Tree.{Scalar, is_sound_scalar}
-use Rattle.gff_write.specs.Flat.{word, wide, counted, named, part_bytes, scalar_kind, scalar_content}
-use Rattle.gff_write.specs.Laws.{AreBytes, AreParts, IsScalar}
+use Rattle.gff_write.specs.Flat.{word, wide, length_prefixed, named, part_bytes, scalar_kind, scalar_content}
+use Rattle.gff_write.specs.Laws.{AreBytesByPlace, AreParts, IsScalar}
 use Rattle.gff_write.proofs.PlaceLemmas.{taken_at, word_length, wide_length, word_reads, wide_reads, low_is}
 use Rattle.gff_write.proofs.RowLemmas.{In, front_in, next_in, Small_counts, ContentAt}
 
-abbrev pub kind_for : Scalar → Kind
+abbrev pub kind_for : Scalar → FieldKind
 kind_for (tree.Byte n) = kind.Byte
 kind_for (tree.Char n) = kind.Char
 kind_for (tree.Word n) = kind.Word
@@ -70,7 +70,7 @@ low32 z fits = omega (arith, ints)
 low64 : (z : ℤ) → FitsSigned w64 z → cast_unsigned w64 z < 18446744073709551616
 low64 z fits = omega (arith, ints)
 
-bits_low : (bits : List ℕ) → AreBytes bits → from_le_bytes w32 bits < 4294967296
+bits_low : (bits : List ℕ) → AreBytesByPlace bits → from_le_bytes w32 bits < 4294967296
 bits_low bits bytes = omega (arith, bytes 0, bytes 1, bytes 2, bytes 3)
 
 low_number : (bound n third : ℕ) → n < bound → bound ≤ 4294967296 → third ≡ n % 4294967296 → third % bound ≡ n
@@ -87,7 +87,7 @@ data_reads {bytes = bytes} {offset = offset} count xs long s =
     let test : nat_le (offset + count) (count_of bytes part.Data) ≡ true = le-leb _ _ (omega arith) in
     cond-true _ _ _ test ∙ ap Ok (taken_at count xs long s.at)
 
-counted_stands : {bytes : List ℕ} {offset : ℕ} (text : List ℕ) → Small_counts bytes → In bytes part.Data offset (counted text) →
+counted_stands : {bytes : List ℕ} {offset : ℕ} (text : List ℕ) → Small_counts bytes → In bytes part.Data offset (length_prefixed text) →
     CountedStands bytes offset 4 (length text) text
 counted_stands {offset = offset} text small s =
     let few = small part.Data in
@@ -132,7 +132,7 @@ parts_length : (parts : List LocPart) → length parts ≤ length (flat_map part
 parts_length [] = omega arith
 parts_length (part ∷ parts) =
     let id = word (cast_unsigned w32 part.id) in
-    omega (arith, length-append (part_bytes part) (flat_map part_bytes parts), length-append id (counted part.text), word_length (cast_unsigned w32 part.id), parts_length parts)
+    omega (arith, length-append (part_bytes part) (flat_map part_bytes parts), length-append id (length_prefixed part.text), word_length (cast_unsigned w32 part.id), parts_length parts)
 
 localized_stands : (loc : Loc) → loc.str_ref < 4294967296 → AreParts loc.parts →
     length (word loc.str_ref ++ word (length loc.parts) ++ flat_map part_bytes loc.parts) < 4294967296 →
@@ -153,7 +153,7 @@ localized_stands loc low are short =
     record {
       head = omega (arith, long);
       str_ref = sym (ap (number_in 4) apart ∙ (word_reads loc.str_ref (second ++ rest) ∙ low_is loc.str_ref low));
-      count = sym counted;
+      count = sym length_prefixed;
       parts = subst (λ (bs : List ℕ). PartsStand bs loc.parts) (sym behind) (parts_stand loc.parts are (omega (arith, long)));
     }
 

@@ -5,10 +5,10 @@ use Rattle.gff_tree.specs.Tree as tree
 use Rattle.gff_tree.specs.Tree.{Scalar, PlainNode, PlainFields, PlainLeaf, PlainNodes, Struct, NoField, MoreFields, Holds, Child, Children, NoNode, MoreNodes}
 use Rattle.gff_write.specs.declared.flat.Entry.{Entry}
 use Rattle.gff_tree.specs.Whole.{PlainGff}
-use Rattle.gff_write.specs.declared.flat.Row.{Row}
+use Rattle.gff_write.specs.declared.flat.FlatStruct.{FlatStruct}
 use Rattle.gff_write.specs.declared.sections.Sections.{Sections}
 use Rattle.gff_write.specs.Flat.{word, scalar_content, leaf_content, numbers_from, node_count, leaf_count, entries_from, rows_of, rows_below, leaf_rows, list_rows}
-use Rattle.gff_write.specs.File.{joined, row_labels, data_of, list_of, place_of, third_of, entry_bytes, entries_data, entries_lists, entries_bytes, rows_data, rows_lists, rows_fields, words_up, indices_of, second_of, row_bytes, rows_indices, rows_structs, field_count, header_of, parts_of, written_rows, body_of, written}
+use Rattle.gff_write.specs.File.{joined, row_labels, data_of, list_of, label_index, third_of, entry_bytes, entries_data, entries_lists, entries_bytes, rows_data, rows_lists, rows_fields, words_up, indices_of, second_of, row_bytes, rows_indices, rows_structs, field_count, header_of, parts_of, written_rows, body_of, written}
 use Rattle.gff_write.proofs.PlaceLemmas.{word_length}
 use Rattle.gff_write.specs.Size.{capped, index_bytes, own_count, node_bytes, fields_bytes, leaf_bytes, nodes_bytes}
 
@@ -18,7 +18,7 @@ entries_total [] = 0
 entries_total (entry ∷ entries) = 12 + length (data_of entry.content) + length (list_of entry.content) + entries_total entries
 
 -- what structs put into the sections, labels aside
-abbrev pub rows_total : List Row → ℕ
+abbrev pub rows_total : List FlatStruct → ℕ
 rows_total [] = 0
 rows_total (row ∷ rows) = 12 + index_bytes (length row.fields) + entries_total row.fields + rows_total rows
 
@@ -26,10 +26,10 @@ pub entry_length : (table : List (List ℕ)) (d l : ℕ) (entry : Entry) → len
 entry_length table d l entry =
     omega (
       arith,
-      length-append (word entry.kind ++ word (place_of table entry.label)) (word (third_of d l entry.content)),
-      length-append (word entry.kind) (word (place_of table entry.label)),
+      length-append (word entry.kind ++ word (label_index table entry.label)) (word (third_of d l entry.content)),
+      length-append (word entry.kind) (word (label_index table entry.label)),
       word_length entry.kind,
-      word_length (place_of table entry.label),
+      word_length (label_index table entry.label),
       word_length (third_of d l entry.content),
     )
 
@@ -45,7 +45,7 @@ entries_length table d l (entry ∷ entries) =
       entries_length table (d + length (data_of entry.content)) (l + length (list_of entry.content)) entries,
     )
 
-pub row_length : (first index : ℕ) (row : Row) → length (row_bytes first index row) ≡ 12
+pub row_length : (first index : ℕ) (row : FlatStruct) → length (row_bytes first index row) ≡ 12
 row_length first index row =
     omega (
       arith,
@@ -67,7 +67,7 @@ indices_length first count = by (nat_lt count 2)
     by true = refl
     by false = up_length first count
 
-sections_length : (table : List (List ℕ)) (first index d l : ℕ) (rows : List Row) →
+sections_length : (table : List (List ℕ)) (first index d l : ℕ) (rows : List FlatStruct) →
     length (rows_structs first index rows) + length (rows_fields table d l rows) + length (rows_data rows) + length (rows_indices first rows) + length (rows_lists rows) ≡ rows_total rows
 sections_length table first index d l [] = refl
 sections_length table first index d l (row ∷ rows) =
@@ -84,7 +84,7 @@ sections_length table first index d l (row ∷ rows) =
       sections_length table (first + length row.fields) (index + length (indices_of first (length row.fields))) (d + length (entries_data row.fields)) (l + length (entries_lists row.fields)) rows,
     )
 
-total_append : (front rows : List Row) → rows_total (front ++ rows) ≡ rows_total front + rows_total rows
+total_append : (front rows : List FlatStruct) → rows_total (front ++ rows) ≡ rows_total front + rows_total rows
 total_append [] rows = omega arith
 total_append (row ∷ front) rows = omega (arith, total_append front rows)
 
@@ -141,7 +141,7 @@ header_length : (file_type : List ℕ) (s : Sections) (structs fields labels : �
 unfolding header_of word
 header_length file_type s structs fields labels = simp length-append (omega arith)
 
-pub rows_length : (file_type : List ℕ) (rows : List Row) → length (written_rows file_type rows) ≡ length file_type + 52 + rows_total rows + length (joined (row_labels [] rows))
+pub rows_length : (file_type : List ℕ) (rows : List FlatStruct) → length (written_rows file_type rows) ≡ length file_type + 52 + rows_total rows + length (joined (row_labels [] rows))
 unfolding written_rows
 rows_length file_type rows =
     let s : Sections = parts_of rows in

@@ -1,7 +1,7 @@
 -- The labels of a file are those of the tree, once each.
 use Rattle.std.proofs.Common.{◌≡◌, ℕ, ◌+◌, List, [], ◌∷◌, ◌++◌, refl, sym, ap, ◌∙◌}
 use Rattle.gff_tree.specs.Tree.{PlainNode, PlainFields, PlainLeaf, PlainNodes, Struct, NoField, MoreFields, Holds, Child, Children, NoNode, MoreNodes}
-use Rattle.gff_write.specs.declared.flat.Row.{Row}
+use Rattle.gff_write.specs.declared.flat.FlatStruct.{FlatStruct}
 use Rattle.gff_write.specs.File.{with_label, entry_labels, row_labels}
 use Rattle.gff_write.specs.Flat.{padded, node_count, leaf_count, entries_from, rows_of, rows_below, leaf_rows, list_rows}
 use Rattle.gff_write.specs.Size.{own_labels, node_labels, labels_below, leaf_labels, list_labels}
@@ -11,7 +11,7 @@ entries_table : (table : List (List ℕ)) (n : ℕ) (fields : PlainFields) → e
 entries_table table n NoField = refl
 entries_table table n (MoreFields label holds rest) = entries_table (with_label table (padded label)) (n + leaf_count holds) rest
 
-rows_append : (table : List (List ℕ)) (first rows : List Row) → row_labels table (first ++ rows) ≡ row_labels (row_labels table first) rows
+rows_append : (table : List (List ℕ)) (first rows : List FlatStruct) → row_labels table (first ++ rows) ≡ row_labels (row_labels table first) rows
 rows_append table [] rows = refl
 rows_append table (row ∷ first) rows = rows_append (entry_labels table row.fields) first rows
 

@@ -7,12 +7,12 @@ use Rattle.std.proofs.lemmas.Bool.{le-leb, ne_eqb, cond-true, and_parts, and_fro
 use Rattle.gff_bytes.specs.declared.rows.Part.TheVariants as part
 use Rattle.gff_bytes.specs.declared.rows.StructRow.{StructRow}
 use Rattle.gff_bytes.specs.File.{count_of, list_word}
-use Rattle.gff_read.specs.declared.kind.Kind.{Kind}
-use Rattle.gff_read.specs.declared.kind.Kind.TheVariants as kind
+use Rattle.gff_read.specs.declared.kind.FieldKind.{FieldKind}
+use Rattle.gff_read.specs.declared.kind.FieldKind.TheVariants as kind
 use Rattle.gff_read.specs.Rows.{PlainShape, PlainRow, Value, One, Many, kinds, field_number}
 use Rattle.gff_read.specs.Stands.{ShapeStands, WordsStand, RowStands, RowsStand, NodesStand, LeafStands, FieldsStand, NodeStands}
 use Rattle.gff_tree.specs.Tree.{PlainNode, PlainFields, PlainLeaf, PlainNodes, Struct, NoField, MoreFields, Holds, Child, Children, NoNode, MoreNodes, differ_after, are_distinct, labels_of, is_sound_node, are_sound_fields, is_sound_leaf, are_sound_nodes}
-use Rattle.gff_write.specs.declared.flat.Row.{Row}
+use Rattle.gff_write.specs.declared.flat.FlatStruct.{FlatStruct}
 use Rattle.gff_write.specs.Flat.{word, node_count, fields_count, leaf_count, nodes_count, padded, leaf_kind, leaf_content, numbers_from, entries_from, rows_of, rows_below, leaf_rows, list_rows}
 use Rattle.gff_write.specs.Laws.{IsLabel, IsNode, AreFields, IsLeaf, AreNodes}
 use Rattle.gff_write.proofs.FlatLemmas.{rows_length, leaf_length}
@@ -77,7 +77,7 @@ rows_labels n (MoreFields label holds rest) = ap (λ (ls : List (List ℕ)). lab
 node_positive : (node : PlainNode) → 1 ≤ node_count node
 node_positive (Struct kind fields) = omega arith
 
-abbrev kind_of_leaf : PlainLeaf → Kind
+abbrev kind_of_leaf : PlainLeaf → FieldKind
 kind_of_leaf (Holds scalar) = kind_for scalar
 kind_of_leaf (Child node) = kind.Struct
 kind_of_leaf (Children nodes) = kind.List
@@ -159,7 +159,7 @@ rows_stand bytes small entry first total depth i n (MoreFields label holds rest)
           (subst (λ (k : ℕ). EntriesAt bytes k (entries_from (n + leaf_count holds) rest)) spot at.1),
     )
 
-rows_split : (bytes : List ℕ) (n : ℕ) (xs ys : List Row) → RowsAt bytes n (xs ++ ys) → RowsAt bytes n xs × RowsAt bytes (n + length xs) ys
+rows_split : (bytes : List ℕ) (n : ℕ) (xs ys : List FlatStruct) → RowsAt bytes n (xs ++ ys) → RowsAt bytes n xs × RowsAt bytes (n + length xs) ys
 rows_split bytes n [] ys at = let same : n ≡ n + 0 = omega arith in (tt, subst (λ (k : ℕ). RowsAt bytes k ys) same at)
 rows_split bytes n (x ∷ xs) ys at =
     let rest = rows_split bytes (n + 1) xs ys at.1 in
@@ -167,7 +167,7 @@ rows_split bytes n (x ∷ xs) ys at =
     ((at.0, rest.0), subst (λ (k : ℕ). RowsAt bytes k ys) same rest.1)
 
 -- the rows behind so many
-rows_after : (bytes : List ℕ) (n count : ℕ) (xs ys : List Row) → length xs ≡ count → RowsAt bytes n (xs ++ ys) → RowsAt bytes (n + count) ys
+rows_after : (bytes : List ℕ) (n count : ℕ) (xs ys : List FlatStruct) → length xs ≡ count → RowsAt bytes n (xs ++ ys) → RowsAt bytes (n + count) ys
 rows_after bytes n count xs ys long at = subst (λ (k : ℕ). RowsAt bytes (n + k) ys) long (rows_split bytes n xs ys at).1
 
 -- the structs of a tree use the numbers from n on, as many as there are structs

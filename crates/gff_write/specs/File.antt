@@ -9,25 +9,25 @@ use Rattle.gff_write.specs.declared.fault.WriteFault.TheVariants as fault
 use Rattle.gff_write.specs.declared.flat.Content.{Content}
 use Rattle.gff_write.specs.declared.flat.Content.TheVariants.{Small, Data, Number, Numbers}
 use Rattle.gff_write.specs.declared.flat.Entry.{Entry}
-use Rattle.gff_write.specs.declared.flat.Row.{Row}
+use Rattle.gff_write.specs.declared.flat.FlatStruct.{FlatStruct}
 use Rattle.gff_write.specs.declared.sections.Sections.{Sections}
 use Rattle.gff_write.specs.Flat.{word, rows_of}
 
 -- where a label stands among these, or their number
-abbrev pub place_of : List (List ℕ) → List ℕ → ℕ
-place_of [] label = 0
-place_of (first ∷ labels) label = if bytes_eq first label then 0 else 1 + place_of labels label
+abbrev pub label_index : List (List ℕ) → List ℕ → ℕ
+label_index [] label = 0
+label_index (first ∷ labels) label = if bytes_eq first label then 0 else 1 + label_index labels label
 
 -- these labels, with a label behind them if it is new
 abbrev pub with_label : List (List ℕ) → List ℕ → List (List ℕ)
-with_label table label = if nat_lt (place_of table label) (length table) then table else table ++ label ∷ []
+with_label table label = if nat_lt (label_index table label) (length table) then table else table ++ label ∷ []
 
 -- the labels of fields once each, in the order of their first use
 abbrev pub entry_labels : List (List ℕ) → List Entry → List (List ℕ)
 entry_labels table [] = table
 entry_labels table (entry ∷ entries) = entry_labels (with_label table entry.label) entries
 
-abbrev pub row_labels : List (List ℕ) → List Row → List (List ℕ)
+abbrev pub row_labels : List (List ℕ) → List FlatStruct → List (List ℕ)
 row_labels table [] = table
 row_labels table (row ∷ rows) = row_labels (entry_labels table row.fields) rows
 
@@ -52,7 +52,7 @@ third_of datum list (Number n) = n
 third_of datum list (Numbers ns) = list
 
 abbrev pub entry_bytes : List (List ℕ) → ℕ → ℕ → Entry → List ℕ
-entry_bytes table datum list entry = word entry.kind ++ word (place_of table entry.label) ++ word (third_of datum list entry.content)
+entry_bytes table datum list entry = word entry.kind ++ word (label_index table entry.label) ++ word (third_of datum list entry.content)
 
 abbrev pub entries_data : List Entry → List ℕ
 entries_data [] = []
@@ -68,15 +68,15 @@ entries_bytes table datum list (entry ∷ entries) =
     entry_bytes table datum list entry ++ entries_bytes table (datum + length (data_of entry.content)) (list + length (list_of entry.content)) entries
 
 -- the field data, list indices and fields of structs
-abbrev pub rows_data : List Row → List ℕ
+abbrev pub rows_data : List FlatStruct → List ℕ
 rows_data [] = []
 rows_data (row ∷ rows) = entries_data row.fields ++ rows_data rows
 
-abbrev pub rows_lists : List Row → List ℕ
+abbrev pub rows_lists : List FlatStruct → List ℕ
 rows_lists [] = []
 rows_lists (row ∷ rows) = entries_lists row.fields ++ rows_lists rows
 
-abbrev pub rows_fields : List (List ℕ) → ℕ → ℕ → List Row → List ℕ
+abbrev pub rows_fields : List (List ℕ) → ℕ → ℕ → List FlatStruct → List ℕ
 rows_fields table datum list [] = []
 rows_fields table datum list (row ∷ rows) =
     entries_bytes table datum list row.fields ++ rows_fields table (datum + length (entries_data row.fields)) (list + length (entries_lists row.fields)) rows
@@ -94,14 +94,14 @@ indices_of first count = if nat_lt count 2 then [] else words_up first count
 abbrev pub second_of : ℕ → ℕ → ℕ → ℕ
 second_of first index count = if count == 0 then 4294967295 else (if count == 1 then first else index)
 
-abbrev pub row_bytes : ℕ → ℕ → Row → List ℕ
+abbrev pub row_bytes : ℕ → ℕ → FlatStruct → List ℕ
 row_bytes first index row = word row.kind ++ word (second_of first index (length row.fields)) ++ word (length row.fields)
 
-abbrev pub rows_indices : ℕ → List Row → List ℕ
+abbrev pub rows_indices : ℕ → List FlatStruct → List ℕ
 rows_indices first [] = []
 rows_indices first (row ∷ rows) = indices_of first (length row.fields) ++ rows_indices (first + length row.fields) rows
 
-abbrev pub rows_structs : ℕ → ℕ → List Row → List ℕ
+abbrev pub rows_structs : ℕ → ℕ → List FlatStruct → List ℕ
 rows_structs first index [] = []
 rows_structs first index (row ∷ rows) =
     row_bytes first index row ++ rows_structs (first + length row.fields) (index + length (indices_of first (length row.fields))) rows
@@ -111,7 +111,7 @@ joined [] = []
 joined (label ∷ labels) = label ++ joined labels
 
 -- the six sections
-abbrev pub parts_with : List (List ℕ) → List ℕ → List Row → Sections
+abbrev pub parts_with : List (List ℕ) → List ℕ → List FlatStruct → Sections
 parts_with table labels rows = record {
   structs = rows_structs 0 0 rows;
   fields = rows_fields table 0 0 rows;
@@ -121,11 +121,11 @@ parts_with table labels rows = record {
   lists = rows_lists rows;
 }
 
-abbrev pub parts_of : List Row → Sections
+abbrev pub parts_of : List FlatStruct → Sections
 parts_of rows = parts_with (row_labels [] rows) (joined (row_labels [] rows)) rows
 
 -- how many fields there are
-abbrev pub field_count : List Row → ℕ
+abbrev pub field_count : List FlatStruct → ℕ
 field_count [] = 0
 field_count (row ∷ rows) = length row.fields + field_count rows
 
@@ -148,7 +148,7 @@ abbrev pub body_of : Sections → List ℕ
 body_of s = s.structs ++ s.fields ++ s.labels ++ s.data_bytes ++ s.indices ++ s.lists
 
 -- the one file of a tree
-unfoldable pub written_rows : List ℕ → List Row → List ℕ
+unfoldable pub written_rows : List ℕ → List FlatStruct → List ℕ
 written_rows file_type rows =
     header_of file_type (parts_of rows) (length rows) (field_count rows) (length (row_labels [] rows)) ++ body_of (parts_of rows)
 

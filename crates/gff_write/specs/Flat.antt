@@ -11,7 +11,7 @@ use Rattle.gff_tree.specs.Tree.{Scalar, PlainNode, PlainFields, PlainLeaf, Plain
 use Rattle.gff_write.specs.declared.flat.Content.{Content}
 use Rattle.gff_write.specs.declared.flat.Content.TheVariants.{Small, Data, Number, Numbers}
 use Rattle.gff_write.specs.declared.flat.Entry.{Entry}
-use Rattle.gff_write.specs.declared.flat.Row.{Row}
+use Rattle.gff_write.specs.declared.flat.FlatStruct.{FlatStruct}
 
 -- how many structs there are
 abbrev mutual
@@ -43,19 +43,19 @@ unfoldable pub wide : ℕ → List ℕ
 wide n = little_bytes 8 n
 
 -- a text behind its length
-abbrev pub counted : List ℕ → List ℕ
-counted text = word (length text) ++ text
+abbrev pub length_prefixed : List ℕ → List ℕ
+length_prefixed text = word (length text) ++ text
 
 -- the name of a resource behind its length, which has one byte
 abbrev pub named : List ℕ → List ℕ
 named name = (length name % 256) ∷ name
 
 abbrev pub part_bytes : LocPart → List ℕ
-part_bytes part = word (cast_unsigned w32 part.id) ++ counted part.text
+part_bytes part = word (cast_unsigned w32 part.id) ++ length_prefixed part.text
 
 -- a localized string behind its total size
 abbrev pub localized_bytes : Loc → List ℕ
-localized_bytes loc = counted (word loc.str_ref ++ word (length loc.parts) ++ flat_map part_bytes loc.parts)
+localized_bytes loc = length_prefixed (word loc.str_ref ++ word (length loc.parts) ++ flat_map part_bytes loc.parts)
 
 abbrev pub scalar_kind : Scalar → ℕ
 scalar_kind (tree.Byte n) = 0
@@ -85,10 +85,10 @@ scalar_content (tree.Dword64 n) = Data (wide n)
 scalar_content (tree.Int64 n) = Data (wide (cast_unsigned w64 n))
 scalar_content (tree.Float bits) = Small (from_le_bytes w32 bits)
 scalar_content (tree.Double bits) = Data bits
-scalar_content (tree.Str text) = Data (counted text)
+scalar_content (tree.Str text) = Data (length_prefixed text)
 scalar_content (tree.Res text) = Data (named text)
 scalar_content (tree.Localized loc) = Data (localized_bytes loc)
-scalar_content (tree.Void bytes) = Data (counted bytes)
+scalar_content (tree.Void bytes) = Data (length_prefixed bytes)
 
 -- the numbers of the structs of a list, from a number on
 abbrev pub numbers_from : ℕ → PlainNodes → List ℕ
@@ -117,18 +117,18 @@ entries_from n (MoreFields label holds rest) =
 
 -- a struct and all below it in preorder, from the struct's number on
 abbrev mutual
-  pub rows_of : ℕ → PlainNode → List Row
+  pub rows_of : ℕ → PlainNode → List FlatStruct
   rows_of n (Struct kind fields) = record { kind = kind; fields = entries_from (n + 1) fields } ∷ rows_below (n + 1) fields
 
-  pub rows_below : ℕ → PlainFields → List Row
+  pub rows_below : ℕ → PlainFields → List FlatStruct
   rows_below n NoField = []
   rows_below n (MoreFields label holds rest) = leaf_rows n holds ++ rows_below (n + leaf_count holds) rest
 
-  pub leaf_rows : ℕ → PlainLeaf → List Row
+  pub leaf_rows : ℕ → PlainLeaf → List FlatStruct
   leaf_rows n (Holds scalar) = []
   leaf_rows n (Child node) = rows_of n node
   leaf_rows n (Children nodes) = list_rows n nodes
 
-  pub list_rows : ℕ → PlainNodes → List Row
+  pub list_rows : ℕ → PlainNodes → List FlatStruct
   list_rows n NoNode = []
   list_rows n (MoreNodes node rest) = rows_of n node ++ list_rows (n + node_count node) rest

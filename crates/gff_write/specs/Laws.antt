@@ -12,8 +12,8 @@ use Rattle.nwq_value.specs.Limits.{file_limit}
 use Rattle.gff_write.specs.File.{written}
 
 -- each number of a list is a byte; past its end the list reads 0
-abbrev pub AreBytes : List ℕ → Type 0
-AreBytes bytes = (i : ℕ) → slice_index bytes i < 256
+abbrev pub AreBytesByPlace : List ℕ → Type 0
+AreBytesByPlace bytes = (i : ℕ) → slice_index bytes i < 256
 
 abbrev pub IsLabel : List ℕ → Type 0
 IsLabel label = (length label ≤ 16) × (has_zero label ≡ false)
@@ -32,7 +32,7 @@ IsScalar (tree.Dword n) = n < 4294967296
 IsScalar (tree.Int n) = FitsSigned w32 n
 IsScalar (tree.Dword64 n) = n < 18446744073709551616
 IsScalar (tree.Int64 n) = FitsSigned w64 n
-IsScalar (tree.Float bits) = (length bits ≡ 4) × AreBytes bits
+IsScalar (tree.Float bits) = (length bits ≡ 4) × AreBytesByPlace bits
 IsScalar (tree.Double bits) = length bits ≡ 8
 IsScalar (tree.Str text) = Unit {0}
 IsScalar (tree.Res text) = Unit {0}

@@ -4,7 +4,8 @@ ghost use Rattle.std.specs.Prelude.{◌≡◌, ◌≤◌, ◌+◌, ◌++◌, len
 ghost use Rattle.std.specs.List.{flat_map};
 ghost use Rattle.gff_tree.specs.Tree.{plain_leaf, nodes_list, fields_list};
 ghost use Rattle.gff_write.specs.declared.flat.Content.TheVariants.{Data, Numbers};
-ghost use Rattle.gff_write.specs.Flat.{word, wide, counted, named, part_bytes, localized_bytes};
+ghost use Rattle.gff_write.specs.Flat.{word, wide, length_prefixed, named, part_bytes};
+ghost use Rattle.gff_write.specs.Flat.{localized_bytes};
 ghost use Rattle.gff_write.specs.Flat.{leaf_kind, leaf_content, numbers_from, padded, entries_from};
 ghost use Rattle.gff_write.specs.Flat.{fields_count, leaf_count, nodes_count, tree_limit};
 
@@ -16,7 +17,7 @@ use nwq_value::{Items, NoMemory};
 use std::alloc::Global;
 
 fn counted_data(alloc: Global, text: &[u8]) -> Result<Content, NoMemory>
-    ensures { IfOk result (λ content. content ≡ Data (counted text.now)) }
+    ensures { IfOk result (λ content. content ≡ Data (length_prefixed text.now)) }
 {
     let mut bytes = Items::new(alloc);
     put_counted(&mut bytes, text)?;

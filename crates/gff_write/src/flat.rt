@@ -27,7 +27,7 @@ pub struct Entry {
 
 /// A struct.
 #[derive(Drop)]
-pub struct Row {
+pub struct FlatStruct {
     /// Its type, as the tree gives it.
     pub kind: u32,
     pub fields: Items<Entry>,

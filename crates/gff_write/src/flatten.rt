@@ -5,14 +5,18 @@ ghost use Rattle.gff_tree.specs.Tree.{plain_node, plain_leaf};
 ghost use Rattle.gff_write.specs.Flat.{rows_of, leaf_rows, node_count, leaf_count, tree_limit};
 
 use crate::encode::put_fields;
-use crate::flat::Row;
+use crate::flat::FlatStruct;
 use gff_tree::{Leaf, Node, readings_tell};
 use nwq_value::{Items, NoMemory};
 use std::alloc::Global;
 
 /// Puts a struct and all below it last.
 #[cycle(flatten)]
-pub fn flatten_node(alloc: Global, node: &Node, rows: &mut Items<Row>) -> Result<(), NoMemory>
+pub fn flatten_node(
+    alloc: Global,
+    node: &Node,
+    rows: &mut Items<FlatStruct>,
+) -> Result<(), NoMemory>
     requires few { length rows.old + node_count (plain_node node.now) ≤ tree_limit }
     ensures { OnOk result (rows.new ≡ rows.old ++ rows_of (length rows.old) (plain_node node.now)) }
 {
@@ -20,7 +24,7 @@ pub fn flatten_node(alloc: Global, node: &Node, rows: &mut Items<Row>) -> Result
     let first = rows.len() as u64 + 1;
     let mut fields = Items::new(alloc);
     put_fields(alloc, &mut fields, &node.fields, first)?;
-    rows.push(Row {
+    rows.push(FlatStruct {
         kind: node.kind,
         fields,
     })?;
@@ -32,7 +36,7 @@ pub fn flatten_node(alloc: Global, node: &Node, rows: &mut Items<Row>) -> Result
 
 /// Puts the structs that stand in a field last, with all below them.
 #[cycle(flatten)]
-fn flatten_leaf(alloc: Global, leaf: &Leaf, rows: &mut Items<Row>) -> Result<(), NoMemory>
+fn flatten_leaf(alloc: Global, leaf: &Leaf, rows: &mut Items<FlatStruct>) -> Result<(), NoMemory>
     requires few { length rows.old + leaf_count (plain_leaf leaf.now) ≤ tree_limit }
     ensures { OnOk result (rows.new ≡ rows.old
         ++ leaf_rows (length rows.old) (plain_leaf leaf.now)) }

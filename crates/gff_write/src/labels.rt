@@ -5,10 +5,10 @@
 ghost use Rattle.std.specs.Prelude.{◌≡◌, ◌++◌, ◌∷◌, [], None, length, IfOk, OnOk};
 ghost use Rattle.std.specs.Map.{values_of};
 ghost use Rattle.nwq_value.specs.Index.{number_under};
-ghost use Rattle.gff_write.specs.File.{place_of, with_label, entry_labels, row_labels, joined};
+ghost use Rattle.gff_write.specs.File.{label_index, with_label, entry_labels, row_labels, joined};
 ghost use Rattle.gff_write.specs.Labels.{IsTable};
 
-use crate::flat::{Entry, Row};
+use crate::flat::{Entry, FlatStruct};
 use indexmap::IndexMap;
 use nwq_value::{Items, NameIndex, NoMemory};
 use std::alloc::Global;
@@ -55,7 +55,7 @@ impl Labels {
 
     /// Where a label stands in the table, or the table's length.
     pub fn place(&self, label: &LabelRow) -> usize
-        ensures place { result ≡ place_of self.now label.now }
+        ensures place { result ≡ label_index self.now label.now }
     {
         match self.numbers.get(label.as_slice()) {
             Some(number) => number,
@@ -117,7 +117,7 @@ fn add_labels(
 }
 
 /// The labels of all fields once each, in the order of their first use.
-pub fn label_table(alloc: Global, structs: &[Row]) -> Result<Labels, NoMemory>
+pub fn label_table(alloc: Global, structs: &[FlatStruct]) -> Result<Labels, NoMemory>
     ensures { IfOk result (λ table. table ≡ row_labels [] structs.now) }
 {
     let mut rows = LabelRows::new(alloc);

@@ -1,7 +1,7 @@
 //! Numbers at the end of a list of bytes.
 
 ghost use Rattle.std.specs.Prelude.{◌≡◌, ◌++◌, OnOk};
-ghost use Rattle.gff_write.specs.Flat.{word, wide, counted};
+ghost use Rattle.gff_write.specs.Flat.{word, wide, length_prefixed};
 
 use byteorder::{ByteOrder, LittleEndian};
 use nwq_value::{Items, NoMemory};
@@ -35,7 +35,7 @@ pub fn put_wide(out: &mut Items<u8>, n: u64) -> Result<(), NoMemory>
 
 /// A text behind its length.
 pub fn put_counted(out: &mut Items<u8>, text: &[u8]) -> Result<(), NoMemory>
-    ensures { OnOk result (out.new ≡ out.old ++ counted text.now) }
+    ensures { OnOk result (out.new ≡ out.old ++ length_prefixed text.now) }
 {
     put_word(out, text.len() as u64)?;
     out.extend(text)

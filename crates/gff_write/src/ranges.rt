@@ -3,7 +3,7 @@
 ghost use Rattle.std.specs.Prelude.{◌≡◌, length};
 ghost use Rattle.gff_tree.specs.Tree.{plain_node, plain_leaf};
 ghost use Rattle.gff_tree.specs.Whole.{plain_gff};
-ghost use Rattle.gff_write.specs.Laws.{IsTree, IsNode, IsLeaf, AreBytes, AreParts};
+ghost use Rattle.gff_write.specs.Laws.{IsTree, IsNode, IsLeaf, AreBytesByPlace, AreParts};
 
 use gff_tree::{Gff, Leaf, LocPart, Node, readings_tell};
 
@@ -31,14 +31,14 @@ fn node_ranges(node: &Node)
 }
 
 fn byte_ranges(bytes: &[u8])
-    ensures { AreBytes bytes.now }
+    ensures { AreBytesByPlace bytes.now }
 {
     let _count = bytes.len();
 }
 
 fn float_ranges(bits: &[u8; 4])
     ensures length { length bits.now ≡ 4 }
-    ensures bytes { AreBytes bits.now }
+    ensures bytes { AreBytesByPlace bits.now }
 {
     let bytes = bits.as_slice();
     byte_ranges(bytes);

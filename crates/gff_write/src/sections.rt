@@ -6,7 +6,7 @@ ghost use Rattle.gff_write.specs.File.{parts_with, data_of, list_of, third_of, e
 ghost use Rattle.gff_write.specs.File.{entries_data, entries_lists, entries_bytes, words_up};
 ghost use Rattle.gff_write.specs.File.{field_count, indices_of, row_bytes, joined};
 
-use crate::flat::{Content, Entry, Row};
+use crate::flat::{Content, Entry, FlatStruct};
 use crate::labels::{Labels, label_bytes};
 use crate::put::put_word;
 use nwq_value::{Items, NoMemory};
@@ -120,7 +120,7 @@ fn put_row(
     structs: &mut Items<u8>,
     indices: &mut Items<u8>,
     first: u64,
-    row: &Row,
+    row: &FlatStruct,
 ) -> Result<(), NoMemory>
     requires few { first + length row.now.fields ≤ tree_limit }
     ensures structs { OnOk result (structs.new ≡ structs.old
@@ -143,7 +143,7 @@ fn put_row(
 /// The sections of these structs beside their labels, whose table is given.
 fn body(
     alloc: Global,
-    rows: &[Row],
+    rows: &[FlatStruct],
     table: &Labels,
     labels: Items<u8>,
 ) -> Result<Sections, NoMemory>
@@ -173,7 +173,7 @@ fn body(
 }
 
 /// The sections of these structs, whose labels are given.
-pub fn sections_of(alloc: Global, rows: &[Row], table: &Labels) -> Result<Sections, NoMemory>
+pub fn sections_of(alloc: Global, rows: &[FlatStruct], table: &Labels) -> Result<Sections, NoMemory>
     requires few { field_count rows.now ≤ tree_limit }
     ensures { IfOk result (λ sections. sections
         ≡ parts_with table.now (joined table.now) rows.now) }

@@ -9,7 +9,7 @@ ghost use Rattle.gff_write.specs.File.{Gives, field_count, row_labels, section_w
 ghost use Rattle.gff_write.specs.File.{body_of, written_rows, written, outcome_of};
 
 use crate::fault::WriteFault;
-use crate::flat::Row;
+use crate::flat::FlatStruct;
 use crate::flatten::flatten_node;
 use crate::labels::{Labels, label_table};
 use crate::measure::{node_size, size};
@@ -33,7 +33,7 @@ fn put_section(out: &mut Items<u8>, offset: u128, count: u64) -> Result<(), NoMe
 }
 
 /// How many fields the structs have.
-fn count_fields(rows: &[Row]) -> u64
+fn count_fields(rows: &[FlatStruct]) -> u64
     requires few { field_count rows.now ≤ tree_limit }
     ensures { result ≡ field_count rows.now }
 {
@@ -107,7 +107,7 @@ fn joined(
 fn labelled(
     alloc: Global,
     file_type: &[u8; 4],
-    rows: &[Row],
+    rows: &[FlatStruct],
     labels: &Labels,
     fields: u64,
 ) -> Result<Items<u8>, NoMemory>
@@ -129,7 +129,7 @@ fn labelled(
 }
 
 /// The file of these structs.
-fn file(alloc: Global, file_type: &[u8; 4], rows: &[Row]) -> Result<Items<u8>, NoMemory>
+fn file(alloc: Global, file_type: &[u8; 4], rows: &[FlatStruct]) -> Result<Items<u8>, NoMemory>
     requires few { field_count rows.now ≤ tree_limit }
     ensures { IfOk result (λ bytes. bytes ≡ written_rows file_type.now rows.now) }
 {
@@ -139,7 +139,7 @@ fn file(alloc: Global, file_type: &[u8; 4], rows: &[Row]) -> Result<Items<u8>, N
 }
 
 /// The structs of a tree in preorder.
-fn rows_in(alloc: Global, tree: &Gff) -> Result<Items<Row>, NoMemory>
+fn rows_in(alloc: Global, tree: &Gff) -> Result<Items<FlatStruct>, NoMemory>
     requires few { node_count (plain_node tree.now.top) ≤ tree_limit }
     ensures { IfOk result (λ rows. rows ≡ rows_of 0 (plain_node tree.now.top)) }
 {

@@ -59,8 +59,8 @@ abbrev pub pure_named : List Named → List ℕ → List Value → Option Value
 pure_named tables name args = pure_numbered (cell_of tables) (number_named name) args
 
 -- the types of arguments, first to last
-abbrev pub types_of : List Value → List Ty
-types_of args = map type_of args
+abbrev pub types_of_values : List Value → List Ty
+types_of_values args = map type_of args
 
 -- the value is what the function of this name gives for these arguments, and it has the result's
 -- type

@@ -1,6 +1,6 @@
 ghost use Rattle.std.specs.Prelude.{◌≡◌, IfOk, Ok};
 ghost use Rattle.hook_table.specs.Sets.{answer_sets};
-ghost use Rattle.hook_table.specs.Standard.{types_of, IsAnswer};
+ghost use Rattle.hook_table.specs.Standard.{types_of_values, IsAnswer};
 
 use nwq_value::{Args, NoMemory, Text, Ty, Tys, Value};
 use table_2da::Tables;
@@ -36,8 +36,8 @@ impl Hook {
     /// The hook of this closure, which may be called on arguments of these types and answers the
     /// function's value.
     pub fn new(name: Text, params: Tys, gives: Ty, call: Call, tables: Tables) -> Hook
-        requires callable { (args : _) → types_of args.now ≡ params → Call.pre call args }
-        requires answers { (args : _) (v : _) → types_of args.now ≡ params
+        requires callable { (args : _) → types_of_values args.now ≡ params → Call.pre call args }
+        requires answers { (args : _) (v : _) → types_of_values args.now ≡ params
             → Call.post call args (Ok v) → IsAnswer tables name gives args.now v }
         ensures known { result.known
             ≡ record { name = name; params = params; result = gives; tables = tables } }
@@ -53,7 +53,7 @@ impl Hook {
 
     /// The function's value for these arguments.
     pub fn answer(&self, args: &Args) -> Result<Value, NoMemory>
-        requires types { types_of args.now ≡ self.now.known.params }
+        requires types { types_of_values args.now ≡ self.now.known.params }
         ensures answer { IfOk result (λ v. IsAnswer
             self.now.known.tables self.now.known.name self.now.known.result args.now v) }
     {

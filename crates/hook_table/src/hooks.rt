@@ -2,7 +2,7 @@ ghost use Rattle.std.specs.Prelude.{◌≡◌, ◌<◌, [], ◌∷◌, ◌++◌,
 ghost use Rattle.std.specs.Prelude.{IfOk, IfSome, OnOk, OnErr};
 ghost use Rattle.std.specs.Option.{ForSome};
 ghost use Rattle.std.specs.Str.{bytes_eq};
-ghost use Rattle.hook_table.specs.Standard.{types_of, IsAnswer};
+ghost use Rattle.hook_table.specs.Standard.{types_of_values, IsAnswer};
 
 use crate::hook::Hook;
 use nwq_value::{Args, NoMemory, Value};
@@ -65,7 +65,7 @@ impl Hooks {
     pub fn call(&self, i: usize, args: &Args) -> Result<Value, NoMemory>
         requires hook { i < length self.now.all.items }
         requires types { ForSome (slice_get self.now.all.items i)
-            (λ h. types_of args.now ≡ h.known.params) }
+            (λ h. types_of_values args.now ≡ h.known.params) }
         ensures answer { IfOk result (λ v. IfSome (slice_get self.now.all.items i)
             (λ h. IsAnswer h.known.tables h.known.name h.known.result args.now v)) }
     {

@@ -6,7 +6,8 @@ ghost use Rattle.ncs_code.specs.Plain.{Jsr, SaveBp, RestoreBp, StoreState};
 ghost use Rattle.ncs_code.specs.Spelling.{op_size};
 ghost use Rattle.machine_rules.specs.Frames.{started, continued};
 ghost use Rattle.machine_rules.specs.Machine.{with_answer};
-ghost use Rattle.machine_rules.specs.Act.{Moves, Divides, Returns, based, called, moved, restored};
+ghost use Rattle.machine_rules.specs.Act.{Moves, Divides, Returns, based, subroutine_called, moved};
+ghost use Rattle.machine_rules.specs.Act.{restored};
 ghost use Rattle.machine_rules.specs.Act.{returned, stored, stored_cells};
 ghost use Rattle.std.specs.Prelude.{◌∷◌};
 ghost use Rattle.std.specs.Option.{option_map};
@@ -140,7 +141,7 @@ impl Frame {
     pub fn call(&mut self, offset: i32, size: u32) -> Result<(), NoMemory>
         requires size { size ≡ op_size (Jsr offset) }
         requires small { self.old.place + size ≤ file_limit }
-        ensures act { OnOk result (called offset self.old ≡ Moves self.new) }
+        ensures act { OnOk result (subroutine_called offset self.old ≡ Moves self.new) }
     {
         self.calls.push(self.place + size)?;
         self.place = jump(self.place, offset);

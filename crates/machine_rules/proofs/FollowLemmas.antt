@@ -449,14 +449,14 @@ change_follows f r cells types old same =
       outlines_are = kept_outlines cells _ (outlines_kept r.above r.count (Int (f i.0) ∷ []) old.values cells old.are (sym (old.types_are ∙ same)));
     }
 
-counted_follows : (f : ℤ → ℤ) (range : Option CellRange) (cells : List Cell) (e : StackEffect) → rules.counted range (slots cells) ≡ Some e
+counted_follows : (f : ℤ → ℤ) (range : Option CellRange) (cells : List Cell) (e : StackEffect) → rules.range_int_changed range (slots cells) ≡ Some e
     → Follows (int_changed f range cells) cells e
 counted_follows f None cells e h = absurd cc
 counted_follows f (Some r) cells e h =
     let a = alike (types_at r (slots cells)) (Some (IntTy ∷ [])) rules.no_effect e h in
     at_effect _ cells _ e a.effect (change_follows f r cells a.first (typed_at r cells a.first a.first_is) (a.same ∙ sym (some_is _ _ a.second_is)))
 
-counted_under_follows : (f : ℤ → ℤ) (range : Option CellRange) (s : StackView) (e : StackEffect) → s.bp ≤ length s.cells → rules.counted range (slots_under s) ≡ Some e
+counted_under_follows : (f : ℤ → ℤ) (range : Option CellRange) (s : StackView) (e : StackEffect) → s.bp ≤ length s.cells → rules.range_int_changed range (slots_under s) ≡ Some e
     → Follows (int_changed f (option_and_then (from_bp s) range) s.cells) s.cells e
 counted_under_follows f None s e inside h = absurd cc
 counted_under_follows f (Some r) s e inside h =

@@ -6,8 +6,8 @@ use Rattle.std.proofs.lemmas.Bool.Decides.{nat_tests}
 use Rattle.ncs_code.specs.Plain.{PlainOp}
 use Rattle.machine_rules.specs.Frames.{Frame}
 use Rattle.machine_rules.specs.Act.{Act, Moves, Asks, Executes, Returns, Divides, act}
-use Rattle.machine_rules.specs.Machine.{Host, State, Next, Goes, Ends, Divided, depth_limit, script_named, begun, executed, over, followed, next_op, step}
-use Rattle.machine_rules.specs.Runs.{Ending, Over, ZeroDivisor, OutOfInstructions, StackFault, Ran, counted, after_step, run}
+use Rattle.machine_rules.specs.Machine.{Host, State, Next, Goes, Ends, Divided, waiting_limit, script_named, script_begun, executed, over, followed, next_op, step}
+use Rattle.machine_rules.specs.Runs.{Ending, Over, ZeroDivisor, OutOfInstructions, StackFault, Ran, one_step_longer, after_step, run}
 use Rattle.machine_rules.specs.Laws.{FewWait, CountsInstructions, run_on, RunsGoOn}
 
 -- ---- counts
@@ -30,7 +30,7 @@ counts_instructions host (suc limit) s = step_counted limit (step host s) s (run
 -- ---- greater limits
 
 -- a run that goes on, counted once more
-counted_on : {W : Type 0} (host : Host W) (more : ℕ) (ending : Ending) (r : Ran W) → counted (run_on host more ending r) ≡ run_on host more ending (counted r)
+counted_on : {W : Type 0} (host : Host W) (more : ℕ) (ending : Ending) (r : Ran W) → one_step_longer (run_on host more ending r) ≡ run_on host more ending (one_step_longer r)
 counted_on host more Over r = refl
 counted_on host more ZeroDivisor r = refl
 counted_on host more OutOfInstructions r = ap (λ (n : ℕ). record (run host more r.last) { count = n }) (suc_more r.count (run host more r.last).count)
@@ -43,7 +43,7 @@ step_goes_on : {W : Type 0} (host : Host W) (limit more : ℕ) (next : Option (N
     → ((t : State W) → run host (limit + more) t ≡ run_on host more (run host limit t).ending (run host limit t))
     → after_step next s (run host (limit + more)) ≡ run_on host more (after_step next s (run host limit)).ending (after_step next s (run host limit))
 step_goes_on host limit more None s h = refl
-step_goes_on host limit more (Some (Goes t)) s h = ap counted (h t) ∙ counted_on host more (run host limit t).ending (run host limit t)
+step_goes_on host limit more (Some (Goes t)) s h = ap one_step_longer (h t) ∙ counted_on host more (run host limit t).ending (run host limit t)
 step_goes_on host limit more (Some Ends) s h = refl
 step_goes_on host limit more (Some Divided) s h = refl
 
@@ -67,32 +67,32 @@ left_waiting (Goes t) = t.waiting
 left_waiting Ends = []
 left_waiting Divided = []
 
-few_begun : {W : Type 0} (host : Host W) (number : Option ℕ) (name : List ℕ) (target : ℕ) (f : Frame) (s : State W) → length s.waiting ≤ depth_limit
-    → length (begun host number name target f s).waiting ≤ depth_limit
+few_begun : {W : Type 0} (host : Host W) (number : Option ℕ) (name : List ℕ) (target : ℕ) (f : Frame) (s : State W) → length s.waiting ≤ waiting_limit
+    → length (script_begun host number name target f s).waiting ≤ waiting_limit
 few_begun host None name target f s h = h
-few_begun {W} host (Some script) name target f s h = on (nat_lt (length s.waiting) depth_limit) refl
+few_begun {W} host (Some script) name target f s h = on (nat_lt (length s.waiting) waiting_limit) refl
   where
-    on : (b : Bool) → nat_lt (length s.waiting) depth_limit ≡ b → length (begun host (Some script) name target f s).waiting ≤ depth_limit
+    on : (b : Bool) → nat_lt (length s.waiting) waiting_limit ≡ b → length (script_begun host (Some script) name target f s).waiting ≤ waiting_limit
     on true e = rw e (room e)
       where
-        room : nat_lt (length s.waiting) depth_limit ≡ true → suc (length s.waiting) ≤ depth_limit
+        room : nat_lt (length s.waiting) waiting_limit ≡ true → suc (length s.waiting) ≤ waiting_limit
         room e = grind (arith, nat_tests)
     on false e = rw e h
 
-few_executed : {W : Type 0} (host : Host W) (name : List ℕ) (target : ℕ) (f : Frame) (s : State W) → length s.waiting ≤ depth_limit
-    → length (executed host name target f s).waiting ≤ depth_limit
+few_executed : {W : Type 0} (host : Host W) (name : List ℕ) (target : ℕ) (f : Frame) (s : State W) → length s.waiting ≤ waiting_limit
+    → length (executed host name target f s).waiting ≤ waiting_limit
 few_executed host [] target f s h = h
 few_executed {W} host (b ∷ name) target f s h = on (host.may_run f.self target s.world) refl
   where
-    on : (c : Bool) → host.may_run f.self target s.world ≡ c → length (executed host (b ∷ name) target f s).waiting ≤ depth_limit
+    on : (c : Bool) → host.may_run f.self target s.world ≡ c → length (executed host (b ∷ name) target f s).waiting ≤ waiting_limit
     on true e = rw e (few_begun host (script_named host.scripts (b ∷ name)) (b ∷ name) target f s h)
     on false e = rw e h
 
-few_over : {W : Type 0} (waiting : List Frame) (s : State W) → length waiting ≤ depth_limit → length (left_waiting (over waiting s)) ≤ depth_limit
+few_over : {W : Type 0} (waiting : List Frame) (s : State W) → length waiting ≤ waiting_limit → length (left_waiting (over waiting s)) ≤ waiting_limit
 few_over [] s h = omega arith
 few_over (f ∷ waiting) s h = omega (arith, h)
 
-few_followed : {W : Type 0} (host : Host W) (s : State W) (a : Act) → length s.waiting ≤ depth_limit → length (left_waiting (followed host s a)) ≤ depth_limit
+few_followed : {W : Type 0} (host : Host W) (s : State W) (a : Act) → length s.waiting ≤ waiting_limit → length (left_waiting (followed host s a)) ≤ waiting_limit
 few_followed host s (Moves f) h = h
 few_followed host s (Asks routine values action f) h = h
 few_followed host s (Executes name target f) h = few_executed host name target f s h
@@ -118,4 +118,4 @@ from_step host s next h = from_op host s (next_op host.scripts s.running) next h
 
 pub few_wait : {W : Type 0} → FewWait W
 few_wait {W} host s t h e = let f = from_step host s (Goes t) e in
-    subst (λ (next : Next W). length (left_waiting next) ≤ depth_limit) f.1 (few_followed host s f.0 h)
+    subst (λ (next : Next W). length (left_waiting next) ≤ waiting_limit) f.1 (few_followed host s f.0 h)

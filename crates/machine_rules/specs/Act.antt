@@ -138,8 +138,8 @@ moved op f = option_map (λ cells. if is_division op && zero_on_top f.stack.cell
     (cells_after op f.self f.stack)
 
 -- JSR and RETN
-abbrev pub called : ℤ → Frame → Act
-called offset f = Moves (record f { place = jump_place f.place offset; calls = next_place f.place (ops.Jsr offset) ∷ f.calls })
+abbrev pub subroutine_called : ℤ → Frame → Act
+subroutine_called offset f = Moves (record f { place = jump_place f.place offset; calls = next_place f.place (ops.Jsr offset) ∷ f.calls })
 
 abbrev pub returned : List ℕ → Frame → Act
 returned [] f = Returns
@@ -196,7 +196,7 @@ engine_called table routine count f =
 -- What an instruction comes to in a running script: none where it has no case there.
 unfoldable pub act : EngineTable → PlainOp → Frame → Option Act
 act table (ops.Action routine count) f = engine_called table routine count f
-act table (ops.Jsr offset) f = Some (called offset f)
+act table (ops.Jsr offset) f = Some (subroutine_called offset f)
 act table ops.Retn f = Some (returned f.calls f)
 act table ops.SaveBp f = Some (based f)
 act table ops.RestoreBp f = restored f.stack.cells f

@@ -18,7 +18,7 @@ use Rattle.machine_rules.specs.Frames.{Frame}
 use Rattle.machine_rules.specs.Calls.{Taken, arguments}
 use Rattle.machine_rules.specs.Act.{Moves, cells_after, next_place, stored}
 use Rattle.machine_rules.specs.Outlines.{Typed, Keeps, outlines, outlines_after, slots, slots_under}
-use Rattle.machine_rules.specs.Machine.{Host, State, Goes, depth_limit, step}
+use Rattle.machine_rules.specs.Machine.{Host, State, Goes, waiting_limit, step}
 use Rattle.machine_rules.specs.Runs.{Ending, OutOfInstructions, Ran, run}
 
 -- the test of two values tells whether they are equal
@@ -27,7 +27,7 @@ EqualityIsTested = (v w : Value) → IsTrue (value_eq v w) ↔ (v ≡ w)
 
 -- no more scripts wait than may
 abbrev pub FewWait : Type 0 → Type 0
-FewWait W = (host : Host W) (s t : State W) → length s.waiting ≤ depth_limit → step host s ≡ Some (Goes t) → length t.waiting ≤ depth_limit
+FewWait W = (host : Host W) (s t : State W) → length s.waiting ≤ waiting_limit → step host s ≡ Some (Goes t) → length t.waiting ≤ waiting_limit
 
 -- a run takes no more instructions than its limit, and as many where it is out of them
 abbrev pub CountsInstructions : Type 0 → Type 0

@@ -14,8 +14,8 @@ use Rattle.machine_rules.specs.Frames.{Frame, started}
 use Rattle.machine_rules.specs.Act.{Act, Moves, Asks, Executes, Returns, Divides, act}
 
 -- how many scripts at most wait for one that they execute
-abbrev pub depth_limit : ℕ
-depth_limit = 8
+abbrev pub waiting_limit : ℕ
+waiting_limit = 8
 
 -- a listed script, under its name in lower case
 pub record Script : Type 0 where
@@ -74,17 +74,17 @@ script_named scripts name = position (λ s. bytes_eq (map to_ascii_lowercase nam
 
 -- The script begins, and this frame waits for it: unless it isn't listed, or as many scripts wait
 -- as may.
-abbrev pub begun : {W : Type 0} → Host W → Option ℕ → List ℕ → ℕ → Frame → State W → State W
-begun host None name target f s = record s { running = f; world = host.no_script target name s.world }
-begun host (Some script) name target f s =
-    if nat_lt (length s.waiting) depth_limit then record s { running = started script target; waiting = f ∷ s.waiting }
+abbrev pub script_begun : {W : Type 0} → Host W → Option ℕ → List ℕ → ℕ → Frame → State W → State W
+script_begun host None name target f s = record s { running = f; world = host.no_script target name s.world }
+script_begun host (Some script) name target f s =
+    if nat_lt (length s.waiting) waiting_limit then record s { running = started script target; waiting = f ∷ s.waiting }
     else record s { running = f; world = host.too_deep target name s.world }
 
 -- Nothing comes of an empty name, nor of a target that the caller may not run a script on.
 abbrev pub executed : {W : Type 0} → Host W → List ℕ → ℕ → Frame → State W → State W
 executed host [] target f s = record s { running = f }
 executed host (b ∷ name) target f s =
-    if host.may_run f.self target s.world then begun host (script_named host.scripts (b ∷ name)) (b ∷ name) target f s
+    if host.may_run f.self target s.world then script_begun host (script_named host.scripts (b ∷ name)) (b ∷ name) target f s
     else record s { running = f }
 
 -- ---- a step

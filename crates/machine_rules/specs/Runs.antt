@@ -20,13 +20,13 @@ pub record Ran (W : Type 0) : Type 0 where
   pub count : ℕ
   pub last : State W
 
-abbrev pub counted : {W : Type 0} → Ran W → Ran W
-counted r = record r { count = suc r.count }
+abbrev pub one_step_longer : {W : Type 0} → Ran W → Ran W
+one_step_longer r = record r { count = suc r.count }
 
 -- what a step and the run from there come to
 abbrev pub after_step : {W : Type 0} → Option (Next W) → State W → (State W → Ran W) → Ran W
 after_step None s go = record { ending = StackFault; count = 0; last = s }
-after_step (Some (Goes t)) s go = counted (go t)
+after_step (Some (Goes t)) s go = one_step_longer (go t)
 after_step (Some Ends) s go = record { ending = Over; count = 1; last = s }
 after_step (Some Divided) s go = record { ending = ZeroDivisor; count = 1; last = s }
 

@@ -1,7 +1,7 @@
 //! The sentences for causes of refusal in source texts. A `%` stands for the token at the place.
 
 use crate::told::same;
-use nss_lexer::{Kind, Token};
+use nss_lexer::{Token, TokenKind};
 
 /// A cause of refusal whose sentence is always the same.
 struct Cause {
@@ -86,7 +86,7 @@ fn is(token: Option<Token<'_>>, text: &[u8]) -> bool {
 
 fn is_name(token: Option<Token<'_>>) -> bool {
     match token {
-        Some(token) => matches!(token.kind, Kind::Name),
+        Some(token) => matches!(token.kind, TokenKind::Name),
         None => false,
     }
 }
@@ -164,7 +164,7 @@ fn word_mismatch(token: Option<Token<'_>>) -> &'static str {
 
 fn mismatch(token: Option<Token<'_>>, after: Option<Token<'_>>) -> &'static str {
     let is_sign = match token {
-        Some(token) => matches!(token.kind, Kind::Sign),
+        Some(token) => matches!(token.kind, TokenKind::Sign),
         None => false,
     };
     if is_sign {

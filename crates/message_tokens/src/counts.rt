@@ -2,7 +2,7 @@
 
 ghost use Rattle.std.specs.Prelude.{◌≤◌};
 
-use nss_lexer::{Kind, Token};
+use nss_lexer::{Token, TokenKind};
 
 /// How many arguments a function takes.
 #[derive(Clone, Copy, Debug, PartialEq, Eq)]
@@ -86,7 +86,9 @@ fn arity_of(list: Listed) -> Arity
 fn declares(tokens: &[Token<'_>], name: &[u8]) -> bool {
     match tokens {
         [ty, named, open, ..] => {
-            matches!(ty.kind, Kind::Word | Kind::Name) && is(named, name) && is(open, b"(")
+            matches!(ty.kind, TokenKind::Word | TokenKind::Name)
+                && is(named, name)
+                && is(open, b"(")
         }
         _ => false,
     }

@@ -7,7 +7,7 @@
 ghost use Rattle.std.specs.Prelude.{◌≤◌};
 
 use message_sentences::same;
-use nss_lexer::{Kind, Token};
+use nss_lexer::{Token, TokenKind};
 use nwq_value::NoMemory;
 
 /// A range of tokens: those from the first number on, up to the second.
@@ -158,8 +158,8 @@ fn is_one_of(text: &[u8], signs: &[u8]) -> bool {
 /// Whether a token is a name, a literal or a word that is a value.
 fn is_value(token: &Token<'_>) -> bool {
     match token.kind {
-        Kind::Sign => false,
-        Kind::Word => token.text.starts_with(b"OBJECT_"),
+        TokenKind::Sign => false,
+        TokenKind::Word => token.text.starts_with(b"OBJECT_"),
         _ => true,
     }
 }
@@ -254,7 +254,7 @@ fn stops_left(tokens: &[Token<'_>], at: usize, level: u32, end: usize) -> bool {
     if is_one_of(token.text, b"(,;:{}") || is_assignment(token.text) {
         return true;
     }
-    if matches!(token.kind, Kind::Word) && !is_value(token) || closes_head(tokens, at, end) {
+    if matches!(token.kind, TokenKind::Word) && !is_value(token) || closes_head(tokens, at, end) {
         return true;
     }
     match level_at(tokens, at) {
@@ -365,16 +365,16 @@ pub(crate) fn parts_at(
         return Ok(Shape::Other);
     };
     let next = at.saturating_add(1);
-    if matches!(token.kind, Kind::Sign) {
+    if matches!(token.kind, TokenKind::Sign) {
         put_operands(tokens, at, parts)?;
         Ok(Shape::Operator)
     } else if is(tokens, at, b"return") {
         put_value(tokens, next, parts)?;
         Ok(Shape::Value)
-    } else if matches!(token.kind, Kind::Name) && is(tokens, next, b"=") {
+    } else if matches!(token.kind, TokenKind::Name) && is(tokens, next, b"=") {
         put_value(tokens, next.saturating_add(1), parts)?;
         Ok(Shape::Value)
-    } else if matches!(token.kind, Kind::Name) && is(tokens, next, b"(") {
+    } else if matches!(token.kind, TokenKind::Name) && is(tokens, next, b"(") {
         put_arguments(tokens, next.saturating_add(1), parts)?;
         Ok(Shape::Call)
     } else if is(tokens, next, b"(") {

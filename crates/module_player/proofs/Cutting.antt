@@ -25,8 +25,8 @@ use Rattle.module_player.specs.declared.scripts.Ended.{Ended}
 use Rattle.module_player.specs.declared.scripts.Ended.TheVariants as ended
 use Rattle.module_player.specs.declared.played.How.{How}
 use Rattle.module_player.specs.declared.played.How.TheVariants as how
-use Rattle.module_player.specs.declared.turn.Next.{Next as NextTurn}
-use Rattle.module_player.specs.declared.turn.Next.TheVariants as next
+use Rattle.module_player.specs.declared.turn.TurnOutcome.{TurnOutcome}
+use Rattle.module_player.specs.declared.turn.TurnOutcome.TheVariants as next
 use Rattle.module_player.specs.Answers.{IsLastEnd}
 use Rattle.module_player.specs.Cuts.{IsCutAt, IsCutIn, IsDivided, IsRunCut, WhereCut, WhereCutIn, Unbegun, Inside, Over, Told, In}
 use Rattle.module_player.specs.CodePlays.{code_runner, ending_of, run_of}
@@ -239,7 +239,7 @@ pub begun_as : (until : ℕ) (w v : World Saved) (b : Option (Entry Saved)) (e :
     → begin until w ≡ Some (record { entry = e; world = v })
 begun_as until w v b e is h = subst (λ x. BegunAs until w x v) is h
 
-pub turn_is_cut : (h : Host (World Saved)) (limit : ℕ) (b : Option (Begun Saved)) (e : Entry Saved) (w u v : World Saved) (answer : NextTurn)
+pub turn_is_cut : (h : Host (World Saved)) (limit : ℕ) (b : Option (Begun Saved)) (e : Entry Saved) (w u v : World Saved) (answer : TurnOutcome)
     → b ≡ Some (record { entry = e; world = u })
     → WhereCutIn answer (IsCutIn (λ n. entered_as (code_runner h n) e.kind e.number u) limit u v) → WhereCutIn answer (IsCutAt h limit b w v)
 turn_is_cut h limit b e w u v (next.Goes n) is c = tt

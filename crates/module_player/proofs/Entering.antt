@@ -21,7 +21,7 @@ use Rattle.ncs_machine.specs.declared.scripts.Begin.TheVariants as begins
 use Rattle.module_player.specs.declared.scripts.Ended.{Ended}
 use Rattle.module_player.specs.declared.entry.Entered.{Entered}
 use Rattle.module_player.specs.CodePlays.{code_runner, run_of}
-use Rattle.module_player.specs.Entries.{HasActed, HasEntered, HasRun, KeepsFits, entered, run, turn_taken}
+use Rattle.module_player.specs.Entries.{HasActed, HasEntered, HasRun, KeepsFits, as_entered, run_with_ending, turn_taken}
 use Rattle.module_player.specs.Scenes.{Scene, FitIn, host_in, runner_in, scripts_in, tables_in}
 
 -- ---- states that fit
@@ -46,7 +46,7 @@ runner_stored s limit x o w = refl
 -- ---- an entry of scripts alone
 
 pub script_entered : (s : Scene) (limit : ℕ) (ended : Ended) (n : ℕ) (stopped : Bool) (r : Run Saved) (w u v : World Saved)
-    → HasRun s limit ended n r w u → ((m : ℕ) → finished (λ x. x) (run ended m u) ≡ record { stopped = stopped; count = m; world = v })
+    → HasRun s limit ended n r w u → ((m : ℕ) → finished (λ x. x) (run_with_ending ended m u) ≡ record { stopped = stopped; count = m; world = v })
     → v.agenda ≡ u.agenda → v.things ≡ u.things → HasEntered s limit (record { stopped = stopped; count = n }) (finished (λ x. x) r) w v
 script_entered s limit ended n stopped r w u v h f agenda things = record {
   is = ap (finished (λ x. x)) h.is ∙ f n;
@@ -121,7 +121,7 @@ stored_entry s limit o n number x k (Err e) w v kind h = tt
 -- ---- Turns
 
 pub action_entered : (s : Scene) (limit o : ℕ) (ended : Ended) (n : ℕ) (stopped : Bool) (r : Run Saved) (w u v : World Saved)
-    → HasRun s limit ended n r w u → ((m : ℕ) → finished (turn_done o) (run ended m u) ≡ record { stopped = stopped; count = m; world = v })
+    → HasRun s limit ended n r w u → ((m : ℕ) → finished (turn_done o) (run_with_ending ended m u) ≡ record { stopped = stopped; count = m; world = v })
     → v.agenda.next ≤ u.agenda.next + 1 → KeepsFits u v → HasActed s limit (record { stopped = stopped; count = n }) (finished (turn_done o) r) w v
 action_entered s limit o ended n stopped r w u v h f few fit = record {
   is = ap (finished (turn_done o)) h.is ∙ f n;
@@ -189,7 +189,7 @@ unapply_fits o number w v keeps is scripts tables f = subst (StatesFit scripts t
 pub unapply_entered : (s : Scene) (limit o number : ℕ) (e : Entered) (w v : World Saved) → FitIn s w → e ≡ record { stopped = false; count = 0 } → v ≡ unapply o number w
     → v.agenda.next ≤ w.agenda.next + 1 → KeepsFits w v → HasEntered s limit e (entered_as (runner_in s limit) (Unapply o) number w) w v
 unapply_entered s limit o number e w v f quiet is few fits = record {
-  is = ap (λ x. record { stopped = false; count = 0; world = x }) (sym is) ∙ ap (λ q. entered q v) (sym quiet);
+  is = ap (λ x. record { stopped = false; count = 0; world = x }) (sym is) ∙ ap (λ q. as_entered q v) (sym quiet);
   within = subst (λ q. q.count ≤ limit) (sym quiet) (omega arith);
   fit = fits (scripts_in s) (tables_in s) f;
   few = omega arith;

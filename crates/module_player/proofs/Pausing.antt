@@ -3,7 +3,7 @@ use Rattle.std.proofs.Common.{◌≡◌, ℕ, zero, suc, Bool, true, false, Opti
 use Rattle.std.specs.Prelude.{◌==◌, if◌then◌else◌}
 use Rattle.world_rules.specs.Turns.{Begun, begin}
 use Rattle.world_rules.specs.Plays as plays
-use Rattle.world_rules.specs.Plays.{Bounds, PlayEnd, Played, Progress, Runner, after_entry, entered, full, further, next_entry, plays as plays_from}
+use Rattle.world_rules.specs.Plays.{Bounds, PlayEnd, Played, Progress, Runner, after_entry, entry_entered, full, further, next_entry, plays as plays_from}
 
 abbrev pub paused : {X : Type 0} → Progress X → Played X
 paused p = record { ending = plays.Paused; last = p }
@@ -26,7 +26,7 @@ module _ {X : Type 0} (runner : Runner X) where
 
     next_on : (b : Option (Begun X)) (x : Progress X) → next_entry runner b x go ≡ paused p → next_entry runner b x on ≡ r
     next_on None x e = absurd (done_apart (ap (λ (q : Played X). q.ending) e))
-    next_on (Some b) x e = entry_on (entered runner b).stopped (further (entered runner b) x) e
+    next_on (Some b) x e = entry_on (entry_entered runner b).stopped (further (entry_entered runner b) x) e
 
     place_on : (is_full : Bool) (b : Option (Begun X)) (x : Progress X)
         → (if is_full then record { ending = full b; last = x } else next_entry runner b x go) ≡ paused p

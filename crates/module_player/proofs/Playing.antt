@@ -12,11 +12,11 @@ use Rattle.nwq_value.specs.Limits.{entry_limit, instruction_limit}
 use Rattle.saved_state.specs.declared.saved.Saved.{Saved}
 use Rattle.world_rules.specs.declared.data.Line.{Line}
 use Rattle.world_rules.specs.Trace.{line_text, trace_text}
-use Rattle.world_rules.specs.Turns.{Begun, begin, begun, drained, user_number, with_entries}
+use Rattle.world_rules.specs.Turns.{Begun, begin, entry_begun, drained, user_number, with_entries}
 use Rattle.world_rules.specs.World.{World}
 use Rattle.world_rules.specs.Plays as plays
-use Rattle.world_rules.specs.Plays.{Runner, Bounds, Progress, Played, Entered, after_entry, entered, full, further, next_entry, play_on, plays as plays_from}
-use Rattle.module_player.specs.declared.turn.Next.TheVariants.{Goes, Stops, Rests}
+use Rattle.world_rules.specs.Plays.{Runner, Bounds, Progress, Played, Entered, after_entry, entry_entered, full, further, next_entry, play_on, plays as plays_from}
+use Rattle.module_player.specs.declared.turn.TurnOutcome.TheVariants.{Goes, Stops, Rests}
 use Rattle.module_player.specs.declared.played.How.{How}
 use Rattle.module_player.specs.declared.played.How.TheVariants as how
 use Rattle.module_player.specs.declared.played.Played.{Played as Answer}
@@ -60,7 +60,7 @@ module _ (runner : Runner Saved) (bounds : Bounds) where
   next_grows : (b : Option (Begun Saved)) (p : Progress Saved) (go : Progress Saved → Played Saved) → Grows go
       → Extends (p.trace ++ lines_of runner b) (next_entry runner b p go).last.trace
   next_grows None p go grows = record { rest = []; parts = appended_nothing p.trace ∙ appended_nothing (p.trace ++ []) }
-  next_grows (Some b) p go grows = after_grows (entered runner b).stopped (further (entered runner b) p) go grows
+  next_grows (Some b) p go grows = after_grows (entry_entered runner b).stopped (further (entry_entered runner b) p) go grows
 
   turn_grows : (is_full : Bool) (e : plays.PlayEnd) (b : Option (Begun Saved)) (p : Progress Saved) (go : Progress Saved → Played Saved) → Grows go
       → Extends p.trace (if is_full then record { ending = e; last = p } else next_entry runner b p go).last.trace
@@ -152,15 +152,15 @@ module _ (s : Scene) (limit : ℕ) (bounds : Bounds) (first : Progress Saved) wh
       → Turns (Goes n) s limit (runner_in s limit) b w v → next_entry (runner_in s limit) b p go ≡ go (gone p n (lines_of (runner_in s limit) b) v)
   next_goes n None p w v go h = absurd h
   next_goes n (Some b) p w v go h =
-      ap (λ stopped. after_entry stopped (further (entered (runner_in s limit) b) p) go) h.0.stopped ∙ ap go (taken_is false n (entered (runner_in s limit) b) p v h.0)
+      ap (λ stopped. after_entry stopped (further (entry_entered (runner_in s limit) b) p) go) h.0.stopped ∙ ap go (taken_is false n (entry_entered (runner_in s limit) b) p v h.0)
 
   next_stops : (n : ℕ) (b : Option (Begun Saved)) (p : Progress Saved) (w v : World Saved) (go : Progress Saved → Played Saved)
       → Turns (Stops n) s limit (runner_in s limit) b w v
       → next_entry (runner_in s limit) b p go ≡ record { ending = plays.StoppedInside; last = gone p n (lines_of (runner_in s limit) b) v }
   next_stops n None p w v go h = absurd h
   next_stops n (Some b) p w v go h =
-      ap (λ stopped. after_entry stopped (further (entered (runner_in s limit) b) p) go) h.0.stopped
-      ∙ ap (λ q. record { ending = plays.StoppedInside; last = q }) (taken_is true n (entered (runner_in s limit) b) p v h.0)
+      ap (λ stopped. after_entry stopped (further (entry_entered (runner_in s limit) b) p) go) h.0.stopped
+      ∙ ap (λ q. record { ending = plays.StoppedInside; last = q }) (taken_is true n (entry_entered (runner_in s limit) b) p v h.0)
 
   next_rests : (b : Option (Begun Saved)) (p : Progress Saved) (w v : World Saved) (go : Progress Saved → Played Saved)
       → Turns Rests s limit (runner_in s limit) b w v → (v ≡ w) × (next_entry (runner_in s limit) b p go ≡ record { ending = plays.Done; last = p })
@@ -177,11 +177,11 @@ module _ (s : Scene) (limit : ℕ) (bounds : Bounds) (first : Progress Saved) wh
 
   goes_leaves : (n : ℕ) (b : Option (Begun Saved)) (w v : World Saved) → Turns (Goes n) s limit (runner_in s limit) b w v → Leaves n w v
   goes_leaves n None w v h = absurd h
-  goes_leaves n (Some b) w v h = leaves n false (entered (runner_in s limit) b) w v h.0 h.1
+  goes_leaves n (Some b) w v h = leaves n false (entry_entered (runner_in s limit) b) w v h.0 h.1
 
   stops_leaves : (n : ℕ) (b : Option (Begun Saved)) (w v : World Saved) → Turns (Stops n) s limit (runner_in s limit) b w v → Leaves n w v
   stops_leaves n None w v h = absurd h
-  stops_leaves n (Some b) w v h = leaves n true (entered (runner_in s limit) b) w v h.0 h.1
+  stops_leaves n (Some b) w v h = leaves n true (entry_entered (runner_in s limit) b) w v h.0 h.1
 
   text_on : (lines more : List Line) (t0 t t' : List ℕ) → t ≡ t0 ++ trace_text lines → t' ≡ t ++ trace_text more → t' ≡ t0 ++ trace_text (lines ++ more)
   text_on lines more t0 t t' a b =
@@ -437,7 +437,7 @@ play_begins s limit bounds taken done w tells t f fit quiet within next total = 
 
 -- ---- whether an entry is due
 
-due_none : (until : ℕ) (es : List (Entry Saved)) (w : World Saved) → first_due es ≡ None → full (begun until es w) ≡ plays.Done
+due_none : (until : ℕ) (es : List (Entry Saved)) (w : World Saved) → first_due es ≡ None → full (entry_begun until es w) ≡ plays.Done
 due_none until [] w none = refl
 due_none until (e ∷ es) w none = absurd cc
 
@@ -447,7 +447,7 @@ none_due until w none = due_none until w.agenda.entries w none
 abbrev the_first : Entry Saved → List (Entry Saved) → World Saved → Begun Saved
 the_first e es w = record { entry = e; world = record (with_entries es w) { clock = e.due; user = user_number e.kind } }
 
-due_now : (until due : ℕ) (es : List (Entry Saved)) (w : World Saved) → first_due es ≡ Some due → due ≤ until → full (begun until es w) ≡ plays.OutOfEntries
+due_now : (until due : ℕ) (es : List (Entry Saved)) (w : World Saved) → first_due es ≡ Some due → due ≤ until → full (entry_begun until es w) ≡ plays.OutOfEntries
 due_now until due [] w is less = absurd cc
 due_now until due (e ∷ es) w is less =
     let same : e.due ≡ due = cc in
@@ -456,7 +456,7 @@ due_now until due (e ∷ es) w is less =
 pub one_due : (until due : ℕ) (w : World Saved) → first_due w.agenda.entries ≡ Some due → due ≤ until → full (begin until w) ≡ plays.OutOfEntries
 one_due until due w is less = due_now until due w.agenda.entries w is less
 
-due_later : (until due : ℕ) (es : List (Entry Saved)) (w : World Saved) → first_due es ≡ Some due → until < due → full (begun until es w) ≡ plays.Done
+due_later : (until due : ℕ) (es : List (Entry Saved)) (w : World Saved) → first_due es ≡ Some due → until < due → full (entry_begun until es w) ≡ plays.Done
 due_later until due [] w is less = absurd cc
 due_later until due (e ∷ es) w is less =
     let same : e.due ≡ due = cc in

@@ -15,9 +15,9 @@ use Rattle.world_rules.specs.Plays as plays
 use Rattle.world_rules.specs.Plays.{Runner, entered_as}
 use Rattle.ncs_machine.specs.Stored.{BeginKeepsFits, BegunFits, KindFits}
 use Rattle.module_player.specs.declared.entry.Entered.{Entered}
-use Rattle.module_player.specs.declared.turn.Next.{Next}
-use Rattle.module_player.specs.declared.turn.Next.TheVariants.{Goes, Stops, Rests, Fault, NoMemory}
-use Rattle.module_player.specs.Entries.{HasEntered, IsReady}
+use Rattle.module_player.specs.declared.turn.TurnOutcome.{TurnOutcome}
+use Rattle.module_player.specs.declared.turn.TurnOutcome.TheVariants.{Goes, Stops, Rests, Fault, NoMemory}
+use Rattle.module_player.specs.Entries.{HasEntered, CanRunEntry}
 use Rattle.module_player.specs.Scenes.{Scene, FitIn, runner_in, scripts_in, tables_in}
 use Rattle.module_player.specs.Turns.{IsInside, IsTaken, Takes, TakesText, Turns, lines_of}
 
@@ -72,7 +72,7 @@ module _ (s : Scene) (limit : ℕ) (e : Entered) (p : plays.Entered Saved) (w u 
 
 -- what is asked before it is taken
 pub record CanTake (s : Scene) (e : Entry Saved) (w : World Saved) : Type 0 where
-  pub ready : IsReady w
+  pub ready : CanRunEntry w
   pub fit : FitIn s w
   pub placed : IsPlaced (object_count w) e.kind
   pub acting : (o : ℕ) → e.kind ≡ Turn o → IsActing o w
@@ -98,7 +98,7 @@ module _ (s : Scene) (limit : ℕ) (b : Option (Begun Saved)) (e : Entry Saved) 
   inside_from : (n : ℕ) → u.agenda.next ≡ w.agenda.next → IsInside s limit n u v → IsInside s limit n w v
   inside_from n same h = record { within = h.within; fit = h.fit; few = let k = h.few in omega arith }
 
-  pub turn_goes : (next : Next) → b ≡ Some (record { entry = e; world = u }) → u.agenda.next ≡ w.agenda.next
+  pub turn_goes : (next : TurnOutcome) → b ≡ Some (record { entry = e; world = u }) → u.agenda.next ≡ w.agenda.next
       → Takes next s limit (entered_as (runner_in s limit) e.kind e.number u) u v → Turns next s limit (runner_in s limit) b w v
   turn_goes (Goes n) is same h = subst (λ x. Turns (Goes n) s limit (runner_in s limit) x w v) (sym is) (h.0, inside_from n same h.1)
   turn_goes (Stops n) is same h = subst (λ x. Turns (Stops n) s limit (runner_in s limit) x w v) (sym is) (h.0, inside_from n same h.1)
@@ -106,7 +106,7 @@ module _ (s : Scene) (limit : ℕ) (b : Option (Begun Saved)) (e : Entry Saved) 
   turn_goes Fault is same h = tt
   turn_goes NoMemory is same h = tt
 
-  pub turn_text : (next : Next) (t t' : List ℕ) → b ≡ Some (record { entry = e; world = u })
+  pub turn_text : (next : TurnOutcome) (t t' : List ℕ) → b ≡ Some (record { entry = e; world = u })
       → TakesText next (trace_text (entered_as (runner_in s limit) e.kind e.number u).world.trace) t t'
       → TakesText next (trace_text (lines_of (runner_in s limit) b)) t t'
   turn_text next t t' is h = subst (λ x. TakesText next (trace_text (lines_of (runner_in s limit) x)) t t') (sym is) h

@@ -5,7 +5,7 @@ use Rattle.std.proofs.lemmas.Bool.Decides.{eqb_tells}
 use Rattle.world_rules.specs.Turns.{Begun, begin}
 use Rattle.world_rules.specs.World.{World}
 use Rattle.world_rules.specs.Plays as plays
-use Rattle.world_rules.specs.Plays.{Runner, Bounds, Progress, Played, PlayEnd, after_entry, entered, full, further, next_entry, plays as plays_from}
+use Rattle.world_rules.specs.Plays.{Runner, Bounds, Progress, Played, PlayEnd, after_entry, entry_entered, full, further, next_entry, plays as plays_from}
 use Rattle.module_player.specs.declared.played.How.{How}
 use Rattle.module_player.specs.declared.played.How.TheVariants as how
 use Rattle.module_player.specs.Answers.{EndsAs}
@@ -27,7 +27,7 @@ module _ {X : Type 0} (runner : Runner X) (bounds : Bounds) where
 
   next_whole : (b : Option (Begun X)) (p : Progress X) (go : Progress X → Played X) → ((q : Progress X) → q.entries ≡ p.entries + 1 → Whole (go q).ending) → Whole (next_entry runner b p go).ending
   next_whole None p go h = done_whole
-  next_whole (Some b) p go h = after_whole (entered runner b).stopped (further (entered runner b) p) go (h (further (entered runner b) p) refl)
+  next_whole (Some b) p go h = after_whole (entry_entered runner b).stopped (further (entry_entered runner b) p) go (h (further (entry_entered runner b) p) refl)
 
   turn_whole : (is_full : Bool) (b : Option (Begun X)) (p : Progress X) (go : Progress X → Played X) → (is_full ≡ false → (q : Progress X) → q.entries ≡ p.entries + 1 → Whole (go q).ending)
       → Whole (if is_full then record { ending = full b; last = p } else next_entry runner b p go).ending

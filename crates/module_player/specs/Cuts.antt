@@ -6,15 +6,15 @@ use Rattle.world_rules.specs.World.{World}
 use Rattle.world_rules.specs.Trace.{trace_text}
 use Rattle.world_rules.specs.Turns.{Begun, begin, drained}
 use Rattle.world_rules.specs.Plays as plays
-use Rattle.world_rules.specs.Plays.{Entered, Run, entered}
+use Rattle.world_rules.specs.Plays.{Entered, Run, entry_entered}
 use Rattle.module_player.specs.CodePlays.{code_runner}
 use Rattle.module_player.specs.Turns.{lines_of}
 use Rattle.module_player.specs.declared.played.How.{How}
 use Rattle.module_player.specs.declared.played.How.TheVariants as how
 use Rattle.module_player.specs.declared.scripts.Ended.{Ended}
 use Rattle.module_player.specs.declared.scripts.Ended.TheVariants as ended
-use Rattle.module_player.specs.declared.turn.Next.{Next}
-use Rattle.module_player.specs.declared.turn.Next.TheVariants as next
+use Rattle.module_player.specs.declared.turn.TurnOutcome.{TurnOutcome}
+use Rattle.module_player.specs.declared.turn.TurnOutcome.TheVariants as next
 
 -- Scripts left this world when they were cut short: it is as if they were stopped after so many
 -- instructions. `runs` tells their run by how many they may take.
@@ -38,7 +38,7 @@ pub data IsCutIn (comes : ℕ → Entered Saved) (limit : ℕ) (w v : World Save
 -- what is left where the next entry is this one, or where none is due
 pub data IsCutAt (h : Host (World Saved)) (limit : ℕ) (b : Option (Begun Saved)) (w v : World Saved) : Type 0 where
   Before : v ≡ w → IsCutAt h limit b w v
-  In : (d : Begun Saved) → b ≡ Some d → IsCutIn (λ n. entered (code_runner h n) d) limit d.world v → IsCutAt h limit b w v
+  In : (d : Begun Saved) → b ≡ Some d → IsCutIn (λ n. entry_entered (code_runner h n) d) limit d.world v → IsCutAt h limit b w v
 
 -- So many entries were finished, in so many instructions, when a play was cut short: the same play
 -- that is broken off behind them comes to this. The world is the one behind them, or in the next
@@ -63,7 +63,7 @@ WhereCut how.Pause fact = Unit {0}
 WhereCut how.Fault fact = fact
 WhereCut how.NoMemory fact = fact
 
-abbrev pub WhereCutIn : Next → Type 0 → Type 0
+abbrev pub WhereCutIn : TurnOutcome → Type 0 → Type 0
 WhereCutIn (next.Goes n) fact = Unit {0}
 WhereCutIn (next.Stops n) fact = Unit {0}
 WhereCutIn next.Rests fact = Unit {0}

@@ -20,19 +20,19 @@ ending (Divided o) = plays.Divided o
 ending Stopped = plays.Stopped
 
 -- how a run ended that counted so many and led to this world
-abbrev pub run : Ended → ℕ → World Saved → Run Saved
-run ended count w = record { ending = ending ended; count = count; world = w }
+abbrev pub run_with_ending : Ended → ℕ → World Saved → Run Saved
+run_with_ending ended count w = record { ending = ending ended; count = count; world = w }
 
 -- Scripts ran from the one world to the other: how they ended, and after how many instructions.
 pub record HasRun (s : Scene) (limit : ℕ) (ended : Ended) (count : ℕ) (r : Run Saved) (w v : World Saved) : Type 0 where
-  pub is : r ≡ run ended count v
+  pub is : r ≡ run_with_ending ended count v
   pub within : count ≤ limit
   pub fit : FitIn s v
   pub left : IsLeft limit w v
 
 -- an entry that was taken comes to this
-abbrev pub entered : Entered → World Saved → plays.Entered Saved
-entered e w = record { stopped = e.stopped; count = e.count; world = w }
+abbrev pub as_entered : Entered → World Saved → plays.Entered Saved
+as_entered e w = record { stopped = e.stopped; count = e.count; world = w }
 
 -- whatever fits a list of scripts and their tables, all states in the one world do, where those of
 -- the other do
@@ -41,7 +41,7 @@ KeepsFits w v = (scripts : List Script) (tables : Tables) → StatesFit scripts 
 
 -- An entry led from the one world to the other, and posted so many entries at most.
 pub record Comes (s : Scene) (limit : ℕ) (posts : ℕ) (e : Entered) (p : plays.Entered Saved) (w v : World Saved) : Type 0 where
-  pub is : p ≡ entered e v
+  pub is : p ≡ as_entered e v
   pub within : e.count ≤ limit
   pub fit : FitIn s v
   pub few : v.agenda.next ≤ w.agenda.next + posts
@@ -59,6 +59,6 @@ abbrev pub turn_taken : Runner Saved → ℕ → World Saved → plays.Entered S
 turn_taken runner o w = turn_entry runner o (turn o w).action (turn o w).world
 
 -- the clock and the number of the next post are so small that an entry can run
-pub record IsReady (w : World Saved) : Type 0 where
+pub record CanRunEntry (w : World Saved) : Type 0 where
   pub clock : w.clock < 2 ^ 62
   pub next : w.agenda.next + 1 < 2 ^ 62

@@ -6,9 +6,9 @@ use Rattle.world_rules.specs.declared.data.Line.{Line}
 use Rattle.world_rules.specs.Trace.{trace_text}
 use Rattle.world_rules.specs.World.{World}
 use Rattle.world_rules.specs.Turns.{Begun, drained}
-use Rattle.world_rules.specs.Plays.{Entered, Runner, entered}
-use Rattle.module_player.specs.declared.turn.Next.{Next}
-use Rattle.module_player.specs.declared.turn.Next.TheVariants.{Goes, Stops, Rests, Fault, NoMemory}
+use Rattle.world_rules.specs.Plays.{Entered, Runner, entry_entered}
+use Rattle.module_player.specs.declared.turn.TurnOutcome.{TurnOutcome}
+use Rattle.module_player.specs.declared.turn.TurnOutcome.TheVariants.{Goes, Stops, Rests, Fault, NoMemory}
 use Rattle.module_player.specs.Scenes.{Scene, FitIn}
 
 -- ---- an entry that was taken, and its lines
@@ -26,7 +26,7 @@ pub record IsInside (s : Scene) (limit n : ℕ) (w v : World Saved) : Type 0 whe
   pub few : v.agenda.next ≤ w.agenda.next + (limit + 2)
 
 -- what an answer tells of the entry that is due
-abbrev pub Takes : Next → Scene → ℕ → Entered Saved → World Saved → World Saved → Type 0
+abbrev pub Takes : TurnOutcome → Scene → ℕ → Entered Saved → World Saved → World Saved → Type 0
 Takes (Goes n) s limit e w v = IsTaken false n e v × IsInside s limit n w v
 Takes (Stops n) s limit e w v = IsTaken true n e v × IsInside s limit n w v
 Takes Rests s limit e w v = ⊥
@@ -38,7 +38,7 @@ abbrev pub lines_text : Entered Saved → List ℕ
 lines_text e = trace_text e.world.trace
 
 -- what a sink takes of the lines' text
-abbrev pub TakesText : Next → List ℕ → List ℕ → List ℕ → Type 0
+abbrev pub TakesText : TurnOutcome → List ℕ → List ℕ → List ℕ → Type 0
 TakesText (Goes n) text before after = after ≡ before ++ text
 TakesText (Stops n) text before after = after ≡ before ++ text
 TakesText Rests text before after = after ≡ before
@@ -46,7 +46,7 @@ TakesText Fault text before after = TookPrefix text before after
 TakesText NoMemory text before after = TookPrefix text before after
 
 -- the sink's faults rise with that answer alone
-abbrev pub CountsNext : Next → ℕ → ℕ → Type 0
+abbrev pub CountsNext : TurnOutcome → ℕ → ℕ → Type 0
 CountsNext (Goes n) before now = now ≡ before
 CountsNext (Stops n) before now = now ≡ before
 CountsNext Rests before now = now ≡ before
@@ -58,15 +58,15 @@ CountsNext NoMemory before now = now ≡ before
 -- the lines that it tells
 abbrev pub lines_of : Runner Saved → Option (Begun Saved) → List Line
 lines_of runner None = []
-lines_of runner (Some b) = (entered runner b).world.trace
+lines_of runner (Some b) = (entry_entered runner b).world.trace
 
 -- what an answer tells of a turn
-abbrev pub Turns : Next → Scene → ℕ → Runner Saved → Option (Begun Saved) → World Saved → World Saved → Type 0
+abbrev pub Turns : TurnOutcome → Scene → ℕ → Runner Saved → Option (Begun Saved) → World Saved → World Saved → Type 0
 Turns Rests s limit runner None w v = v ≡ w
 Turns Rests s limit runner (Some b) w v = ⊥
 Turns (Goes n) s limit runner None w v = ⊥
-Turns (Goes n) s limit runner (Some b) w v = Takes (Goes n) s limit (entered runner b) w v
+Turns (Goes n) s limit runner (Some b) w v = Takes (Goes n) s limit (entry_entered runner b) w v
 Turns (Stops n) s limit runner None w v = ⊥
-Turns (Stops n) s limit runner (Some b) w v = Takes (Stops n) s limit (entered runner b) w v
+Turns (Stops n) s limit runner (Some b) w v = Takes (Stops n) s limit (entry_entered runner b) w v
 Turns Fault s limit runner b w v = Unit {0}
 Turns NoMemory s limit runner b w v = Unit {0}

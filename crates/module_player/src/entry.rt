@@ -14,13 +14,14 @@ ghost use Rattle.ncs_machine.specs.Host.{run_from};
 ghost use Rattle.ncs_machine.specs.Stored.{KindFits};
 ghost use Rattle.module_player.specs.CodePlays.{run_of};
 ghost use Rattle.module_player.specs.Cuts.{IsCutIn, IsDivided};
-ghost use Rattle.module_player.specs.Entries.{HasActed, HasEntered, IsReady, KeepsFits, run};
+ghost use Rattle.module_player.specs.Entries.{HasActed, HasEntered, CanRunEntry, KeepsFits};
+ghost use Rattle.module_player.specs.Entries.{run_with_ending};
 ghost use Rattle.module_player.specs.Entries.{turn_taken};
 ghost use Rattle.module_player.specs.Scenes.{FitIn, IsSet, host_in, runner_in};
 ghost use Rattle.module_player.specs.Scenes.{scene, scripts_in, tables_in};
 
 use crate::scripts::{Ended, run_scripts};
-use crate::setting::Setting;
+use crate::setting::PlaySetting;
 use delay_agenda::{Entry, Kind};
 use ncs_machine::{Begin, entries_keep_fits, script_named};
 use nwq_value::{NoMemory, Text};
@@ -45,7 +46,7 @@ const QUIET: Entered = Entered {
 /// What is left of an entry once its scripts are over, where that is nothing but the line of a
 /// division. Whether the entry was stopped.
 fn finish(world: &mut World<Saved>, ended: Ended) -> Result<bool, NoMemory>
-    ensures finished { IfOk result (λ stopped. (n : ℕ) → finished (λ v. v) (run ended n
+    ensures finished { IfOk result (λ stopped. (n : ℕ) → finished (λ v. v) (run_with_ending ended n
         world.old.world) ≡ record { stopped = stopped; count = n; world = world.new.world }) }
     ensures agenda { OnOk result (world.new.world.agenda ≡ world.old.world.agenda) }
     ensures things { OnOk result (world.new.world.things ≡ world.old.world.things) }
@@ -71,8 +72,9 @@ fn finish_turn(world: &mut World<Saved>, object: u32, ended: Ended) -> Result<bo
     requires within { object ≤ object_count world.old.world }
     requires acting { IsActing object world.old.world }
     requires room { 1 ≤ world.old.room }
-    ensures finished { IfOk result (λ stopped. (n : ℕ) → finished (turn_done object) (run ended n
-        world.old.world) ≡ record { stopped = stopped; count = n; world = world.new.world }) }
+    ensures finished { IfOk result (λ stopped. (n : ℕ) → finished (turn_done object)
+        (run_with_ending ended n world.old.world)
+        ≡ record { stopped = stopped; count = n; world = world.new.world }) }
     ensures few { OnOk result (world.new.world.agenda.next ≤ world.old.world.agenda.next + 1) }
     ensures fit { OnOk result (KeepsFits world.old.world world.new.world) }
     ensures kept { OnErr result (world.new.world ≡ world.old.world) }
@@ -99,7 +101,7 @@ fn finish_turn(world: &mut World<Saved>, object: u32, ended: Ended) -> Result<bo
 #[tactic(auto, using(crate::proofs::Entering::script_entered))]
 fn script_entry(
     alloc: Global,
-    setting: &Setting<'_>,
+    setting: &PlaySetting<'_>,
     world: &mut World<Saved>,
     script: u32,
     begin: Begin,
@@ -114,7 +116,7 @@ fn script_entry(
         setting.now.scripts.now setting.now.table.now (map (λ h. h.known)
         setting.now.hooks.now.all.items))) begin }
     requires limit { limit ≤ instruction_limit }
-    requires ready { IsReady world.old.world }
+    requires ready { CanRunEntry world.old.world }
     requires fit { FitIn (scene setting.now.scripts.now setting.now.table.now (map (λ h. h.known)
         setting.now.hooks.now.all.items)) world.old.world }
     requires object { object ≤ object_count world.old.world }
@@ -138,7 +140,7 @@ fn script_entry(
 #[tactic(auto, using(crate::proofs::Entering::event_lemmas))]
 fn event_entry(
     alloc: Global,
-    setting: &Setting<'_>,
+    setting: &PlaySetting<'_>,
     world: &mut World<Saved>,
     object: u32,
     name: &Text,
@@ -147,7 +149,7 @@ fn event_entry(
     requires set { IsSet (scene setting.now.scripts.now setting.now.table.now (map (λ h. h.known)
         setting.now.hooks.now.all.items)) }
     requires limit { limit ≤ instruction_limit }
-    requires ready { IsReady world.old.world }
+    requires ready { CanRunEntry world.old.world }
     requires fit { FitIn (scene setting.now.scripts.now setting.now.table.now (map (λ h. h.known)
         setting.now.hooks.now.all.items)) world.old.world }
     requires object { object ≤ object_count world.old.world }
@@ -186,7 +188,7 @@ fn event_entry(
 #[tactic(auto, using(crate::proofs::Entering::action_lemmas))]
 fn action_entry(
     alloc: Global,
-    setting: &Setting<'_>,
+    setting: &PlaySetting<'_>,
     world: &mut World<Saved>,
     object: u32,
     saved: Saved,
@@ -228,7 +230,7 @@ fn action_entry(
 #[tactic(auto, using(crate::proofs::Entering::turn_entry_lemmas))]
 fn turn_entry(
     alloc: Global,
-    setting: &Setting<'_>,
+    setting: &PlaySetting<'_>,
     world: &mut World<Saved>,
     object: u32,
     limit: u64,
@@ -236,7 +238,7 @@ fn turn_entry(
     requires set { IsSet (scene setting.now.scripts.now setting.now.table.now (map (λ h. h.known)
         setting.now.hooks.now.all.items)) }
     requires limit { limit ≤ instruction_limit }
-    requires ready { IsReady world.old.world }
+    requires ready { CanRunEntry world.old.world }
     requires fit { FitIn (scene setting.now.scripts.now setting.now.table.now (map (λ h. h.known)
         setting.now.hooks.now.all.items)) world.old.world }
     requires first { 1 ≤ object }
@@ -282,7 +284,7 @@ fn unapply_entry(world: &mut World<Saved>, object: u32, number: u64) -> Result<E
 #[tactic(auto, using(crate::proofs::Entering::entry_lemmas))]
 pub(crate) fn enter(
     alloc: Global,
-    setting: &Setting<'_>,
+    setting: &PlaySetting<'_>,
     world: &mut World<Saved>,
     entry: Entry<Saved>,
     limit: u64,
@@ -290,7 +292,7 @@ pub(crate) fn enter(
     requires set { IsSet (scene setting.now.scripts.now setting.now.table.now (map (λ h. h.known)
         setting.now.hooks.now.all.items)) }
     requires limit { limit ≤ instruction_limit }
-    requires ready { IsReady world.old.world }
+    requires ready { CanRunEntry world.old.world }
     requires fit { FitIn (scene setting.now.scripts.now setting.now.table.now (map (λ h. h.known)
         setting.now.hooks.now.all.items)) world.old.world }
     requires placed { IsPlaced (object_count world.old.world) entry.kind }

@@ -18,8 +18,8 @@ ghost use Rattle.module_player.specs.Scenes.{FitIn, IsSet, host_in, runner_in, s
 ghost use Rattle.module_player.specs.declared.played.How.TheVariants as answer;
 
 use crate::played::{How, Played};
-use crate::setting::Setting;
-use crate::turn::{Next, turn};
+use crate::setting::PlaySetting;
+use crate::turn::{TurnOutcome, turn};
 use hook_table::Hooks;
 use ncs_machine::Scripts;
 use nwq_outside::Sink;
@@ -49,7 +49,7 @@ fn last_end(world: &World<Saved>, until: u64) -> How
 #[tactic(auto, using(crate::proofs::Playing::play_lemmas))]
 fn play_from<S: Sink>(
     alloc: Global,
-    setting: &Setting<'_>,
+    setting: &PlaySetting<'_>,
     world: &mut World<Saved>,
     limit: u64,
     entries: u64,
@@ -109,29 +109,29 @@ fn play_from<S: Sink>(
             };
         }
         match turn(alloc, setting, world, limit, until, &mut text, out) {
-            Next::Goes(n) => count += n,
-            Next::Stops(n) => {
+            TurnOutcome::Goes(n) => count += n,
+            TurnOutcome::Stops(n) => {
                 return Played {
                     how: How::InstrStop,
                     entries: number + 1,
                     instructions: count + n,
                 };
             }
-            Next::Rests => {
+            TurnOutcome::Rests => {
                 return Played {
                     how: How::Done,
                     entries: number,
                     instructions: count,
                 };
             }
-            Next::Fault => {
+            TurnOutcome::Fault => {
                 return Played {
                     how: How::Fault,
                     entries: number,
                     instructions: count,
                 };
             }
-            Next::NoMemory => {
+            TurnOutcome::NoMemory => {
                 return Played {
                     how: How::NoMemory,
                     entries: number,
@@ -223,7 +223,7 @@ pub fn play_on<S: Sink>(
         (world.new.world.agenda.next ≤ world.old.world.agenda.next + 2 ^ 45) }
     ensures executed { WherePlayed result.how (result.instructions ≤ done + 2 ^ 45) }
 {
-    let setting = Setting {
+    let setting = PlaySetting {
         scripts,
         table,
         hooks,

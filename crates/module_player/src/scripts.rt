@@ -9,7 +9,7 @@ ghost use Rattle.module_player.specs.Cuts.{IsRunCut};
 ghost use Rattle.module_player.specs.Entries.{HasRun};
 ghost use Rattle.module_player.specs.Scenes.{FitIn, IsSet, host_in, scene, scripts_in, tables_in};
 
-use crate::setting::Setting;
+use crate::setting::PlaySetting;
 use ncs_machine::{Begin, Ran, run};
 use nwq_value::NoMemory;
 use saved_state::Saved;
@@ -30,7 +30,7 @@ pub enum Ended {
 #[tactic(auto, using(crate::proofs::Runs::run_lemmas))]
 pub(crate) fn run_scripts(
     alloc: Global,
-    setting: &Setting<'_>,
+    setting: &PlaySetting<'_>,
     world: &mut World<Saved>,
     script: u32,
     begin: Begin,

@@ -4,7 +4,7 @@ use nwq_value::Table;
 
 /// What an entry's scripts run with: the listed scripts, a header and the hooks.
 #[derive(Drop)]
-pub struct Setting<'a> {
+pub struct PlaySetting<'a> {
     pub scripts: &'a Scripts,
     pub table: &'a Table,
     pub hooks: &'a Hooks,

@@ -11,14 +11,14 @@ ghost use Rattle.world_rules.specs.World.{count as object_count};
 ghost use Rattle.world_rules.specs.Plays.{entered_as};
 ghost use Rattle.ncs_machine.specs.Stored.{KindFits};
 ghost use Rattle.module_player.specs.Cuts.{IsCutAt, IsCutIn, WhereCutIn};
-ghost use Rattle.module_player.specs.Entries.{IsReady};
+ghost use Rattle.module_player.specs.Entries.{CanRunEntry};
 ghost use Rattle.module_player.specs.Scenes.{FitIn, IsSet, host_in, runner_in, scene, scripts_in};
 ghost use Rattle.module_player.specs.Scenes.{tables_in};
 ghost use Rattle.module_player.specs.Turns.{CountsNext, Takes, TakesText, Turns, lines_of};
 ghost use Rattle.module_player.specs.Turns.{lines_text};
 
 use crate::entry::enter;
-use crate::setting::Setting;
+use crate::setting::PlaySetting;
 use delay_agenda::Entry;
 use ncs_machine::entries_keep_fits;
 use nwq_outside::{Done, Sink};
@@ -29,7 +29,7 @@ use world_core::World;
 
 /// What comes of a turn.
 #[derive(Clone, Copy)]
-pub enum Next {
+pub enum TurnOutcome {
     /// An entry is over, after so many instructions.
     Goes(u64),
     /// An entry was stopped, after so many.
@@ -85,17 +85,17 @@ fn put_lines<S: Sink>(world: &mut World<Saved>, text: &mut Vec<u8>, out: &mut S)
 #[tactic(auto, using(crate::proofs::Turning::take_lemmas))]
 fn take<S: Sink>(
     alloc: Global,
-    setting: &Setting<'_>,
+    setting: &PlaySetting<'_>,
     world: &mut World<Saved>,
     entry: Entry<Saved>,
     limit: u64,
     text: &mut Vec<u8>,
     out: &mut S,
-) -> Next
+) -> TurnOutcome
     requires set { IsSet (scene setting.now.scripts.now setting.now.table.now (map (λ h. h.known)
         setting.now.hooks.now.all.items)) }
     requires limit { limit ≤ instruction_limit }
-    requires ready { IsReady world.old.world }
+    requires ready { CanRunEntry world.old.world }
     requires fit { FitIn (scene setting.now.scripts.now setting.now.table.now (map (λ h. h.known)
         setting.now.hooks.now.all.items)) world.old.world }
     requires placed { IsPlaced (object_count world.old.world) entry.kind }
@@ -121,17 +121,17 @@ fn take<S: Sink>(
         world.old.world world.new.world) }
 {
     match enter(alloc, setting, world, entry, limit) {
-        Err(_) => Next::NoMemory,
+        Err(_) => TurnOutcome::NoMemory,
         Ok(entered) => match put_lines(world, text, out) {
             Done::Ok => {
                 if entered.stopped {
-                    Next::Stops(entered.count)
+                    TurnOutcome::Stops(entered.count)
                 } else {
-                    Next::Goes(entered.count)
+                    TurnOutcome::Goes(entered.count)
                 }
             }
-            Done::Failed => Next::Fault,
-            Done::NoMemory => Next::NoMemory,
+            Done::Failed => TurnOutcome::Fault,
+            Done::NoMemory => TurnOutcome::NoMemory,
         },
     }
 }
@@ -140,13 +140,13 @@ fn take<S: Sink>(
 #[tactic(auto, using(crate::proofs::Turning::turn_lemmas))]
 pub(crate) fn turn<S: Sink>(
     alloc: Global,
-    setting: &Setting<'_>,
+    setting: &PlaySetting<'_>,
     world: &mut World<Saved>,
     limit: u64,
     until: u64,
     text: &mut Vec<u8>,
     out: &mut S,
-) -> Next
+) -> TurnOutcome
     requires set { IsSet (scene setting.now.scripts.now setting.now.table.now (map (λ h. h.known)
         setting.now.hooks.now.all.items)) }
     requires limit { limit ≤ instruction_limit }
@@ -169,8 +169,8 @@ pub(crate) fn turn<S: Sink>(
 {
     entries_keep_fits();
     match world.begin(until) {
-        Err(_) => Next::NoMemory,
-        Ok(None) => Next::Rests,
+        Err(_) => TurnOutcome::NoMemory,
+        Ok(None) => TurnOutcome::Rests,
         Ok(Some(entry)) => take(alloc, setting, world, entry, limit, text, out),
     }
 }

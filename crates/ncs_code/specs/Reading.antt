@@ -14,25 +14,25 @@ abbrev pub signed_of : List ℕ → ℤ
 signed_of args = cast_signed w32 (from_be_bytes w32 args)
 
 -- a row: the instruction with this type byte and arguments that begin here
-abbrev pub Row : Type 0
-Row = ℕ → List ℕ → PlainOp
+abbrev pub SpellingRow : Type 0
+SpellingRow = ℕ → List ℕ → PlainOp
 
-abbrev pub bare : PlainOp → Row
+abbrev pub bare : PlainOp → SpellingRow
 bare op kind args = op
 
-abbrev pub typed : (ℕ → PlainOp) → Row
+abbrev pub typed : (ℕ → PlainOp) → SpellingRow
 typed make kind args = make kind
 
-abbrev pub moved : (ℤ → PlainOp) → Row
+abbrev pub moved : (ℤ → PlainOp) → SpellingRow
 moved make kind args = make (signed_of args)
 
-abbrev pub copied : (ℤ → ℕ → PlainOp) → Row
+abbrev pub copied : (ℤ → ℕ → PlainOp) → SpellingRow
 copied make kind args = make (signed_of args) (two_of (drop 4 args))
 
-abbrev pub compared : (ℕ → ℕ → PlainOp) → Row
+abbrev pub compared : (ℕ → ℕ → PlainOp) → SpellingRow
 compared make kind args = make kind (if kind == 0x24 then two_of args else 0)
 
-abbrev pub literal : Row
+abbrev pub literal : SpellingRow
 literal kind args =
     if kind == 0x03 then Const (Int (signed_of args))
     else if kind == 0x04 then Const (Float (take 4 args))
@@ -40,7 +40,7 @@ literal kind args =
     else Const (Object (four_of args))
 
 -- by opcode
-abbrev pub rows : List Row
+abbrev pub rows : List SpellingRow
 rows =
     bare Nop
     ∷ copied CpDownSp

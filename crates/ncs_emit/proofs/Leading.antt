@@ -10,7 +10,7 @@ use Rattle.ncs_code.specs.File.{ops_size, file_length, begins, jump_place, dista
 use Rattle.ncs_code.specs.Laws.{StoodBegins, BegunStands, SizesAdd, DistanceLeads}
 use Rattle.ncs_emit.specs.declared.jump.Jump.{Jump}
 use Rattle.ncs_emit.specs.declared.jump.Jump.TheVariants as jumps
-use Rattle.ncs_emit.specs.Labelled.{Line, Instruction, JumpTo, Label, placements, jump_over, lines_size, ops_from, place_from, place_of, program}
+use Rattle.ncs_emit.specs.Labelled.{Line, Instruction, JumpTo, Label, placements, jump_over, lines_size, ops_from, place_from, place_of_label, program}
 use Rattle.ncs_emit.specs.Leading.{LineFits, IsLed, is_state, begins_with_jump, HasLedStates, LeadsOn, Closes}
 use Rattle.ncs_emit.proofs.Placing.{cond_below, has_row_jump}
 use Rattle.ncs_emit.proofs.Putting.{size_jump}
@@ -84,11 +84,11 @@ each_op labels places small at (JumpTo kind label ∷ lines) fits near =
     (jump_is_op kind (places label) at (small label) (omega (arith, near)), each_op labels places small (at + 6) lines fits.1 (omega (arith, near)))
 each_op labels places small at (Label label ∷ lines) fits near = each_op labels places small at lines fits.1 (omega (arith, near))
 
-each_program : (labels : ℕ) (lines : List Line) → ((label : ℕ) → place_of lines label ≤ file_limit) → AllByRecursion (LineFits labels) lines → 13 + lines_size lines ≤ file_limit → AllByRecursion IsOp (program lines)
+each_program : (labels : ℕ) (lines : List Line) → ((label : ℕ) → place_of_label lines label ≤ file_limit) → AllByRecursion (LineFits labels) lines → 13 + lines_size lines ≤ file_limit → AllByRecursion IsOp (program lines)
 unfolding program
-each_program labels lines small fits near = each_op labels (place_of lines) small 13 lines fits near
+each_program labels lines small fits near = each_op labels (place_of_label lines) small 13 lines fits near
 
-as_ops : (lines : List Line) → ops_from (place_of lines) 13 lines ≡ program lines
+as_ops : (lines : List Line) → ops_from (place_of_label lines) 13 lines ≡ program lines
 unfolding program
 as_ops lines = refl
 
@@ -189,14 +189,14 @@ pub finished : StoodBegins → BegunStands → SizesAdd → DistanceLeads → (l
     → file_length (program lines) ≤ file_limit → IsCode (program lines)
 finished stood begun add leads labels lines fits on closes small =
     let sized : 13 + lines_size lines ≤ file_limit = omega (arith, program_size lines, small) in
-    let below : (label : ℕ) → place_of lines label ≤ file_limit = λ label. omega (arith, place_below 13 label lines, sized) in
-    let placed : (label : ℕ) → 1 ≤ placements lines label → begins (program lines) (place_of lines label) ≡ true =
-    λ label some. label_begins stood add leads (place_of lines) (program lines) [] 13 label lines (all_left lines) closes some in
+    let below : (label : ℕ) → place_of_label lines label ≤ file_limit = λ label. omega (arith, place_below 13 label lines, sized) in
+    let placed : (label : ℕ) → 1 ≤ placements lines label → begins (program lines) (place_of_label lines label) ≡ true =
+    λ label some. label_begins stood add leads (place_of_label lines) (program lines) [] 13 label lines (all_left lines) closes some in
     record {
       each = each_program labels lines below fits sized;
       leads = λ at op is.
           let stands = begun (program lines) at op is in
           ap (λ n. leads_well (program lines) n op) stands.place
-          ∙ all_lead stood add leads (place_of lines) (program lines) lines placed [] 13 lines (all_left lines) closes on.jumps on.states stands.before stands.behind op (as_ops lines ∙ stands.both);
+          ∙ all_lead stood add leads (place_of_label lines) (program lines) lines placed [] 13 lines (all_left lines) closes on.jumps on.states stands.before stands.behind op (as_ops lines ∙ stands.both);
       bounded = small;
     }

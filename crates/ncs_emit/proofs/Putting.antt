@@ -11,7 +11,7 @@ use Rattle.ncs_emit.specs.declared.jump.Jump.{Jump}
 use Rattle.ncs_emit.specs.declared.jump.Jump.TheVariants.{Jmp, Jsr, Jz, Jnz}
 use Rattle.ncs_emit.specs.declared.line.Kept.{Kept}
 use Rattle.ncs_emit.specs.declared.line.Kept.TheVariants as kept
-use Rattle.ncs_emit.specs.Labelled.{Line, jump_over, ops_from, place_of, program}
+use Rattle.ncs_emit.specs.Labelled.{Line, jump_over, ops_from, place_of_label, program}
 use Rattle.ncs_emit.specs.Emitting.{lines_of, KeptFits, kept_place, kept_total}
 use Rattle.ncs_emit.proofs.Placing.{kept_place_is, kept_place_below}
 
@@ -23,7 +23,7 @@ size_jump Jnz offset = refl
 
 -- what is written, and then what is left, gives the whole
 pub record PutSoFar (whole : List ℕ) (lines : List Line) (labels size : ℕ) (file rest : List ℕ) (left : List Kept) : Type 0 where
-  pub same : file ++ spellings (ops_from (place_of lines) (length file) (lines_of rest left)) ≡ whole
+  pub same : file ++ spellings (ops_from (place_of_label lines) (length file) (lines_of rest left)) ≡ whole
   pub fits : KeptFits labels rest left
   pub total : length file + kept_total left ≡ size
 
@@ -31,7 +31,7 @@ pub put_begins : (file bytes : List ℕ) (all : List Kept) (labels size : ℕ) �
     → PutSoFar (file ++ spellings (program (lines_of bytes all))) (lines_of bytes all) labels size file bytes all
 unfolding program
 put_begins file bytes all labels size begun fits is = record {
-  same = ap (λ n. file ++ spellings (ops_from (place_of (lines_of bytes all)) n (lines_of bytes all))) begun;
+  same = ap (λ n. file ++ spellings (ops_from (place_of_label (lines_of bytes all)) n (lines_of bytes all))) begun;
   fits = fits;
   total = omega (arith, begun, is);
 }
@@ -40,28 +40,28 @@ pub put_op : SizeIsLength → (whole : List ℕ) (lines : List Line) (labels siz
     → left ≡ kept.Instruction count ∷ others → PutSoFar whole lines labels size (file ++ take count rest) (drop count rest) others
 put_op sized whole lines labels size file rest left others count h is =
     let fits = subst (KeptFits labels rest) is h.fits in
-    let same = subst (λ ks. file ++ spellings (ops_from (place_of lines) (length file) (lines_of rest ks)) ≡ whole) is h.same in
+    let same = subst (λ ks. file ++ spellings (ops_from (place_of_label lines) (length file) (lines_of rest ks)) ≡ whole) is h.same in
     let text : List ℕ = spelling (op_of rest) in
     let long : length text ≡ count = sym (fits.0.size ∙ sized (op_of rest)) in
     let taken : take count rest ≡ text = ap (take count) fits.0.prefix ∙ take_at text (drop count rest) count long in
     let place : length (file ++ text) ≡ length file + op_size (op_of rest) = omega (arith, length-append file text, long, fits.0.size) in
-    let tail : ℕ → List ℕ = λ n. spellings (ops_from (place_of lines) n (lines_of (drop count rest) others)) in
+    let tail : ℕ → List ℕ = λ n. spellings (ops_from (place_of_label lines) n (lines_of (drop count rest) others)) in
     record {
-      same = ap (λ (t : List ℕ). (file ++ t) ++ spellings (ops_from (place_of lines) (length (file ++ t)) (lines_of (drop count rest) others))) taken
+      same = ap (λ (t : List ℕ). (file ++ t) ++ spellings (ops_from (place_of_label lines) (length (file ++ t)) (lines_of (drop count rest) others))) taken
           ∙ ap (λ n. (file ++ text) ++ tail n) place ∙ append_assoc file text (tail (length file + op_size (op_of rest))) ∙ same;
       fits = fits.1;
       total = omega (arith, ap length taken, length-append file (take count rest), long, h.total, ap kept_total is);
     }
 
 pub put_jump_line : SizeIsLength → (whole : List ℕ) (lines : List Line) (labels size : ℕ) (file rest : List ℕ) (left others : List Kept) (kind : Jump) (label place : ℕ) → PutSoFar whole lines labels size file rest left
-    → left ≡ kept.Jump kind label ∷ others → place ≡ place_of lines label → PutSoFar whole lines labels size (file ++ spelling (jump_over kind (distance (length file) place))) rest others
+    → left ≡ kept.Jump kind label ∷ others → place ≡ place_of_label lines label → PutSoFar whole lines labels size (file ++ spelling (jump_over kind (distance (length file) place))) rest others
 put_jump_line sized whole lines labels size file rest left others kind label place h is at =
     let fits = subst (KeptFits labels rest) is h.fits in
-    let same = subst (λ ks. file ++ spellings (ops_from (place_of lines) (length file) (lines_of rest ks)) ≡ whole) is h.same in
-    let op : PlainOp = jump_over kind (distance (length file) (place_of lines label)) in
+    let same = subst (λ ks. file ++ spellings (ops_from (place_of_label lines) (length file) (lines_of rest ks)) ≡ whole) is h.same in
+    let op : PlainOp = jump_over kind (distance (length file) (place_of_label lines label)) in
     let long : length (spelling op) ≡ 6 = sym (sized op) ∙ size_jump kind _ in
     let count : length (file ++ spelling op) ≡ length file + 6 = omega (arith, length-append file (spelling op), long) in
-    let tail : ℕ → List ℕ = λ n. spellings (ops_from (place_of lines) n (lines_of rest others)) in
+    let tail : ℕ → List ℕ = λ n. spellings (ops_from (place_of_label lines) n (lines_of rest others)) in
     let P : ℕ → Type 0 = λ p. PutSoFar whole lines labels size (file ++ spelling (jump_over kind (distance (length file) p))) rest others in
     subst P (sym at) (record {
       same = ap (λ n. (file ++ spelling op) ++ tail n) count ∙ append_assoc file (spelling op) (tail (length file + 6)) ∙ same;
@@ -74,14 +74,14 @@ pub put_label : (whole : List ℕ) (lines : List Line) (labels size : ℕ) (file
 put_label whole lines labels size file rest left others label h is =
     let fits = subst (KeptFits labels rest) is h.fits in
     record {
-      same = subst (λ ks. file ++ spellings (ops_from (place_of lines) (length file) (lines_of rest ks)) ≡ whole) is h.same;
+      same = subst (λ ks. file ++ spellings (ops_from (place_of_label lines) (length file) (lines_of rest ks)) ≡ whole) is h.same;
       fits = fits.1;
       total = omega (arith, h.total, ap kept_total is);
     }
 
 pub put_ends : (whole : List ℕ) (lines : List Line) (labels size : ℕ) (file rest : List ℕ) (left : List Kept) → PutSoFar whole lines labels size file rest left → left ≡ [] → file ≡ whole
 put_ends whole lines labels size file rest left h is =
-    sym (append-nil file) ∙ subst (λ ks. file ++ spellings (ops_from (place_of lines) (length file) (lines_of rest ks)) ≡ whole) is h.same
+    sym (append-nil file) ∙ subst (λ ks. file ++ spellings (ops_from (place_of_label lines) (length file) (lines_of rest ks)) ≡ whole) is h.same
 
 -- the label of the jump in view was made, and its place is known
 pub label_made : (whole : List ℕ) (lines : List Line) (labels size : ℕ) (file rest : List ℕ) (left others : List Kept) (kind : Jump) (label : ℕ) → PutSoFar whole lines labels size file rest left
@@ -89,7 +89,7 @@ pub label_made : (whole : List ℕ) (lines : List Line) (labels size : ℕ) (fil
 label_made whole lines labels size file rest left others kind label h is = (subst (KeptFits labels rest) is h.fits).0
 
 pub place_known : (labels size : ℕ) (bytes : List ℕ) (all : List Kept) (places : List (Option ℕ)) (label : ℕ) → KeptFits labels bytes all
-    → ((l : ℕ) → unwrap_or (get_or places l None) size ≡ kept_place 13 all l) → unwrap_or (get_or places label None) size ≡ place_of (lines_of bytes all) label
+    → ((l : ℕ) → unwrap_or (get_or places l None) size ≡ kept_place 13 all l) → unwrap_or (get_or places label None) size ≡ place_of_label (lines_of bytes all) label
 place_known labels size bytes all places label fits placed = placed label ∙ kept_place_is labels bytes all 13 label fits
 
 pub place_inside : (size : ℕ) (all : List Kept) (places : List (Option ℕ)) (label : ℕ) → size ≡ 13 + kept_total all
@@ -134,7 +134,7 @@ total_few sized labels bytes (kept.Label label ∷ all) fits = omega (arith, tot
 pub length_program : (labels : ℕ) (bytes : List ℕ) (all : List Kept) (lines : List Line) → KeptFits labels bytes all → lines_of bytes all ≡ lines → 13 + kept_total all ≡ file_length (program lines)
 unfolding program
 length_program labels bytes all lines fits is =
-    let here : 13 + kept_total all ≡ file_length (program (lines_of bytes all)) = omega (arith, ops_size_is (place_of (lines_of bytes all)) labels 13 bytes all fits) in
+    let here : 13 + kept_total all ≡ file_length (program (lines_of bytes all)) = omega (arith, ops_size_is (place_of_label (lines_of bytes all)) labels 13 bytes all fits) in
     here ∙ ap (λ ls. file_length (program ls)) is
 
 -- the header and the lines are the file

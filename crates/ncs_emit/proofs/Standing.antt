@@ -5,7 +5,7 @@ use Rattle.ncs_code.specs.Spelling.{op_size}
 use Rattle.ncs_code.specs.File.{header_size, ops_size, op_at, file_length, distance}
 use Rattle.ncs_code.specs.Laws.{StoodBegins, SizesAdd, DistanceLeads}
 use Rattle.ncs_emit.specs.declared.jump.Jump.{Jump}
-use Rattle.ncs_emit.specs.Labelled.{Line, Instruction, JumpTo, Label, placements, jump_over, line_size, lines_size, ops_from, place_from, place_of, program}
+use Rattle.ncs_emit.specs.Labelled.{Line, Instruction, JumpTo, Label, placements, jump_over, line_size, lines_size, ops_from, place_from, place_of_label, program}
 use Rattle.ncs_emit.specs.Leading.{IsPlacedOnce}
 use Rattle.ncs_emit.specs.Standing.{LinesStand}
 use Rattle.ncs_emit.proofs.Lines.{placements_add}
@@ -25,7 +25,7 @@ ops_as_lines places at (Label label ∷ lines) = omega (arith, ops_as_lines plac
 
 pub program_size : (lines : List Line) → ops_size (program lines) ≡ lines_size lines
 unfolding program
-program_size lines = ops_as_lines (place_of lines) 13 lines
+program_size lines = ops_as_lines (place_of_label lines) 13 lines
 
 pub file_size : (lines : List Line) → header_size + lines_size lines ≡ file_length (program lines)
 file_size lines = ap (λ n. header_size + n) (sym (program_size lines))
@@ -65,7 +65,7 @@ place_here at label lines = ap (λ b. cond b at (place_from at lines label)) (te
 count_here : (label : ℕ) (lines : List Line) → placements (Label label ∷ lines) label ≡ 1 + placements lines label
 count_here label lines = ap (λ b. cond b 1 0 + placements lines label) (test_same label)
 
-label_stands : (all before lines : List Line) (label at : ℕ) → IsPlacedOnce all → all ≡ before ++ Label label ∷ lines → at ≡ 13 + lines_size before → place_of all label ≡ at
+label_stands : (all before lines : List Line) (label at : ℕ) → IsPlacedOnce all → all ≡ before ++ Label label ∷ lines → at ≡ 13 + lines_size before → place_of_label all label ≡ at
 label_stands all before lines label at once is place =
     let count = placements_add before (Label label ∷ lines) label in
     let none : placements before label ≡ 0 = omega (arith, once label, ap (λ ls. placements ls label) is, count, count_here label lines) in
@@ -108,25 +108,25 @@ jump_here begins ops places met at kind label lines left =
     ap (λ o. op_at o at) left.same ∙ ap (op_at (met ++ op ∷ ops_from places (at + 6) lines)) left.place ∙ begins met _ op
 
 module _ (begins : StoodBegins) (add : SizesAdd) (leads : DistanceLeads) (all : List Line) (once : IsPlacedOnce all) (ops : List PlainOp) where
-  stand_on : (before lines : List Line) (met : List PlainOp) (at : ℕ) → all ≡ before ++ lines → at ≡ 13 + lines_size before → IsLeft ops (place_of all) met at lines → LinesStand ops (place_of all) at lines
+  stand_on : (before lines : List Line) (met : List PlainOp) (at : ℕ) → all ≡ before ++ lines → at ≡ 13 + lines_size before → IsLeft ops (place_of_label all) met at lines → LinesStand ops (place_of_label all) at lines
   stand_on before [] met at is place left = tt
   stand_on before (Instruction op ∷ lines) met at is place left = (
-    op_here begins ops (place_of all) met at op lines left,
+    op_here begins ops (place_of_label all) met at op lines left,
     stand_on (before ++ Instruction op ∷ []) lines (met ++ op ∷ []) (at + op_size op) (is ∙ one_more before lines (Instruction op))
-        (omega (arith, place, lines_size_adds before (Instruction op ∷ []))) (left_op add ops (place_of all) met at op lines left),
+        (omega (arith, place, lines_size_adds before (Instruction op ∷ []))) (left_op add ops (place_of_label all) met at op lines left),
   )
   stand_on before (JumpTo kind label ∷ lines) met at is place left = (
-    record { begins = jump_here begins ops (place_of all) met at kind label lines left; leads = leads at (place_of all label) },
-    stand_on (before ++ JumpTo kind label ∷ []) lines (met ++ jump_over kind (distance at (place_of all label)) ∷ []) (at + 6) (is ∙ one_more before lines (JumpTo kind label))
-        (omega (arith, place, lines_size_adds before (JumpTo kind label ∷ []))) (left_jump add ops (place_of all) met at kind label lines left),
+    record { begins = jump_here begins ops (place_of_label all) met at kind label lines left; leads = leads at (place_of_label all label) },
+    stand_on (before ++ JumpTo kind label ∷ []) lines (met ++ jump_over kind (distance at (place_of_label all label)) ∷ []) (at + 6) (is ∙ one_more before lines (JumpTo kind label))
+        (omega (arith, place, lines_size_adds before (JumpTo kind label ∷ []))) (left_jump add ops (place_of_label all) met at kind label lines left),
   )
   stand_on before (Label label ∷ lines) met at is place left =
-      let on = stand_on (before ++ Label label ∷ []) lines met at (is ∙ one_more before lines (Label label)) (omega (arith, place, lines_size_adds before (Label label ∷ []))) (left_label ops (place_of all) met at label lines left) in
-      (label_stands all before lines label at once is place, subst (λ n. LinesStand ops (place_of all) n lines) (omega arith) on)
+      let on = stand_on (before ++ Label label ∷ []) lines met at (is ∙ one_more before lines (Label label)) (omega (arith, place, lines_size_adds before (Label label ∷ []))) (left_label ops (place_of_label all) met at label lines left) in
+      (label_stands all before lines label at once is place, subst (λ n. LinesStand ops (place_of_label all) n lines) (omega arith) on)
 
-pub all_left : (lines : List Line) → IsLeft (program lines) (place_of lines) [] 13 lines
+pub all_left : (lines : List Line) → IsLeft (program lines) (place_of_label lines) [] 13 lines
 unfolding program
 all_left lines = record { same = refl; place = refl }
 
-pub program_stands : StoodBegins → SizesAdd → DistanceLeads → (lines : List Line) → IsPlacedOnce lines → LinesStand (program lines) (place_of lines) 13 lines
+pub program_stands : StoodBegins → SizesAdd → DistanceLeads → (lines : List Line) → IsPlacedOnce lines → LinesStand (program lines) (place_of_label lines) 13 lines
 program_stands begins add leads lines once = stand_on begins add leads lines once (program lines) [] lines [] 13 refl refl (all_left lines)

@@ -7,6 +7,6 @@ use Rattle.ncs_emit.specs.declared.fault.EmitFault.TheVariants.{Large, NoMemory}
 use Rattle.ncs_emit.specs.Labelled.{Line, program}
 
 -- its size, or the want of memory, which may come at any time
-abbrev pub Fails : EmitFault → List Line → Type 0
-Fails (Large size) lines = (size ≡ file_length (program lines)) × (file_limit < size)
-Fails NoMemory lines = Unit {0}
+abbrev pub EmitFails : EmitFault → List Line → Type 0
+EmitFails (Large size) lines = (size ≡ file_length (program lines)) × (file_limit < size)
+EmitFails NoMemory lines = Unit {0}

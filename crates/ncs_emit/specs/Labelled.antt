@@ -50,8 +50,8 @@ place_from at (JumpTo kind other ∷ lines) label = place_from (at + 6) lines la
 place_from at (Label other ∷ lines) label = if other == label then at else place_from at lines label
 
 -- the place of a label in the file
-abbrev pub place_of : List Line → ℕ → ℕ
-place_of lines label = place_from header_size lines label
+abbrev pub place_of_label : List Line → ℕ → ℕ
+place_of_label lines label = place_from header_size lines label
 
 -- the instructions of the lines, where the labels have these places and the first line stands at
 -- `at`
@@ -64,4 +64,4 @@ ops_from places at (Label label ∷ lines) = ops_from places at lines
 -- the instructions of labelled code: each jump has the distance from its own start to its label's
 -- place
 unfoldable pub program : List Line → List PlainOp
-program lines = ops_from (place_of lines) header_size lines
+program lines = ops_from (place_of_label lines) header_size lines

@@ -4,7 +4,7 @@ use Rattle.std.specs.List.{AllByRecursion}
 use Rattle.nwq_value.specs.Limits.{file_limit}
 use Rattle.ncs_code.specs.Plain.{PlainOp}
 use Rattle.ncs_code.specs.File.{header_size, ops_size, file_length, IsCode}
-use Rattle.ncs_emit.specs.Labelled.{Line, Instruction, placements, lines_size, place_of, program}
+use Rattle.ncs_emit.specs.Labelled.{Line, Instruction, placements, lines_size, place_of_label, program}
 use Rattle.ncs_emit.specs.Standing.{LinesStand}
 use Rattle.ncs_emit.specs.Leading.{LineFits, IsPlacedOnce, LeadsOn, Closes}
 
@@ -47,7 +47,7 @@ ProgramSize = (lines : List Line) → ops_size (program lines) ≡ lines_size li
 
 -- Where no label is placed twice, each line stands at its place.
 abbrev pub ProgramStands : Type 0
-ProgramStands = (lines : List Line) → IsPlacedOnce lines → LinesStand (program lines) (place_of lines) header_size lines
+ProgramStands = (lines : List Line) → IsPlacedOnce lines → LinesStand (program lines) (place_of_label lines) header_size lines
 
 -- The file of code that leads on and closes is one that loads, if it is not too large.
 abbrev pub FinishedIsCode : Type 0

@@ -5,7 +5,7 @@ ghost use Rattle.ncs_code.specs.Plain.{plain};
 ghost use Rattle.ncs_code.specs.Spelling.{HasRow};
 ghost use Rattle.ncs_code.specs.File.{file_bytes, file_length};
 ghost use Rattle.ncs_emit.specs.Labelled.{Line, Instruction, JumpTo, Label, placements, program};
-ghost use Rattle.ncs_emit.specs.Faults.{Fails};
+ghost use Rattle.ncs_emit.specs.Faults.{EmitFails};
 ghost use Rattle.ncs_emit.specs.Leading.{IsPlacedOnce, LineFits};
 ghost use Rattle.std.specs.List.{AllByRecursion};
 
@@ -153,7 +153,7 @@ impl Emitter {
         requires placed { (label : ℕ) → label < self.labels → 1 ≤ placements self.lines label }
         ensures file { IfOk result (λ bytes. bytes.items ≡ file_bytes (program self.lines)) }
         ensures bounded { OnOk result (file_length (program self.lines) ≤ file_limit) }
-        ensures fault { IfErr result (λ fault. Fails fault self.lines) }
+        ensures fault { IfErr result (λ fault. EmitFails fault self.lines) }
     {
         size_laws();
         let size = self.tally.size();

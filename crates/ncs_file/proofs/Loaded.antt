@@ -12,7 +12,7 @@ use Rattle.ncs_code.specs.Laws.{SpellingLaws, SizeLaws, PlaceLaws}
 use Rattle.nwq_value.specs.Limits.{file_limit}
 use Rattle.ncs_file.specs.declared.fault.LoadFault.{LoadFault}
 use Rattle.ncs_file.specs.declared.fault.LoadFault.TheVariants.{Magic, Length, At, Target, NoMemory}
-use Rattle.ncs_file.specs.Loading.{Fails, HasHeader, LeadsAstray, StopsAt}
+use Rattle.ncs_file.specs.Loading.{LoadFails, HasHeader, LeadsAstray, LoadStopsAt}
 use Rattle.ncs_file.specs.Marks.{listing, IsLoaded, IsScanned}
 use Rattle.ncs_file.proofs.Places.{drop_header, length_marks, marked, found_at}
 use Rattle.ncs_file.proofs.Scanning.{listing_is}
@@ -139,7 +139,7 @@ module _ (spells : SpellingLaws) (sizes : SizeLaws) where
   no_fault rest (op ∷ ops) each is some = ap fault_of is ∙ spells.sound op (spellings ops) each.0
 
   -- in the bytes of instructions there is no place where none is spelled
-  pub stops_nowhere : (place : ℕ) (why : CodeFault) (bytes : List ℕ) (ops : List PlainOp) → StopsAt place why bytes → AllByRecursion IsOp ops → bytes ≡ file_bytes ops → ⊥
+  pub stops_nowhere : (place : ℕ) (why : CodeFault) (bytes : List ℕ) (ops : List PlainOp) → LoadStopsAt place why bytes → AllByRecursion IsOp ops → bytes ≡ file_bytes ops → ⊥
   stops_nowhere place why bytes ops stops each is =
       let same : spellings stops.ops ++ drop place bytes ≡ spellings ops = sym stops.before ∙ ap (drop 13) is ∙ drop_header ops in
       let l = left stops.ops ops (drop place bytes) stops.each each same in
@@ -158,7 +158,7 @@ module _ (spells : SpellingLaws) (sizes : SizeLaws) where
       absurd cc
 
   -- a file is refused only for want of memory
-  pub refused : PlaceLaws → (fault : LoadFault) (bytes : List ℕ) → Fails fault bytes → (ops : List PlainOp) → IsCode ops → bytes ≡ file_bytes ops → fault ≡ NoMemory
+  pub refused : PlaceLaws → (fault : LoadFault) (bytes : List ℕ) → LoadFails fault bytes → (ops : List PlainOp) → IsCode ops → bytes ≡ file_bytes ops → fault ≡ NoMemory
   refused places Magic bytes fails ops code is = absurd (fails (ap (take 9) is))
   refused places Length bytes fails ops code is = absurd (fails.1 (has_header sizes bytes ops is))
   refused places (At place why) bytes fails ops code is = absurd (stops_nowhere place why bytes ops fails code.each is)

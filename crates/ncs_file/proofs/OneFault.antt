@@ -9,7 +9,7 @@ use Rattle.ncs_code.specs.File.{magic, spellings, file_bytes, file_length, IsFir
 use Rattle.ncs_code.specs.Laws.{SpellingLaws, SizeLaws, PlaceLaws, OneFirstBad}
 use Rattle.ncs_file.specs.declared.fault.LoadFault.{LoadFault}
 use Rattle.ncs_file.specs.declared.fault.LoadFault.TheVariants.{Magic, Length, At, Target, NoMemory}
-use Rattle.ncs_file.specs.Loading.{Fails, HasHeader, StopsAt, LeadsAstray}
+use Rattle.ncs_file.specs.Loading.{LoadFails, HasHeader, LoadStopsAt, LeadsAstray}
 use Rattle.ncs_file.proofs.Lists.{magic_front}
 use Rattle.ncs_file.proofs.Loaded.{has_header, stops_nowhere, refused}
 use Rattle.ncs_file.proofs.Scanning.{listing_is}
@@ -46,7 +46,7 @@ module _ (spells : SpellingLaws) (sizes : SizeLaws) (one_bad : OneFirstBad) wher
       let behind : xs ≡ ys = same_until xs ys rest left why because f.1 g.1 others at there in
       cc
 
-  one_stop : (p q : ℕ) (why because : CodeFault) (bytes : List ℕ) → StopsAt p why bytes → StopsAt q because bytes → At p why ≡ At q because
+  one_stop : (p q : ℕ) (why because : CodeFault) (bytes : List ℕ) → LoadStopsAt p why bytes → LoadStopsAt q because bytes → At p why ≡ At q because
   one_stop p q why because bytes f g =
       let ops : f.ops ≡ g.ops = same_until f.ops g.ops (drop p bytes) (drop q bytes) why because f.each g.each (sym f.before ∙ g.before) f.reason g.reason in
       let place : p ≡ q = f.stands ∙ ap file_length ops ∙ sym g.stands in
@@ -59,7 +59,7 @@ module _ (spells : SpellingLaws) (sizes : SizeLaws) (one_bad : OneFirstBad) wher
       let other : IsFirstBad f.ops g.index q = subst (λ os. IsFirstBad os g.index q) ops g.first in
       ap Target (one_bad f.ops f.index g.index p q f.first other).1
 
-  pub one_fault : (bytes : List ℕ) (one other : LoadFault) → Fails one bytes → Fails other bytes → one ≢ NoMemory → other ≢ NoMemory → one ≡ other
+  pub one_fault : (bytes : List ℕ) (one other : LoadFault) → LoadFails one bytes → LoadFails other bytes → one ≢ NoMemory → other ≢ NoMemory → one ≡ other
   one_fault bytes NoMemory other f g some more = absurd (some refl)
   one_fault bytes one NoMemory f g some more = absurd (more refl)
   one_fault bytes Magic Magic f g some more = refl
@@ -79,5 +79,5 @@ module _ (spells : SpellingLaws) (sizes : SizeLaws) (one_bad : OneFirstBad) wher
   one_fault bytes (Target p) (At q because) f g some more = absurd (stops_nowhere spells sizes q because bytes f.ops g f.each f.spelled)
   one_fault bytes (Target p) (Target q) f g some more = one_target p q bytes f g
 
-pub no_fault_in_code : SpellingLaws → SizeLaws → PlaceLaws → (ops : List PlainOp) (fault : LoadFault) → IsCode ops → Fails fault (file_bytes ops) → fault ≡ NoMemory
+pub no_fault_in_code : SpellingLaws → SizeLaws → PlaceLaws → (ops : List PlainOp) (fault : LoadFault) → IsCode ops → LoadFails fault (file_bytes ops) → fault ≡ NoMemory
 no_fault_in_code spells sizes places ops fault code fails = refused spells sizes places fault (file_bytes ops) fails ops code refl

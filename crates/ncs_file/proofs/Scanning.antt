@@ -9,7 +9,7 @@ use Rattle.ncs_code.specs.Spelling.{spelling, op_size, four, IsOp, Spells, fault
 use Rattle.ncs_code.specs.Reading.{ops_of}
 use Rattle.ncs_code.specs.File.{magic, spellings, file_bytes, file_length, op_at, leads_well, AllLeadWell}
 use Rattle.ncs_code.specs.Laws.{SpellingLaws, SizeLaws, PlaceLaws}
-use Rattle.ncs_file.specs.Loading.{HasHeader, StopsAt, LeadsAstray}
+use Rattle.ncs_file.specs.Loading.{HasHeader, LoadStopsAt, LeadsAstray}
 use Rattle.ncs_file.specs.Marks.{mark, marks, listing, IsScanned}
 use Rattle.ncs_file.proofs.Places.{drop_header}
 
@@ -94,7 +94,7 @@ scan_ends spells sizes bytes table at count so_far end header =
     }
 
 pub scan_stops : (bytes : List ℕ) (table : List Bool) (at count : ℕ) (fault : CodeFault) → SoFar bytes table at count → at < length bytes → HasHeader bytes
-    → fault_of (drop at bytes) ≡ Some fault → StopsAt at fault bytes
+    → fault_of (drop at bytes) ≡ Some fault → LoadStopsAt at fault bytes
 scan_stops bytes table at count fault so_far lt header reason = record {
   ops = so_far.ops;
   each = so_far.each;

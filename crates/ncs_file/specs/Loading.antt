@@ -13,7 +13,7 @@ abbrev pub HasHeader : List ℕ → Type 0
 HasHeader bytes = take 13 bytes ≡ magic ++ four (length bytes)
 
 -- Instructions fill the file up to this place, where none is spelled, for this reason.
-pub record StopsAt (place : ℕ) (fault : CodeFault) (bytes : List ℕ) : Type 0 where
+pub record LoadStopsAt (place : ℕ) (fault : CodeFault) (bytes : List ℕ) : Type 0 where
   pub ops : List PlainOp
   pub each : AllByRecursion IsOp ops
   pub header : HasHeader bytes
@@ -32,9 +32,9 @@ pub record LeadsAstray (place : ℕ) (bytes : List ℕ) : Type 0 where
   pub first : IsFirstBad ops index place
 
 -- No two of these hold of the same bytes, but for the want of memory, which may come at any time.
-abbrev pub Fails : LoadFault → List ℕ → Type 0
-Fails Magic bytes = take 9 bytes ≢ magic
-Fails Length bytes = (take 9 bytes ≡ magic) × (take 13 bytes ≢ magic ++ four (length bytes))
-Fails (At place fault) bytes = StopsAt place fault bytes
-Fails (Target place) bytes = LeadsAstray place bytes
-Fails NoMemory bytes = Unit {0}
+abbrev pub LoadFails : LoadFault → List ℕ → Type 0
+LoadFails Magic bytes = take 9 bytes ≢ magic
+LoadFails Length bytes = (take 9 bytes ≡ magic) × (take 13 bytes ≢ magic ++ four (length bytes))
+LoadFails (At place fault) bytes = LoadStopsAt place fault bytes
+LoadFails (Target place) bytes = LeadsAstray place bytes
+LoadFails NoMemory bytes = Unit {0}

@@ -4,7 +4,7 @@ ghost use Rattle.nwq_value.specs.Limits.{file_limit};
 ghost use Rattle.ncs_code.specs.Plain.{PlainOp, plain};
 ghost use Rattle.ncs_code.specs.Spelling.{op_size};
 ghost use Rattle.ncs_code.specs.File.{IsCode, file_bytes, op_at};
-ghost use Rattle.ncs_file.specs.Loading.{Fails};
+ghost use Rattle.ncs_file.specs.Loading.{LoadFails};
 ghost use Rattle.ncs_file.specs.declared.fault.LoadFault.TheVariants.{NoMemory};
 
 use crate::fault::LoadFault;
@@ -57,7 +57,7 @@ pub fn load(alloc: Global, bytes: Vec<u8>) -> Result<Code, LoadFault>
     ensures only { (ops : List PlainOp) → IsCode ops → bytes.items ≡ file_bytes ops →
         MatchResult result (λ code. code ≡ ops) (λ fault. fault ≡ NoMemory) }
     // The fault is the first that there is.
-    ensures fault { IfErr result (λ fault. Fails fault bytes.items) }
+    ensures fault { IfErr result (λ fault. LoadFails fault bytes.items) }
 {
     spelling_laws();
     size_laws();

@@ -7,7 +7,7 @@ ghost use Rattle.nwq_value.specs.Limits.{file_limit};
 ghost use Rattle.ncs_code.specs.Plain.{PlainOp, plain};
 ghost use Rattle.ncs_code.specs.Spelling.{op_size};
 ghost use Rattle.ncs_code.specs.File.{AllLeadWell, leads_well};
-ghost use Rattle.ncs_file.specs.Loading.{Fails, HasHeader};
+ghost use Rattle.ncs_file.specs.Loading.{LoadFails, HasHeader};
 ghost use Rattle.ncs_file.specs.Marks.{IsScanned, begins_there, listing, marks};
 
 use crate::fault::LoadFault;
@@ -36,7 +36,7 @@ fn prefix(bytes: &[u8], n: usize) -> &[u8]
 #[tactic(auto, using(crate::proofs::Lists::magic_front))]
 pub(crate) fn test_header(bytes: &[u8]) -> Result<(), LoadFault>
     requires { length bytes.now ≤ file_limit }
-    ensures { MatchResult result (λ _. HasHeader bytes.now) (λ fault. Fails fault bytes.now) }
+    ensures { MatchResult result (λ _. HasHeader bytes.now) (λ fault. LoadFails fault bytes.now) }
 {
     let wanted = header(bytes.len() as u32);
     if prefix(bytes, 9) != &wanted[..9] {
@@ -78,7 +78,7 @@ pub(crate) fn starts_of(alloc: Global, bytes: &[u8]) -> Result<Starts, LoadFault
     requires bounded { length bytes.now ≤ file_limit }
     requires begun { HasHeader bytes.now }
     ensures scanned { IfOk result (λ starts. IsScanned bytes.now starts.table.items starts.count) }
-    ensures fault { IfErr result (λ fault. Fails fault bytes.now) }
+    ensures fault { IfErr result (λ fault. LoadFails fault bytes.now) }
 {
     spelling_laws();
     size_laws();
@@ -139,7 +139,7 @@ pub(crate) fn test_targets(bytes: &[u8], starts: &Starts) -> Result<(), LoadFaul
     requires bounded { length bytes.now ≤ file_limit }
     requires scanned { IsScanned bytes.now starts.now.table.items starts.now.count }
     ensures { MatchResult result (λ _. AllLeadWell (listing bytes.now))
-        (λ fault. Fails fault bytes.now) }
+        (λ fault. LoadFails fault bytes.now) }
 {
     size_laws();
     place_laws();

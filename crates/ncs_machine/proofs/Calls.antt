@@ -21,7 +21,7 @@ use Rattle.machine_rules.specs.Cells.{value_types}
 use Rattle.machine_rules.specs.Calls.{Taken, with_value, with_action, value_taken, action_taken, taken, arguments, is_execute_script}
 use Rattle.machine_rules.specs.Act.{Act, Asks, Executes, asked, behind_call, engine_called}
 use Rattle.machine_rules.specs.Act as acts
-use Rattle.machine_rules.specs.Machine.{Script, Host, State, Goes, answered, begun, executed, followed, script_named}
+use Rattle.machine_rules.specs.Machine.{Script, Host, State, Goes, answered, script_begun, executed, followed, script_named}
 use Rattle.machine_frames.specs.declared.arguments.Arguments.{Arguments}
 use Rattle.machine_frames.specs.Takes.{IsCall}
 use Rattle.world_rules.specs.World.{World}
@@ -207,7 +207,7 @@ pub executes_both : (e : EngineView) (n count : ℕ) (r : Routine) (before after
     → engine_called e.table n count before ≢ None → IsCall r n count before after a → AreNameAndTarget a.values
 executes_both e n count r before after a listed other case call = (executes_parts e n count r before after a listed other case call).0
 
-begun_any : (h : Host (World Saved)) (number : Option ℕ) (name : List ℕ) (target : ℕ) (f : Frame) (s : State (World Saved)) → begun h number name target f s ≡ begun h number name target f (record s { running = f })
+begun_any : (h : Host (World Saved)) (number : Option ℕ) (name : List ℕ) (target : ℕ) (f : Frame) (s : State (World Saved)) → script_begun h number name target f s ≡ script_begun h number name target f (record s { running = f })
 begun_any h None name target f s = refl
 begun_any h (Some script) name target f s = refl
 

@@ -30,7 +30,7 @@ use Rattle.world_rules.specs.World.{World, is_valid, queue_in, queue_of, effects
 use Rattle.world_rules.specs.Changes.{told, post, later, changed_at, changed_object, with_queue, with_effects, with_actions, with_busy, with_action, with_variables, has_turn, without_turn, without_first, is_effect, is_numbered}
 use Rattle.world_rules.specs.Rows.{Call, Row, rows, drawn_from, drawn, assigned, delayed, awake, appended, appended_do, at_rest, cleared, changed_variables, applied, applied_to, removed, event_script, signalled}
 use Rattle.world_rules.specs.Engine.{by_row, by_role, by_routine, engine}
-use Rattle.world_rules.specs.Turns.{begun, turned, next_turn, turn_done, expired, with_entries, user_number}
+use Rattle.world_rules.specs.Turns.{entry_begun, turned, next_turn, turn_done, expired, with_entries, user_number}
 use Rattle.ncs_machine.specs.Host.{EngineView, engine_answer}
 use Rattle.ncs_machine.specs.Stored.{KindFits, ItemFits, EntryFits, ItemsFit, ThingsFit, StatesFit, EngineKeepsFits, BegunFits, BeginKeepsFits, TurnedFits, TurnKeepsFits, TurnDoneKeepsFits, UnapplyKeepsFits, LinesKeepFits}
 
@@ -302,7 +302,7 @@ module _ (scripts : List Script) (tables : Tables) where
 
   -- ---- entries
 
-  begun_fits : (until : ℕ) (es : List (Entry Saved)) (w : World Saved) → Entries es → Fit w → BegunFits scripts tables (begun until es w)
+  begun_fits : (until : ℕ) (es : List (Entry Saved)) (w : World Saved) → Entries es → Fit w → BegunFits scripts tables (entry_begun until es w)
   begun_fits until [] w all f = tt
   begun_fits until (e ∷ es) w all f = on (nat_le e.due until)
     where

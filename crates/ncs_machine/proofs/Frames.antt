@@ -6,7 +6,7 @@ use Rattle.std.proofs.lemmas.Bool.Decides.{nat_tests}
 use Rattle.saved_state.specs.declared.saved.Saved.{Saved}
 use Rattle.machine_rules.specs.Frames.{Frame, started}
 use Rattle.machine_rules.specs.Act.{Act, Moves, Returns}
-use Rattle.machine_rules.specs.Machine.{Script, Host, State, Goes, depth_limit, begun, executed, followed, over, script_named}
+use Rattle.machine_rules.specs.Machine.{Script, Host, State, Goes, waiting_limit, script_begun, executed, followed, over, script_named}
 use Rattle.world_rules.specs.World.{World}
 use Rattle.world_rules.specs.Engine.{may_run, no_script, too_deep}
 use Rattle.ncs_machine.specs.Host.{EngineView, host}
@@ -26,24 +26,24 @@ pub ruleset return_lemmas = (moves_on, is_over)
 -- ---- a script that begins
 
 pub missing_is : (scripts : List Script) (e : EngineView) (number : Option ℕ) (name : List ℕ) (target : ℕ) (f : Frame) (s : State (World Saved)) → number ≡ None
-    → begun (host scripts e) number name target f s ≡ record s { running = f; world = no_script target name s.world }
+    → script_begun (host scripts e) number name target f s ≡ record s { running = f; world = no_script target name s.world }
 unfolding host
-missing_is scripts e number name target f s h = ap (λ number. begun (host scripts e) number name target f s) h
+missing_is scripts e number name target f s h = ap (λ number. script_begun (host scripts e) number name target f s) h
 
 pub begins_is : (scripts : List Script) (e : EngineView) (number : Option ℕ) (script : ℕ) (name : List ℕ) (target : ℕ) (f : Frame) (s : State (World Saved)) → number ≡ Some script
-    → length s.waiting < depth_limit → begun (host scripts e) number name target f s ≡ record s { running = started script target; waiting = f ∷ s.waiting }
+    → length s.waiting < waiting_limit → script_begun (host scripts e) number name target f s ≡ record s { running = started script target; waiting = f ∷ s.waiting }
 unfolding host
 begins_is scripts e number script name target f s h less =
-    let test : nat_lt (length s.waiting) depth_limit ≡ true = grind (arith, nat_tests) in
-    ap (λ number. begun (host scripts e) number name target f s) h
+    let test : nat_lt (length s.waiting) waiting_limit ≡ true = grind (arith, nat_tests) in
+    ap (λ number. script_begun (host scripts e) number name target f s) h
     ∙ ap (λ (b : Bool). if b then record s { running = started script target; waiting = f ∷ s.waiting } else record s { running = f; world = too_deep target name s.world }) test
 
 pub deep_is : (scripts : List Script) (e : EngineView) (number : Option ℕ) (script : ℕ) (name : List ℕ) (target : ℕ) (f : Frame) (s : State (World Saved)) → number ≡ Some script
-    → depth_limit ≤ length s.waiting → begun (host scripts e) number name target f s ≡ record s { running = f; world = too_deep target name s.world }
+    → waiting_limit ≤ length s.waiting → script_begun (host scripts e) number name target f s ≡ record s { running = f; world = too_deep target name s.world }
 unfolding host
 deep_is scripts e number script name target f s h most =
-    let test : nat_lt (length s.waiting) depth_limit ≡ false = grind (arith, nat_tests) in
-    ap (λ number. begun (host scripts e) number name target f s) h
+    let test : nat_lt (length s.waiting) waiting_limit ≡ false = grind (arith, nat_tests) in
+    ap (λ number. script_begun (host scripts e) number name target f s) h
     ∙ ap (λ (b : Bool). if b then record s { running = started script target; waiting = f ∷ s.waiting } else record s { running = f; world = too_deep target name s.world }) test
 
 pub ruleset begin_lemmas = (missing_is, begins_is, deep_is, length-reverse)
@@ -57,13 +57,13 @@ pub not_allowed : (scripts : List Script) (e : EngineView) (name : List ℕ) (ta
 unfolding host
 not_allowed scripts e [] target f s h = refl
 not_allowed scripts e (b ∷ name) target f s h =
-    ap (λ (c : Bool). if c then begun (host scripts e) (script_named scripts (b ∷ name)) (b ∷ name) target f s else record s { running = f }) h
+    ap (λ (c : Bool). if c then script_begun (host scripts e) (script_named scripts (b ∷ name)) (b ∷ name) target f s else record s { running = f }) h
 
 pub is_allowed : (scripts : List Script) (e : EngineView) (name : List ℕ) (target : ℕ) (f : Frame) (s : State (World Saved)) → name ≢ [] → may_run f.self target s.world ≡ true
-    → executed (host scripts e) name target f s ≡ begun (host scripts e) (script_named scripts name) name target f s
+    → executed (host scripts e) name target f s ≡ script_begun (host scripts e) (script_named scripts name) name target f s
 unfolding host
 is_allowed scripts e [] target f s some h = absurd (some refl)
 is_allowed scripts e (b ∷ name) target f s some h =
-    ap (λ (c : Bool). if c then begun (host scripts e) (script_named scripts (b ∷ name)) (b ∷ name) target f s else record s { running = f }) h
+    ap (λ (c : Bool). if c then script_begun (host scripts e) (script_named scripts (b ∷ name)) (b ∷ name) target f s else record s { running = f }) h
 
 pub ruleset execute_lemmas = (nothing_named, not_allowed, is_allowed)

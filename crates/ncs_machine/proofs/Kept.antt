@@ -18,7 +18,7 @@ use Rattle.machine_rules.specs.Cells.{zero_on_top}
 use Rattle.machine_rules.specs.Calls.{Taken, arguments, is_execute_script}
 use Rattle.machine_rules.specs.Act.{Act, Moves, Asks, Executes, Returns, Divides, act, moved, returned, restored, stored, stored_cells, asked, behind_call, engine_called, is_division, place_after, next_place, cells_after}
 use Rattle.machine_rules.specs.Act as acts
-use Rattle.machine_rules.specs.Machine.{Script, Host, State, Next, Goes, depth_limit, begun, executed, followed, next_op, over, script_named, step, with_answer}
+use Rattle.machine_rules.specs.Machine.{Script, Host, State, Next, Goes, waiting_limit, script_begun, executed, followed, next_op, over, script_named, step, with_answer}
 use Rattle.world_rules.specs.World.{World, count}
 use Rattle.world_rules.specs.AlikeLaws.{call}
 use Rattle.world_rules.specs.Engine.{may_run, no_script, too_deep}
@@ -181,10 +181,10 @@ module _ (laws : WorldLaws) (scripts : List Script) (e : EngineView) where
   }
 
   begun_leaves : (number : Option ℕ) (name : List ℕ) (target : ℕ) (f : Frame) (s : State (World Saved)) → f.self ≡ s.running.self → may_run s.running.self target s.world ≡ true
-      → Leaves s (begun (host scripts e) number name target f s)
+      → Leaves s (script_begun (host scripts e) number name target f s)
   unfolding host
   begun_leaves None name target f s self may = told_leaves s f (no_script target name s.world) self (λ w. laws.no_script target name s.world w)
-  begun_leaves (Some script) name target f s self may = on (nat_lt (length s.waiting) depth_limit)
+  begun_leaves (Some script) name target f s self may = on (nat_lt (length s.waiting) waiting_limit)
     where
       on : (b : Bool) → Leaves s (if b then record s { running = started script target; waiting = f ∷ s.waiting } else record s { running = f; world = too_deep target name s.world })
       on true = record {
@@ -201,10 +201,10 @@ module _ (laws : WorldLaws) (scripts : List Script) (e : EngineView) where
   executed_leaves (b ∷ name) target f s self = on (may_run f.self target s.world) refl
     where
       on : (c : Bool) → may_run f.self target s.world ≡ c
-          → Leaves s (if may_run f.self target s.world then begun (host scripts e) (script_named scripts (b ∷ name)) (b ∷ name) target f s else record s { running = f })
-      on true h = subst (Leaves s) (sym (ap (λ (c : Bool). if c then begun (host scripts e) (script_named scripts (b ∷ name)) (b ∷ name) target f s else record s { running = f }) h))
+          → Leaves s (if may_run f.self target s.world then script_begun (host scripts e) (script_named scripts (b ∷ name)) (b ∷ name) target f s else record s { running = f })
+      on true h = subst (Leaves s) (sym (ap (λ (c : Bool). if c then script_begun (host scripts e) (script_named scripts (b ∷ name)) (b ∷ name) target f s else record s { running = f }) h))
           (begun_leaves (script_named scripts (b ∷ name)) (b ∷ name) target f s self (ap (λ k. may_run k target s.world) (sym self) ∙ h))
-      on false h = subst (Leaves s) (sym (ap (λ (c : Bool). if c then begun (host scripts e) (script_named scripts (b ∷ name)) (b ∷ name) target f s else record s { running = f }) h))
+      on false h = subst (Leaves s) (sym (ap (λ (c : Bool). if c then script_begun (host scripts e) (script_named scripts (b ∷ name)) (b ∷ name) target f s else record s { running = f }) h))
           (moves_leaves s f self)
 
   answer_self : (v : Option Value) (f : Frame) → (with_answer v f).self ≡ f.self

@@ -10,7 +10,7 @@ use Rattle.machine_rules.specs.Frames.{Frame}
 use Rattle.machine_rules.specs.Machine.{Script, Host, State, Next, Goes, Ends, Divided, step}
 use Rattle.ncs_machine.specs.declared.entry.Ran.TheVariants as answer
 use Rattle.ncs_machine.specs.declared.entry.Ran as answers
-use Rattle.machine_rules.specs.Runs.{Ending, Over, ZeroDivisor, OutOfInstructions, Ran, after_step, counted, run}
+use Rattle.machine_rules.specs.Runs.{Ending, Over, ZeroDivisor, OutOfInstructions, Ran, after_step, one_step_longer, run}
 use Rattle.stack_rules.specs.Fits.{Tables}
 use Rattle.stack_rules.specs.Safe.{IsSafe, IsSafeFrame, AreSafeFrames, GoesSafely, from_base}
 use Rattle.stack_rules.specs.Laws.{AllMeet, IsReached, Unchanged, ByCall, ByMissing, ByDepth, IsWellStackedHost, StepsSafely, TablesTypeExecuteScript}
@@ -65,7 +65,7 @@ joined_left n w v u a b = record {
 none_left : (w : World Saved) → IsLeft 0 w w
 none_left w = record { objects = refl; clock = refl; no_less = omega arith; few = omega arith; acting = λ o a. a }
 
-run_next : {W : Type 0} (h : Host W) (s t : State W) (k : ℕ) → step h s ≡ Some (Goes t) → run h (suc k) s ≡ counted (run h k t)
+run_next : {W : Type 0} (h : Host W) (s t : State W) (k : ℕ) → step h s ≡ Some (Goes t) → run h (suc k) s ≡ one_step_longer (run h k t)
 run_next h s t k e = ap (λ n. after_step n s (run h k)) e
 
 run_ends : {W : Type 0} (h : Host W) (s : State W) (k : ℕ) → step h s ≡ Some Ends → run h (suc k) s ≡ record { ending = Over; count = 1; last = s }
@@ -119,7 +119,7 @@ module _ (scripts : List Script) (e : EngineView) (tables : Tables) (limit : ℕ
       next_to : (k : ℕ) → (done + 1) + k ≡ done + suc k
       next_to k = omega arith
 
-      shifted : (r : Ran (World Saved)) → after_so_many done (counted r) ≡ after_so_many (done + 1) r
+      shifted : (r : Ran (World Saved)) → after_so_many done (one_step_longer r) ≡ after_so_many (done + 1) r
       shifted r = ap (λ n. record r { count = n }) (omega arith)
 
   pub ends : (done : ℕ) (s : State (World Saved)) → SoFar scripts e tables limit first done s → done < limit → step (host scripts e) s ≡ Some Ends

@@ -10,8 +10,8 @@ use Rattle.machine_rules.specs.Machine.{State, Next, Goes, Ends, Divided}
 use Rattle.stack_rules.specs.Laws.{HasType}
 use Rattle.world_rules.specs.World.{World}
 use Rattle.ncs_machine.specs.Host.{EngineView, engine_answer}
-use Rattle.ncs_machine.specs.declared.machine.Next.{Next as Step}
-use Rattle.ncs_machine.specs.declared.machine.Next.TheVariants as code
+use Rattle.ncs_machine.specs.declared.machine.StepOutcome.{StepOutcome}
+use Rattle.ncs_machine.specs.declared.machine.StepOutcome.TheVariants as code
 
 -- the frames of a running entry: the one that runs, and those that wait, the newest first
 pub record Frames : Type 0 where
@@ -22,7 +22,7 @@ abbrev pub state : Frames → World Saved → State (World Saved)
 state m w = record { running = m.running; waiting = m.waiting; world = w }
 
 -- what the code's answer says of a step that leads to this state, if the entry goes on
-abbrev pub next_of : Step → State (World Saved) → Next (World Saved)
+abbrev pub next_of : StepOutcome → State (World Saved) → Next (World Saved)
 next_of code.Goes t = Goes t
 next_of code.Ends t = Ends
 next_of code.Divides t = Divided
@@ -57,7 +57,7 @@ pub data IsHalfway (before behind v : World Saved) : Type 0 where
   Called : v ≡ behind → IsHalfway before behind v
 
 -- where the entry ends, the world is left as it is
-abbrev pub Stays : Step → World Saved → World Saved → Type 0
+abbrev pub Stays : StepOutcome → World Saved → World Saved → Type 0
 Stays code.Goes w v = Unit {0}
 Stays code.Ends w v = v ≡ w
 Stays code.Divides w v = v ≡ w

@@ -11,7 +11,7 @@ ghost use Rattle.ncs_machine.specs.Host.{tables_of};
 ghost use Rattle.ncs_machine.specs.Steps.{state};
 ghost use Rattle.world_core.specs.Calls.{AreServing};
 
-use crate::machine::{Machine, Next};
+use crate::machine::{Machine, StepOutcome};
 use crate::scene::Scene;
 use crate::scripts::{Begin, Scripts};
 use hook_table::Hooks;
@@ -82,9 +82,9 @@ fn run_machine(
         match machine.step(alloc, scripts, world, hooks, table) {
             Err(_) => return (Ran::NoMemory, done, own),
             Ok(next) => match next {
-                Next::Goes => {}
-                Next::Ends => return (Ran::Ended, done + 1, own),
-                Next::Divides => return (Ran::Divide, done + 1, own),
+                StepOutcome::Goes => {}
+                StepOutcome::Ends => return (Ran::Ended, done + 1, own),
+                StepOutcome::Divides => return (Ran::Divide, done + 1, own),
             },
         }
     }

@@ -11,7 +11,8 @@ ghost use Rattle.std.specs.Char.{to_ascii_lowercase};
 ghost use Rattle.std.specs.Str.{bytes_eq};
 ghost use Rattle.saved_state.specs.declared.saved.Saved.{Saved as SavedView};
 ghost use Rattle.machine_rules.specs.Act.{returned};
-ghost use Rattle.machine_rules.specs.Machine.{Host, answered, begun, executed, followed, over};
+ghost use Rattle.machine_rules.specs.Machine.{Host, answered, script_begun, executed, followed};
+ghost use Rattle.machine_rules.specs.Machine.{over};
 ghost use Rattle.machine_rules.specs.Machine.{script_named};
 ghost use Rattle.world_rules.specs.World.{World as WorldView, count as object_count};
 ghost use Rattle.ncs_machine.specs.Host.{EngineView, answer_of, engine_answer, engine_view, host};
@@ -50,7 +51,7 @@ impl Model for Machine {
 
 /// What a step leads to.
 #[derive(Clone, Copy)]
-pub enum Next {
+pub enum StepOutcome {
     Goes,
     /// The last script is over.
     Ends,
@@ -161,28 +162,28 @@ impl Machine {
 
     /// The running script is over: the newest of those that wait goes on.
     #[tactic(auto, using(crate::proofs::Frames::pushed_last))]
-    fn end_script(&mut self) -> Next
+    fn end_script(&mut self) -> StepOutcome
         ensures next { (w : WorldView SavedView) → over self.old.waiting (state self.old w)
             ≡ next_of result (state self.new w) }
     {
         match self.waiting.pop() {
-            None => Next::Ends,
+            None => StepOutcome::Ends,
             Some(frame) => {
                 drop(mem::replace(&mut self.running, frame));
-                Next::Goes
+                StepOutcome::Goes
             }
         }
     }
 
     /// RETN.
     #[tactic(auto, using(crate::proofs::Frames::return_lemmas))]
-    pub(crate) fn give_back(&mut self) -> Next
+    pub(crate) fn give_back(&mut self) -> StepOutcome
         ensures next { (h : Host (WorldView SavedView)) (w : WorldView SavedView) →
             followed h (state self.old w) (returned self.old.running.calls self.old.running)
             ≡ next_of result (state self.new w) }
     {
         if self.running.give_back() {
-            Next::Goes
+            StepOutcome::Goes
         } else {
             self.end_script()
         }
@@ -212,8 +213,8 @@ impl Machine {
         requires few { length scripts.now < 2 ^ 32 }
         ensures room { world.old.room ≤ world.new.room }
         ensures kept { OnErr result (world.new.world ≡ world.old.world) }
-        ensures begun { (e : EngineView) → OnOk result
-            (begun (host (scripts_of scripts.now) e)
+        ensures script_begun { (e : EngineView) → OnOk result
+            (script_begun (host (scripts_of scripts.now) e)
             (script_named (scripts_of scripts.now) name.now) name.now target
             self.old.running (state self.old world.old.world)
             ≡ state self.new world.new.world) }

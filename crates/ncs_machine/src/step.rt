@@ -13,7 +13,7 @@ ghost use Rattle.ncs_machine.specs.Host.{engine_view, host, scripts_of};
 ghost use Rattle.ncs_machine.specs.Steps.{GoesWell, IsHalfway, Stays, next_of, state, world_behind};
 ghost use Rattle.world_core.specs.Calls.{AreServing, IsEarly};
 
-use crate::machine::{Machine, Next};
+use crate::machine::{Machine, StepOutcome};
 use crate::scripts::Scripts;
 use decoded_code::Step;
 use hook_table::Hooks;
@@ -35,7 +35,7 @@ impl Machine {
         hooks: &Hooks,
         table: &Table,
         decoded: &Step,
-    ) -> Result<Next, NoMemory>
+    ) -> Result<StepOutcome, NoMemory>
         requires few { length scripts.now < 2 ^ 32 }
         requires early { IsEarly world.old.world }
         requires caller { self.old.running.self ≤ count world.old.world }
@@ -62,30 +62,30 @@ impl Machine {
             Step::Action { routine, count } => {
                 let size = decoded.size();
                 self.call_engine(alloc, scripts, world, hooks, table, *routine, *count, size)?;
-                Ok(Next::Goes)
+                Ok(StepOutcome::Goes)
             }
             Step::Jsr { offset } => {
                 self.running.call(*offset, decoded.size())?;
-                Ok(Next::Goes)
+                Ok(StepOutcome::Goes)
             }
             Step::Retn => Ok(self.give_back()),
             Step::SaveBp => {
                 self.running.save_bp(decoded.size())?;
-                Ok(Next::Goes)
+                Ok(StepOutcome::Goes)
             }
             Step::RestoreBp => {
                 self.running.restore_bp(decoded.size());
-                Ok(Next::Goes)
+                Ok(StepOutcome::Goes)
             }
             Step::StoreState { globals, locals } => {
                 self.running.store(*globals, *locals, decoded.size())?;
-                Ok(Next::Goes)
+                Ok(StepOutcome::Goes)
             }
             _ => {
                 if self.running.moves(alloc, decoded)? {
-                    Ok(Next::Goes)
+                    Ok(StepOutcome::Goes)
                 } else {
-                    Ok(Next::Divides)
+                    Ok(StepOutcome::Divides)
                 }
             }
         }
@@ -101,7 +101,7 @@ impl Machine {
         world: &mut World<Saved>,
         hooks: &Hooks,
         table: &Table,
-    ) -> Result<Next, NoMemory>
+    ) -> Result<StepOutcome, NoMemory>
         requires few { length scripts.now < 2 ^ 32 }
         requires early { IsEarly world.old.world }
         requires caller { self.old.running.self ≤ count world.old.world }

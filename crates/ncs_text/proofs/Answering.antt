@@ -6,7 +6,7 @@ use Rattle.ncs_code.specs.Laws.{SpellingLaws, SizeLaws, PlaceLaws}
 use Rattle.ncs_text.specs.declared.fault.AsmFault.{AsmFault}
 use Rattle.ncs_text.specs.declared.fault.AsmFault.TheVariants.{Line, Large, Target, NoMemory}
 use Rattle.nwq_text.specs.Lines.{lines_of}
-use Rattle.ncs_text.specs.Assembly.{Writes, Assembles, remark, instruction, IsAssembled, StopsAt, IsLarge, LeadsAstray, IsFirstAstray, Answers, IsRemark}
+use Rattle.ncs_text.specs.Assembly.{Writes, Assembles, remark, instruction, IsAssembled, AssemblyStopsAt, IsLarge, LeadsAstray, IsFirstAstray, Answers, IsRemark}
 use Rattle.ncs_text.proofs.Ops.{HasOpcode}
 use Rattle.ncs_text.proofs.Passing.{assembles_add}
 use Rattle.ncs_text.proofs.Single.{one_assembly, split_assembly}
@@ -47,15 +47,15 @@ stuck at line lines ops speaks empty (remark n l ls os is on) = speaks is
 stuck at line lines ops speaks empty (instruction n l op ls os w on) = empty op w
 
 module _ (spells : SpellingLaws) (sizes : SizeLaws) (places : PlaceLaws) (known : HasOpcode) where
-  no_further : (n : ℕ) (text : List ℕ) (s : StopsAt n text) (more : List (List ℕ)) (ops : List PlainOp) → Assembles header_size (s.before ++ s.line ∷ more) ops → ⊥
+  no_further : (n : ℕ) (text : List ℕ) (s : AssemblyStopsAt n text) (more : List (List ℕ)) (ops : List PlainOp) → Assembles header_size (s.before ++ s.line ∷ more) ops → ⊥
   no_further n text s more ops h =
       let split = split_assembly spells known header_size s.before (s.line ∷ more) s.ops ops s.first h
       in stuck (file_length s.ops) s.line more split.others s.speaks s.none split.rest
 
-  no_whole : (n : ℕ) (text : List ℕ) → StopsAt n text → (ops : List PlainOp) → Assembles header_size (lines_of text) ops → ⊥
+  no_whole : (n : ℕ) (text : List ℕ) → AssemblyStopsAt n text → (ops : List PlainOp) → Assembles header_size (lines_of text) ops → ⊥
   no_whole n text s ops h = no_further n text s s.behind ops (subst (λ ls. Assembles header_size ls ops) s.lines h)
 
-  one_stop : (n m : ℕ) (text : List ℕ) → StopsAt n text → StopsAt m text → n ≡ m
+  one_stop : (n m : ℕ) (text : List ℕ) → AssemblyStopsAt n text → AssemblyStopsAt m text → n ≡ m
   one_stop n m text s t =
       elim (order s.before t.before s.behind t.behind s.line t.line (sym s.lines ∙ t.lines)) [
         | level same ↦ omega (arith, same, s.number, t.number)

@@ -7,7 +7,7 @@ use Rattle.ncs_code.specs.Spelling.{spelling, op_size}
 use Rattle.ncs_code.specs.File.{header_size, spellings, ops_size, file_length}
 use Rattle.ncs_code.specs.Laws.{SizeLaws}
 use Rattle.nwq_text.specs.Lines.{lines_of}
-use Rattle.ncs_text.specs.Assembly.{Writes, Assembles, IsRemark, none, remark, instruction, StopsAt}
+use Rattle.ncs_text.specs.Assembly.{Writes, Assembles, IsRemark, none, remark, instruction, AssemblyStopsAt}
 use Rattle.ncs_text.specs.Steps.{PutsLine, IsPassed, Passes}
 
 -- ---- the instructions of two parts
@@ -89,7 +89,7 @@ module _ (text : List ℕ) (read : ℕ) (left : List (List ℕ)) (stop : ℕ) (b
           few = omega (arith, so.few, small, ap length first);
         }
 
-    pub stops : (IsRemark line → ⊥) → ((op : PlainOp) → Writes size line op → ⊥) → StopsAt next text
+    pub stops : (IsRemark line → ⊥) → ((op : PlainOp) → Writes size line op → ⊥) → AssemblyStopsAt next text
     stops speaks empty = record {
       before = so.met;
       line = line;

@@ -84,7 +84,7 @@ no_fault spells rest [] each is some = absurd (omega (arith, ap length is, some)
 no_fault spells rest (op ∷ ops) each is some = ap fault_of is ∙ spells.sound op (spellings ops) each.0
 
 pub stops_nowhere : SpellingLaws → SizeLaws → (text body file : List ℕ) (size place : ℕ) (why : CodeFault) → IsWhole text body size → file ≡ magic ++ (four size ++ body)
-    → loading.StopsAt place why file → ⊥
+    → loading.LoadStopsAt place why file → ⊥
 stops_nowhere spells sizes text body file size place why w is stops =
     let same : spellings stops.ops ++ drop place file ≡ spellings w.ops = sym stops.before ∙ ap (drop 13) (file_is text body file size w is) ∙ drop_header w.ops
     in let l = left spells sizes stops.ops w.ops (drop place file) stops.each (each_is_op header_size (lines_of text) w.ops w.lines) same

@@ -21,7 +21,7 @@ use Rattle.ncs_code.specs.Laws.{SizeLaws}
 use Rattle.ncs_text.specs.declared.argument.Argument.{Argument}
 use Rattle.ncs_text.specs.declared.argument.Argument.TheVariants.{Signed, Byte, Short, Word, Place, Float, Text}
 use Rattle.nwq_text.specs.Cuts.{IsFree}
-use Rattle.ncs_text.specs.Arguments.{arguments, literal, offset_to, below, number_below, negative, signed_number, hex_bytes, place_of, argument_bytes, IsArgument, AreArguments}
+use Rattle.ncs_text.specs.Arguments.{arguments, literal, offset_to, below, number_below, negative, signed_number, hex_bytes, target_place, argument_bytes, IsArgument, AreArguments}
 use Rattle.ncs_text.specs.Assembly.{hex_pair, heading, Writes}
 use Rattle.ncs_text.specs.Listing.{number, signed_text, target, copied, literal_text, arguments_text}
 use Rattle.ncs_text.proofs.Naming.{IsPrinted, good, hex_read}
@@ -112,7 +112,7 @@ abbrev pub IsLed : ℕ → ℤ → Type 0
 IsLed at offset = (jump_place at offset < 4294967296) × (offset_to at (jump_place at offset) ≡ offset)
 
 place_argument : (at : ℕ) (offset : ℤ) → IsLed at offset → IsArgument at Place (64 ∷ decimal (jump_place at offset)) (signed offset)
-unfolding argument_bytes place_of
+unfolding argument_bytes target_place
 place_argument at offset led =
     ap (option_map (λ place. signed (offset_to at place))) (below_read 4294967296 (jump_place at offset) led.0 (omega arith)) ∙ ap (λ o. Some (signed o)) led.1
 

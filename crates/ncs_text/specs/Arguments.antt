@@ -82,9 +82,9 @@ unfoldable pub offset_to : ℕ → ℕ → ℤ
 offset_to at place = if nat_lt at reach && nat_lt place reach then distance at place else negsuc 2147483647
 
 -- `@` and the place that a jump leads to
-unfoldable pub place_of : List ℕ → Option ℕ
-place_of [] = None
-place_of (b ∷ bs) = if b == 64 then number_below 4294967296 bs else None
+unfoldable pub target_place : List ℕ → Option ℕ
+target_place [] = None
+target_place (b ∷ bs) = if b == 64 then number_below 4294967296 bs else None
 
 -- ---- arguments
 
@@ -98,7 +98,7 @@ argument_bytes at Signed text = option_map signed (signed_number text)
 argument_bytes at Byte text = option_map (λ n. n ∷ []) (number_below 256 text)
 argument_bytes at Short text = option_map two (number_below 65536 text)
 argument_bytes at Word text = option_map four (number_below 4294967296 text)
-argument_bytes at Place text = option_map (λ place. signed (offset_to at place)) (place_of text)
+argument_bytes at Place text = option_map (λ place. signed (offset_to at place)) (target_place text)
 argument_bytes at Float text = four_bytes text
 argument_bytes at Text text = None
 

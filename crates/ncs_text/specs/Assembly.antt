@@ -51,7 +51,7 @@ pub record IsAssembled (text file : List ℕ) : Type 0 where
 
 -- The n-th line is no line of an assembler text, and each before it is one: it is no remark, and
 -- stands for no instruction at its place.
-pub record StopsAt (n : ℕ) (text : List ℕ) : Type 0 where
+pub record AssemblyStopsAt (n : ℕ) (text : List ℕ) : Type 0 where
   pub before : List (List ℕ)
   pub line : List ℕ
   pub behind : List (List ℕ)
@@ -91,13 +91,13 @@ pub record LeadsAstray (n : ℕ) (text : List ℕ) : Type 0 where
   pub astray : IsFirstAstray (first ++ op ∷ others) (file_length first) op
 
 -- No two of these hold of the same text, but for the want of memory, which may come at any time.
-abbrev pub Fails : AsmFault → List ℕ → Type 0
-Fails (Line n) text = StopsAt n text
-Fails (Large size) text = IsLarge size text
-Fails (Target n) text = LeadsAstray n text
-Fails NoMemory text = Unit {0}
+abbrev pub AssemblyFails : AsmFault → List ℕ → Type 0
+AssemblyFails (Line n) text = AssemblyStopsAt n text
+AssemblyFails (Large size) text = IsLarge size text
+AssemblyFails (Target n) text = LeadsAstray n text
+AssemblyFails NoMemory text = Unit {0}
 
 -- the answer to a text
 abbrev pub Answers : List ℕ → Result (List ℕ) AsmFault → Type 0
 Answers text (Ok file) = IsAssembled text file
-Answers text (Err fault) = Fails fault text
+Answers text (Err fault) = AssemblyFails fault text

@@ -4,7 +4,7 @@ ghost use Rattle.std.specs.Prelude.{◌≡◌, ◌<◌, ◌≤◌, ◌^◌, ◌+
 ghost use Rattle.nwq_value.specs.Limits.{file_limit};
 ghost use Rattle.ncs_code.specs.File.{magic};
 ghost use Rattle.ncs_code.specs.Spelling.{four};
-ghost use Rattle.ncs_text.specs.Assembly.{Fails, IsAssembled};
+ghost use Rattle.ncs_text.specs.Assembly.{AssemblyFails, IsAssembled};
 ghost use Rattle.ncs_text.specs.Steps.{HasCode, IsPassed, IsWhole};
 
 use crate::fault::AsmFault;
@@ -40,7 +40,7 @@ fn read_lines(alloc: Global, text: &[u8], stop: u64) -> Result<Pass, AsmFault>
     requires { length text.now < 2 ^ 32 }
     ensures passed { IfOk result (λ p.
         IsPassed text.now stop p.body.items p.size p.number) }
-    ensures fault { IfErr result (λ fault. Fails fault text.now) }
+    ensures fault { IfErr result (λ fault. AssemblyFails fault text.now) }
 {
     size_laws();
     let mut body = Vec::new(alloc);
@@ -77,7 +77,7 @@ fn test_targets(alloc: Global, text: &[u8], body: &[u8], size: u64) -> Result<()
     requires short { length text.now < 2 ^ 32 }
     requires whole { IsWhole text.now body.now size }
     ensures code { IfOk result (λ _. HasCode text.now body.now size) }
-    ensures fault { IfErr result (λ fault. Fails fault text.now) }
+    ensures fault { IfErr result (λ fault. AssemblyFails fault text.now) }
 {
     spelling_laws();
     size_laws();
@@ -101,7 +101,7 @@ fn test_targets(alloc: Global, text: &[u8], body: &[u8], size: u64) -> Result<()
 pub fn assemble(alloc: Global, text: &[u8]) -> Result<Vec<u8>, AsmFault>
     requires size { length text.now < 2 ^ 32 }
     ensures file { IfOk result (λ file. IsAssembled text.now file.items) }
-    ensures fault { IfErr result (λ fault. Fails fault text.now) }
+    ensures fault { IfErr result (λ fault. AssemblyFails fault text.now) }
 {
     let Pass { body, size, .. } = read_lines(alloc, text, u64::MAX)?;
     if size > FILE_BYTES as u64 {

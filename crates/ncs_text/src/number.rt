@@ -3,7 +3,7 @@
 ghost use Rattle.std.specs.Prelude.{◌≡◌, ◌<◌, ◌≤◌, IfSome};
 ghost use Rattle.nwq_text.specs.Unescape.{hex_value};
 ghost use Rattle.ncs_text.specs.Arguments.{four_bytes, hex_byte, negative, number_below};
-ghost use Rattle.ncs_text.specs.Arguments.{offset_to, place_of, signed_number};
+ghost use Rattle.ncs_text.specs.Arguments.{offset_to, target_place, signed_number};
 
 use nwq_text::read_number;
 
@@ -76,9 +76,9 @@ pub(crate) fn offset_to(at: u64, place: u32) -> i32
 }
 
 /// The place behind `@`.
-#[tactic(auto, unfolding(crate::specs::Arguments::place_of))]
+#[tactic(auto, unfolding(crate::specs::Arguments::target_place))]
 pub(crate) fn place_of(text: &[u8]) -> Option<u32>
-    ensures { result ≡ place_of text.now }
+    ensures { result ≡ target_place text.now }
 {
     match text {
         [b'@', digits @ ..] => match number_below(digits, 2 * REACH) {

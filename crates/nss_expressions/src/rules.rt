@@ -2,7 +2,7 @@
 
 ghost use Rattle.std.specs.Prelude.{◌≡◌};
 ghost use Rattle.typing_rules.specs.Types.{assigned_type, is_action, is_int, is_step, is_void};
-ghost use Rattle.typing_rules.specs.Rules.{place_of};
+ghost use Rattle.typing_rules.specs.Rules.{variable_place};
 
 use nss_tree::{AssignOperator, PrefixOperator};
 use nwq_value::Ty;
@@ -64,7 +64,7 @@ pub fn assigned_type(operator: AssignOperator, place: Ty, value: Ty) -> Option<T
 /// The place of a variable. Globals are local in the first value of a global, where they are still
 /// being made.
 pub fn place_of(at_file: bool, number: u32, is_local: bool) -> Place
-    ensures place { result ≡ place_of at_file number is_local }
+    ensures place { result ≡ variable_place at_file number is_local }
 {
     if at_file || is_local {
         Place::Local(number)

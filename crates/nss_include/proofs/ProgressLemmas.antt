@@ -28,7 +28,7 @@ use Rattle.nss_include.proofs.PieceLemmas.{reads, of_file}
 use Rattle.nss_include.proofs.UnitLemmas.{bytes_stay, all_map, all_push, distinct_more}
 use Rattle.nwq_outside.specs.declared.counts.FileCounts.{FileCounts}
 use Rattle.nss_include.specs.Gather.{HoldsFiles, Claims, CountsGathered}
-use Rattle.nss_include.specs.Progress.{Rest, closed, stops, goes, Ends, Leads, Stops, HasStep, Explains, ExplainsRead, IsReadFault, ReadFails, Includes, IsOpen, IsReady, IsOwnFault, Begins, ComesTo, Extends, RunSoFar, Advances, StopsBy, Halts, passed, reopened}
+use Rattle.nss_include.specs.Progress.{Rest, closed, stops, goes, Ends, Leads, Stops, HasStep, Explains, ExplainsRead, IsReadFault, ReadFails, Includes, IsOpen, IsOrderly, IsOwnFault, BeginsWithScript, ComesTo, Extends, RunSoFar, Advances, StopsBy, Halts, passed, reopened}
 
 -- an open file at a place
 abbrev pub file_at : ℕ → ℕ → Open
@@ -306,8 +306,8 @@ open_stays files more here h = record {
   place = subst (λ bytes. here.at ≤ length bytes) (sym (bytes_stay files more here.file h.file)) h.place;
 }
 
-pub ready-includes : (tells : Bool) (outside : Lookup) (old new : Gatherer) (here : Open) (name : List ℕ) (after : ℕ) → IsReady (reopened here old) → Includes tells outside old new here name after
-    → after ≤ length (bytes_of (slice_get old.unit.files here.file)) → old.count + 3 ≤ token_limit → is_among old.unit.files name ≡ false → IsReady new
+pub ready-includes : (tells : Bool) (outside : Lookup) (old new : Gatherer) (here : Open) (name : List ℕ) (after : ℕ) → IsOrderly (reopened here old) → Includes tells outside old new here name after
+    → after ≤ length (bytes_of (slice_get old.unit.files here.file)) → old.count + 3 ≤ token_limit → is_among old.unit.files name ≡ false → IsOrderly new
 ready-includes tells outside old new here name after ready i place room alone =
     let more = source name i.reads.opens.bytes ∷ []
     in let files : new.unit.files ≡ old.unit.files ++ more = ap (λ u. u.files) i.reads.opens.is
@@ -386,7 +386,7 @@ run-more tells outside first now popped new here so is on =
 -- ---- steps
 
 -- the end of a file
-pub advances-ends : (tells : Bool) (outside : Lookup) (old : Gatherer) (here : Open) → IsReady (reopened here old) → HasStep old here step.Ends
+pub advances-ends : (tells : Bool) (outside : Lookup) (old : Gatherer) (here : Open) → IsOrderly (reopened here old) → HasStep old here step.Ends
     → Advances tells outside (reopened here old) old
 advances-ends tells outside old here ready h = record {
   so = record {
@@ -400,7 +400,7 @@ advances-ends tells outside old here ready h = record {
 }
 
 -- a token
-pub advances-gives : (old new : Gatherer) (here : Open) (span : Span) → IsReady (reopened here old) → HasStep old here (step.Gives span)
+pub advances-gives : (old new : Gatherer) (here : Open) (span : Span) → IsOrderly (reopened here old) → HasStep old here (step.Gives span)
     → old.count < token_limit
     → new.unit ≡ record { files = old.unit.files; tokens = old.unit.tokens ++ lexeme_of old.unit.files span ∷ [] }
     → new.stack ≡ file_at here.file span.end ∷ old.stack → new.count ≡ old.count + 1 → (tells : Bool) (outside : Lookup)
@@ -437,7 +437,7 @@ advances-gives old new here span ready h room unit stack count tells outside =
 
 -- an include of a file that is in the unit
 pub advances-again : (tells : Bool) (outside : Lookup) (old new : Gatherer) (here : Open) (hash : ℕ) (name : List ℕ) (after : ℕ)
-    → IsReady (reopened here old) → HasStep old here (step.Mentions hash name after) → old.count + 3 ≤ token_limit
+    → IsOrderly (reopened here old) → HasStep old here (step.Mentions hash name after) → old.count + 3 ≤ token_limit
     → is_among old.unit.files (file_name name) ≡ true → new ≡ passed old here after → Advances tells outside (reopened here old) new
 advances-again tells outside old new here hash name after ready h room known is =
     let made : Advances tells outside (reopened here old) (passed old here after) = record {
@@ -464,7 +464,7 @@ holds-first lookup (f ∷ files) more h = (h.0, holds-first lookup files more h.
 
 -- an include of a file that is new to the unit
 pub advances-include : (tells : Bool) (outside : Lookup) (old new : Gatherer) (here : Open) (hash : ℕ) (name : List ℕ) (after : ℕ)
-    → IsReady (reopened here old) → HasStep old here (step.Mentions hash name after) → old.count + 3 ≤ token_limit → (given : List ℕ)
+    → IsOrderly (reopened here old) → HasStep old here (step.Mentions hash name after) → old.count + 3 ≤ token_limit → (given : List ℕ)
     → given ≡ file_name name → is_among old.unit.files given ≡ false → Includes tells outside old new here given after
     → Advances tells outside (reopened here old) new
 advances-include tells outside old new here hash name after ready h room given is alone i =
@@ -578,7 +578,7 @@ rest_one lookup number at files count tokens last total ending (goes h s f c inn
 
 -- what a reading from the beginning ends with is the unit of the script
 pub begins-unit : (one : OneFirst) (some : SomeSplit) (tells : Bool) (outside lookup : Lookup) (script : List ℕ) (r : Gatherer) (tokens : List Lexeme) (files : List Source)
-    (total : ℕ) (ending : Option GatherFault) → Begins tells outside r script → HoldsFiles lookup r.unit.files
+    (total : ℕ) (ending : Option GatherFault) → BeginsWithScript tells outside r script → HoldsFiles lookup r.unit.files
     → Ends lookup r tokens files total ending → IsUnit lookup script tokens files ending
 begins-unit one some tells outside lookup script r tokens files total ending b held e =
     let first : List Source = source (file_name script) b.bytes ∷ []
@@ -607,7 +607,7 @@ begins-fails lookup script (Tokens spot) cut e = absurd cut
 begins-fails lookup script (Include spot) cut e = absurd cut
 begins-fails lookup script NoMemory cut e = tt
 
-pub begins-stops : (one : OneFirst) (some : SomeSplit) (tells : Bool) (outside lookup : Lookup) (script : List ℕ) (r : Gatherer) (fault : GatherFault) → Begins tells outside r script
+pub begins-stops : (one : OneFirst) (some : SomeSplit) (tells : Bool) (outside lookup : Lookup) (script : List ℕ) (r : Gatherer) (fault : GatherFault) → BeginsWithScript tells outside r script
     → HoldsFiles lookup r.unit.files → Claims fault (ComesTo lookup r fault)
     → Claims fault ((tokens : List Lexeme) × (files : List Source) × IsUnit lookup script tokens files (Some fault))
 begins-stops one some tells outside lookup script r fault b held claims =

@@ -10,7 +10,7 @@ use Rattle.nss_lexer.specs.Splitting.{Lexeme, IsFirstToken}
 use Rattle.nss_include.specs.Names.{is_include_name}
 use Rattle.nwq_value.specs.Limits.{text_limit}
 use Rattle.nss_include.specs.Pieces.{is_hash}
-use Rattle.nss_include.specs.Steps.{named_step, IsWithin, IsStep, Behind, GoesOn, lexeme_in, no_hash, no_include, include, other, sign, begins}
+use Rattle.nss_include.specs.Steps.{named_step, IsWithin, IsStep, Behind, DirectiveGoesOn, lexeme_in, no_hash, no_include, include, other, sign, begins}
 
 short : (name : List ℕ) → is_include_name name ≡ true → length name ≤ 16
 unfolding is_include_name
@@ -93,7 +93,7 @@ token_step bytes file at t first (no_include x stands h) =
 
 -- a token that begins one
 pub begins_step : (bytes : List ℕ) (file at end : ℕ) (t : Lexeme) (step : Step) → IsFirstToken bytes file at t → Behind bytes file t.text t.end (Some end)
-    → GoesOn bytes file t.start end step → IsStep bytes file at step
+    → DirectiveGoesOn bytes file t.start end step → IsStep bytes file at step
 begins_step bytes file at end t step first (include u hash stands word) goes = begins at t u goes.first step first hash stands word goes.stands goes.is
 
 pub token_within : (bytes : List ℕ) (file at : ℕ) (t : Lexeme) → IsFirstToken bytes file at t → IsWithin bytes file (Gives (span_of t))

@@ -1,7 +1,7 @@
 -- What the tokens of a file are read as: tokens of the unit, directives, and what is refused.
 use Rattle.std.specs.Prelude.{◌≡◌, ℕ, Bool, true, false, ◌&&◌, List, [], ◌∷◌, codes, bytes_eq, if◌then◌else◌, Option, Some, None}
-use Rattle.nss_lexer.specs.declared.token.Kind.{Kind}
-use Rattle.nss_lexer.specs.declared.token.Kind.TheVariants.{Name, Word, Int, Float, Text, Sign}
+use Rattle.nss_lexer.specs.declared.token.TokenKind.{TokenKind}
+use Rattle.nss_lexer.specs.declared.token.TokenKind.TheVariants.{Name, Word, Int, Float, Text, Sign}
 use Rattle.nss_lexer.specs.Splitting.{Lexeme, Splits}
 use Rattle.nss_lexer.specs.Strings.{string_value}
 use Rattle.nss_include.specs.Names.{is_include_name}
@@ -21,7 +21,7 @@ is_hash t = bytes_eq t.text (codes "#")
 abbrev pub is_include : Lexeme → Bool
 is_include t = bytes_eq t.text (codes "include")
 
-abbrev pub is_string : Kind → Bool
+abbrev pub is_string : TokenKind → Bool
 is_string Text = true
 is_string Name = false
 is_string Word = false

@@ -58,7 +58,7 @@ pub record IsOpen (files : List Source) (here : Open) : Type 0 where
 
 -- the open files are of the unit, each of its tokens was counted, and each file but the script was
 -- paid for by a directive; no two files have one name
-pub record IsReady (r : Gatherer) : Type 0 where
+pub record IsOrderly (r : Gatherer) : Type 0 where
   pub places : AllByRecursion (IsOpen r.unit.files) r.stack
   pub few : r.count ≤ token_limit
   pub counted : length r.unit.tokens ≤ r.count
@@ -152,7 +152,7 @@ pub record ComesTo (lookup : Lookup) (r : Gatherer) (fault : GatherFault) : Type
   pub ends : Ends lookup r tokens last total (Some fault)
 
 -- a reading that begins with the file of a script
-pub record Begins (tells : Bool) (outside : Lookup) (r : Gatherer) (script : List ℕ) : Type 0 where
+pub record BeginsWithScript (tells : Bool) (outside : Lookup) (r : Gatherer) (script : List ℕ) : Type 0 where
   pub bytes : List ℕ
   pub size : length bytes ≤ file_limit
   pub unit : r.unit ≡ record { files = source (file_name script) bytes ∷ []; tokens = [] }
@@ -162,7 +162,7 @@ pub record Begins (tells : Bool) (outside : Lookup) (r : Gatherer) (script : Lis
 
 -- what a reading has come to, where files are told or not
 pub record RunSoFar (tells : Bool) (outside : Lookup) (first now : Gatherer) : Type 0 where
-  pub ready : IsReady now
+  pub ready : IsOrderly now
   pub leads : (lookup : Lookup) → HoldsFiles lookup now.unit.files → Leads lookup first now
   pub keeps : (lookup : Lookup) → HoldsFiles lookup now.unit.files → HoldsFiles lookup first.unit.files
   pub holds : IsTrue tells → HoldsFiles outside first.unit.files → HoldsFiles outside now.unit.files

@@ -59,7 +59,7 @@ pub data Behind (bytes : List ℕ) (file : ℕ) (text : List ℕ) (end : ℕ) : 
       → Behind bytes file text end (Some u.end)
 
 -- a directive goes on so behind its `include`
-pub record GoesOn (bytes : List ℕ) (file hash at : ℕ) (step : Step) : Type 0 where
+pub record DirectiveGoesOn (bytes : List ℕ) (file hash at : ℕ) (step : Step) : Type 0 where
   pub first : First
   pub stands : IsFirst bytes file at first
   pub is : step ≡ directive_step hash first

@@ -9,7 +9,7 @@ ghost use Rattle.nss_include.specs.Units.{Lookup, IsUnit, HaveDistinctNames};
 ghost use Rattle.nss_include.specs.Gather.{CountsGathered, HoldsFiles, Claims, HasScript, Gathers};
 ghost use Rattle.nss_include.specs.View.{file_count_limit};
 ghost use Rattle.nss_include.specs.Progress.{Reads, ReadFails, Extends};
-ghost use Rattle.nss_include.specs.Progress.{IsOwnFault, Begins, ComesTo};
+ghost use Rattle.nss_include.specs.Progress.{IsOwnFault, BeginsWithScript, ComesTo};
 
 use crate::fault::GatherFault;
 use crate::opened::{Open, OpenFiles};
@@ -78,7 +78,7 @@ impl Gatherer {
     ghost use Rattle.nss_include.specs.Progress.{
       HasStep,
       Ends,
-      IsReady,
+      IsOrderly,
       Advances,
       StopsBy,
       Halts,
@@ -89,7 +89,7 @@ impl Gatherer {
 
     /// Goes on behind a token.
     fn give(&mut self, alloc: Global, here: Open, span: Span) -> Result<(), GatherFault>
-        requires ready { IsReady (reopened here self.old) }
+        requires ready { IsOrderly (reopened here self.old) }
         requires step { HasStep self.old here (step.Gives span) }
         ensures advances { OnOk result ((tells : Bool) (outside : Lookup)
             → Advances tells outside (reopened here self.old) self.new) }
@@ -130,7 +130,7 @@ impl Gatherer {
         name: &str,
         after: u32,
     ) -> Result<(), GatherFault>
-        requires ready { IsReady (reopened here self.old) }
+        requires ready { IsOrderly (reopened here self.old) }
         requires room { self.old.count + 3 ≤ token_limit }
         ensures includes { OnOk result (Includes F.tells
             (map.get (F.contents files.old)) self.old self.new here name.now after) }
@@ -159,7 +159,7 @@ impl Gatherer {
         name: &Text,
         after: u32,
     ) -> Result<(), GatherFault>
-        requires ready { IsReady (reopened here self.old) }
+        requires ready { IsOrderly (reopened here self.old) }
         requires step { HasStep self.old here (step.Mentions hash name.now after) }
         ensures advances { OnOk result (Advances F.tells
             (map.get (F.contents files.old)) (reopened here self.old) self.new) }
@@ -186,7 +186,7 @@ impl Gatherer {
     /// What the file goes on with here.
     #[tactic(auto, using(crate::proofs::ProgressLemmas::has_step))]
     fn step_at(&self, alloc: Global, here: Open) -> Result<Step, NoMemory>
-        requires { IsReady (reopened here self.now) }
+        requires { IsOrderly (reopened here self.now) }
         ensures { IfOk result (HasStep self.now here) }
     {
         let step = next_step(alloc, self.unit.file_bytes(here.file), here.file, here.at)?;
@@ -200,7 +200,7 @@ impl Gatherer {
         files: &mut F,
         here: Open,
     ) -> Result<(), GatherFault>
-        requires { IsReady (reopened here self.old) }
+        requires { IsOrderly (reopened here self.old) }
         ensures advances { OnOk result (Advances F.tells
             (map.get (F.contents files.old)) (reopened here self.old) self.new) }
         ensures halts { IfErr result (Halts F.tells
@@ -229,7 +229,7 @@ impl Gatherer {
 
     /// Reads all open files to their ends.
     fn run<F: Files>(&mut self, alloc: Global, files: &mut F) -> Result<(), GatherFault>
-        requires { IsReady self.old }
+        requires { IsOrderly self.old }
         ensures whole { OnOk result ((lookup : Lookup)
             → HoldsFiles lookup self.new.unit.files
             → Ends lookup self.old self.new.unit.tokens self.new.unit.files self.new.count None) }
@@ -258,7 +258,7 @@ impl Gatherer {
 
 /// Begins to gather the unit of a script with its file.
 fn begin<F: Files>(alloc: Global, files: &mut F, script: &str) -> Result<Gatherer, GatherFault>
-    ensures begins { IfOk result (λ gatherer. Begins F.tells
+    ensures begins { IfOk result (λ gatherer. BeginsWithScript F.tells
         (map.get (F.contents files.old)) gatherer script.now) }
     ensures fails { IfErr result (ReadFails F.tells
         (map.get (F.contents files.old)) (file_name script.now)) }

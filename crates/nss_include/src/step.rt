@@ -4,9 +4,9 @@ ghost use Rattle.nwq_value.specs.Limits.{file_limit};
 ghost use Rattle.nss_lexer.specs.Bytes.{is_name_byte};
 ghost use Rattle.nss_lexer.specs.Strings.{IsString};
 ghost use Rattle.nss_include.specs.Names.{is_include_name};
-ghost use Rattle.nss_include.specs.Steps.{IsStep, IsWithin, Behind, GoesOn, named_step};
+ghost use Rattle.nss_include.specs.Steps.{IsStep, IsWithin, Behind, DirectiveGoesOn, named_step};
 
-use nss_lexer::{Kind, Lexed, literal, next};
+use nss_lexer::{Lexed, TokenKind, literal, next};
 use nwq_value::{NoMemory, Text};
 use std::alloc::Global;
 
@@ -16,7 +16,7 @@ const NAME_BYTES: usize = 16;
 /// Where a token of a unit stands.
 #[derive(Clone, Copy)]
 pub struct Span {
-    pub kind: Kind,
+    pub kind: TokenKind,
     pub file: u16,
     pub start: u32,
     pub end: u32,
@@ -103,14 +103,14 @@ fn behind_include(
     requires size { length bytes.now ≤ file_limit }
     requires place { at ≤ length bytes.now }
     requires before { hash ≤ length bytes.now }
-    ensures step { IfOk result (λ step. GoesOn bytes.now file hash at step) }
+    ensures step { IfOk result (λ step. DirectiveGoesOn bytes.now file hash at step) }
     ensures within { IfOk result (λ step. IsWithin bytes.now file step) }
 {
     match next(bytes, file, at) {
         Lexed::End => Ok(Step::Misses(hash)),
         Lexed::Bad(place) => Ok(Step::Breaks(place)),
         Lexed::Token(token) => match token.kind {
-            Kind::Text => {
+            TokenKind::Text => {
                 let step = named(alloc, token.text, hash, token.end)?;
                 Ok(step)
             }

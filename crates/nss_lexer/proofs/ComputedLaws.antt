@@ -6,7 +6,7 @@ use Rattle.std.proofs.lemmas.Grind.{common_steps}
 use Rattle.nss_lexer.specs.declared.scan.Scanned.{Scanned}
 use Rattle.nss_lexer.specs.Computed.{lexeme_of, tokens_by, tokens_after, tokens_in, ComputedAreTokens}
 use Rattle.nss_lexer.specs.Reading.{pass, lexeme}
-use Rattle.nss_lexer.specs.Splitting.{Lexeme, Begins, IsFirstToken, Skips, Gap, Splits, begins_comment, nothing, more as more_gap, whole, broken, token}
+use Rattle.nss_lexer.specs.Splitting.{Lexeme, BeginsWithToken, IsFirstToken, Skips, Gap, Splits, begins_comment, nothing, more as more_gap, whole, broken, token}
 use Rattle.nss_lexer.proofs.FirstLaws.{lexeme_begins}
 use Rattle.nss_lexer.proofs.FoundLaws.{length_taken}
 use Rattle.nss_lexer.proofs.GapLaws.{pass_skips}
@@ -35,7 +35,7 @@ first_token all at bytes f is plain found =
     record {
       from = omega arith;
       gap = nothing (drop at all);
-      begins = subst (λ (z : List ℕ). Begins z f.kind (take f.length bytes)) is begins.2;
+      begins = subst (λ (z : List ℕ). BeginsWithToken z f.kind (take f.length bytes)) is begins.2;
       last = omega (arith, size);
       some = omega (arith, begins.0);
       within = grind (arith, common_steps, inside, begins.0);

@@ -2,7 +2,7 @@
 -- grammar has, these are examples of the grammar.
 use Rattle.std.specs.Prelude.{Some, None, codes}
 use Rattle.std.proofs.Common.{◌≡◌, [], ◌∷◌, refl}
-use Rattle.nss_lexer.specs.declared.token.Kind.TheVariants.{Name, Word, Int, Float, Sign}
+use Rattle.nss_lexer.specs.declared.token.TokenKind.TheVariants.{Name, Word, Int, Float, Sign}
 use Rattle.nss_lexer.specs.Reading.{scanned, form, lexeme, pass}
 use Rattle.nss_lexer.specs.Lexemes.{is_word}
 use Rattle.nss_lexer.specs.Strings.{string_value}

@@ -5,12 +5,12 @@ use Rattle.std.specs.List.{list_all}
 use Rattle.std.proofs.Common.{◌≡◌, ℕ, zero, suc, ◌+◌, ◌^◌, ◌<◌, ◌≤◌, Bool, true, false, List, [], ◌∷◌, ◌++◌, length, take, drop, refl, ap, sym, ◌∙◌, subst, arith, inl, inr, ◌⊎◌, ⊎_elim}
 use Rattle.std.proofs.lemmas.List.{take-append-drop, length-drop, drop-drop}
 use Rattle.std.proofs.lemmas.Bool.{cases_Bool, and_cases, or_parts, false≢true, cond-true, cond-false, leb-true, le-leb, ltb-true, lt-ltb, not-true}
-use Rattle.nss_lexer.specs.declared.token.Kind.{Kind}
-use Rattle.nss_lexer.specs.declared.token.Kind.TheVariants.{Name, Word, Int, Float, Text, Sign}
+use Rattle.nss_lexer.specs.declared.token.TokenKind.{TokenKind}
+use Rattle.nss_lexer.specs.declared.token.TokenKind.TheVariants.{Name, Word, Int, Float, Text, Sign}
 use Rattle.nss_lexer.specs.declared.scan.Scanned.{Scanned}
 use Rattle.nss_lexer.specs.Bytes.{is_blank, is_letter, is_decimal}
 use Rattle.nss_lexer.specs.Lexemes.{HasForm, IsWithin, signs}
-use Rattle.nss_lexer.specs.Splitting.{Skips, Gap, nothing, more, begins_comment, Begins, IsStuck, Lexeme, Found, AtEnd, BadAt, IsFirstToken, IsFirstBad, Splits, whole, broken, token, OneFirst, OneSplit}
+use Rattle.nss_lexer.specs.Splitting.{Skips, Gap, nothing, more, begins_comment, BeginsWithToken, IsStuck, Lexeme, Found, AtEnd, BadAt, IsFirstToken, IsFirstBad, Splits, whole, broken, token, OneFirst, OneSplit}
 use Rattle.nss_lexer.specs.Reading.{scanned, limited, within, form, lexeme, comment, pass, first_prefix}
 use Rattle.nss_lexer.proofs.FormLaws.{AtLeast, reads, any_passes, form_sign}
 use Rattle.nss_lexer.proofs.FoundLaws.{IsFound, IsFoundIf, form_found, length_taken, first_found, signs_some}
@@ -22,14 +22,14 @@ none_some x e = cc
 some_same : {A : Type 0} (x y : A) → Some x ≡ Some y → y ≡ x
 some_same x y e = cc
 
-same_scanned : (kind other : Kind) (m n : ℕ) → Some (scanned kind m) ≡ Some (scanned other n) → (kind ≡ other) × (m ≡ n)
+same_scanned : (kind other : TokenKind) (m n : ℕ) → Some (scanned kind m) ≡ Some (scanned other n) → (kind ≡ other) × (m ≡ n)
 same_scanned kind other m n e =
     let scans : scanned other n ≡ scanned kind m = some_same (scanned kind m) (scanned other n) e in
     (sym (ap (λ (f : Scanned). f.kind) scans), sym (ap (λ (f : Scanned). f.length) scans))
 
 -- ---- the limits
 
-limited_within : (kind : Kind) (text : List ℕ) (n : ℕ) → length text ≡ n → IsWithin kind text → limited kind n ≡ Some (scanned kind n)
+limited_within : (kind : TokenKind) (text : List ℕ) (n : ℕ) → length text ≡ n → IsWithin kind text → limited kind n ≡ Some (scanned kind n)
 limited_within Name text n size h = cond-true (nat_le n 255) _ _ (le-leb n 255 (omega (arith, size, h)))
 limited_within (Int v) text n size h = ap (option_map (λ w. scanned (Int w) n)) (cond-true (nat_lt v (2 ^ 32)) (Some v) None (lt-ltb v (2 ^ 32) h))
 limited_within Word text n size h = refl
@@ -37,11 +37,11 @@ limited_within Float text n size h = refl
 limited_within Text text n size h = refl
 limited_within Sign text n size h = refl
 
-record Limits (kind : Kind) (text : List ℕ) (n : ℕ) (f : Scanned) : Type 0 where
+record Limits (kind : TokenKind) (text : List ℕ) (n : ℕ) (f : Scanned) : Type 0 where
   pub is : f ≡ scanned kind n
   pub fits : IsWithin kind text
 
-within_limited : (kind : Kind) (text : List ℕ) (n : ℕ) (f : Scanned) → length text ≡ n → limited kind n ≡ Some f → Limits kind text n f
+within_limited : (kind : TokenKind) (text : List ℕ) (n : ℕ) (f : Scanned) → length text ≡ n → limited kind n ≡ Some f → Limits kind text n f
 within_limited Name text n f size h =
     ⊎_elim
     (λ fits. record {
@@ -65,13 +65,13 @@ within_limited Sign text n f size h = record { is = some_same (scanned Sign n) f
 
 -- ---- the token that begins the bytes
 
-reads_prefix : (bytes : List ℕ) (kind : Kind) (k : ℕ) → k ≤ length bytes → HasForm kind (take k bytes) → AtLeast kind k (form bytes)
+reads_prefix : (bytes : List ℕ) (kind : TokenKind) (k : ℕ) → k ≤ length bytes → HasForm kind (take k bytes) → AtLeast kind k (form bytes)
 reads_prefix bytes kind k fits h =
     subst (λ m. AtLeast kind m (form bytes)) (length_taken k bytes fits)
     (subst (λ t. AtLeast kind (length (take k bytes)) (form t)) (take-append-drop k bytes) (reads kind (take k bytes) (drop k bytes) h))
 
 abbrev pub BeginsAs : List ℕ → Scanned → Type 0
-BeginsAs bytes f = (0 < f.length) × (f.length ≤ length bytes) × Begins bytes f.kind (take f.length bytes)
+BeginsAs bytes f = (0 < f.length) × (f.length ≤ length bytes) × BeginsWithToken bytes f.kind (take f.length bytes)
 
 begins_at : (bytes : List ℕ) (g f : Scanned) → begins_comment bytes ≡ false → form bytes ≡ Some g → limited g.kind g.length ≡ Some f
     → BeginsAs bytes f
@@ -99,7 +99,7 @@ begins_from bytes f (Some g) plain is h = begins_at bytes g f plain is h
 pub lexeme_begins : (bytes : List ℕ) (f : Scanned) → begins_comment bytes ≡ false → lexeme bytes ≡ Some f → BeginsAs bytes f
 lexeme_begins bytes f plain h = begins_from bytes f (form bytes) plain refl h
 
-lexeme_at : (bytes : List ℕ) (kind : Kind) (text : List ℕ) (o : Option Scanned) → Begins bytes kind text → form bytes ≡ o → AtLeast kind (length text) o
+lexeme_at : (bytes : List ℕ) (kind : TokenKind) (text : List ℕ) (o : Option Scanned) → BeginsWithToken bytes kind text → form bytes ≡ o → AtLeast kind (length text) o
     → option_and_then within o ≡ Some (scanned kind (length text))
 lexeme_at bytes kind text None b is least = absurd least
 lexeme_at bytes kind text (Some g) b is least =
@@ -110,7 +110,7 @@ lexeme_at bytes kind text (Some g) b is least =
     let at : limited kind (length text) ≡ Some (scanned kind (length text)) = limited_within kind text (length text) refl b.lexeme.1 in
     ap (λ k. limited k g.length) (sym kinds) ∙ ap (limited kind) (sym same) ∙ at
 
-pub begins_lexeme : (bytes : List ℕ) (kind : Kind) (text : List ℕ) → Begins bytes kind text → lexeme bytes ≡ Some (scanned kind (length text))
+pub begins_lexeme : (bytes : List ℕ) (kind : TokenKind) (text : List ℕ) → BeginsWithToken bytes kind text → lexeme bytes ≡ Some (scanned kind (length text))
 begins_lexeme bytes kind text b =
     let whole : text ++ drop (length text) bytes ≡ bytes =
     ap (λ t. t ++ drop (length text) bytes) b.prefix ∙ take-append-drop (length text) bytes in
@@ -185,7 +185,7 @@ blank_form b bytes h =
     form_sign (b ∷ bytes) (blank_no_letter b h) (blank_no_decimal b h) (ap (λ x. x && is_decimal (slice_index bytes 0)) (blank_no_point b h)) (blank_no_quote b h)
     ∙ ap (option_map (scanned Sign)) (blank_sign b bytes (first_prefix signs (b ∷ bytes)) h refl)
 
-pub begins_pass : (bytes : List ℕ) (kind : Kind) (text : List ℕ) → Begins bytes kind text → pass bytes ≡ None
+pub begins_pass : (bytes : List ℕ) (kind : TokenKind) (text : List ℕ) → BeginsWithToken bytes kind text → pass bytes ≡ None
 unfolding pass
 begins_pass [] kind text b = refl
 begins_pass (c ∷ bytes) kind text b =
@@ -239,10 +239,10 @@ same_place bytes p q hp hq e =
     let lengths : length (drop p bytes) ≡ length (drop q bytes) = ap length e in
     omega (arith, lengths, length-drop p bytes, length-drop q bytes)
 
-abbrev made : Kind → List ℕ → ℕ → ℕ → ℕ → Lexeme
+abbrev made : TokenKind → List ℕ → ℕ → ℕ → ℕ → Lexeme
 made kind text file start end = record { kind = kind; text = text; file = file; start = start; end = end }
 
-same_lexeme : (k l : Kind) (x y : List ℕ) (f g s t d e : ℕ) → k ≡ l → x ≡ y → f ≡ g → s ≡ t → d ≡ e → made k x f s d ≡ made l y g t e
+same_lexeme : (k l : TokenKind) (x y : List ℕ) (f g s t d e : ℕ) → k ≡ l → x ≡ y → f ≡ g → s ≡ t → d ≡ e → made k x f s d ≡ made l y g t e
 same_lexeme k l x y f g s t d e kinds texts files starts ends =
     ap (λ a. made a x f s d) kinds ∙ ap (λ a. made l a f s d) texts ∙ ap (λ a. made l y a s d) files
     ∙ ap (λ a. made l y g a d) starts ∙ ap (λ a. made l y g t a) ends
@@ -263,18 +263,18 @@ lexeme_nil : lexeme [] ≡ None
 unfolding form
 lexeme_nil = refl
 
-nothing_begins : (kind : Kind) (text : List ℕ) → Begins [] kind text → ⊥
+nothing_begins : (kind : TokenKind) (text : List ℕ) → BeginsWithToken [] kind text → ⊥
 nothing_begins kind text b = none_some (scanned kind (length text)) (sym lexeme_nil ∙ begins_lexeme [] kind text b)
 
 no_end : (bytes : List ℕ) (file at : ℕ) (t : Lexeme) → IsFirstToken bytes file at t → Gap (drop at bytes) [] → ⊥
 no_end bytes file at t h k =
     let rests : drop t.start bytes ≡ [] = one_stop bytes at _ [] (token_stop bytes file at t h) (end_stop bytes at k) in
-    nothing_begins t.kind t.text (subst (λ r. Begins r t.kind t.text) rests h.begins)
+    nothing_begins t.kind t.text (subst (λ r. BeginsWithToken r t.kind t.text) rests h.begins)
 
 no_bad : (bytes : List ℕ) (file at place : ℕ) (t : Lexeme) → IsFirstToken bytes file at t → IsFirstBad bytes at place → ⊥
 no_bad bytes file at place t h k =
     let rests : drop t.start bytes ≡ drop place bytes = one_stop bytes at _ _ (token_stop bytes file at t h) (bad_stop bytes at place k) in
-    k.stuck.no_token t.kind t.text (subst (λ r. Begins r t.kind t.text) rests h.begins)
+    k.stuck.no_token t.kind t.text (subst (λ r. BeginsWithToken r t.kind t.text) rests h.begins)
 
 no_bad_end : (bytes : List ℕ) (at place : ℕ) → IsFirstBad bytes at place → Gap (drop at bytes) [] → ⊥
 no_bad_end bytes at place h k = h.stuck.some (one_stop bytes at _ [] (bad_stop bytes at place h) (end_stop bytes at k))
@@ -336,6 +336,6 @@ pub comment_stuck : (bytes : List ℕ) → 0 < length bytes → pass bytes ≡ N
 comment_stuck bytes some stops is = stuck_from bytes some stops (inl is)
 
 pub lexeme_found : (bytes : List ℕ) (o : Option Scanned) → 0 < length bytes → pass bytes ≡ None → begins_comment bytes ≡ false → o ≡ lexeme bytes
-    → MatchOption o (IsStuck bytes) (λ f. (0 < f.length) × (f.length ≤ length bytes) × Begins bytes f.kind (take f.length bytes))
+    → MatchOption o (IsStuck bytes) (λ f. (0 < f.length) × (f.length ≤ length bytes) × BeginsWithToken bytes f.kind (take f.length bytes))
 lexeme_found bytes None some stops plain is = stuck_from bytes some stops (inr (sym is))
 lexeme_found bytes (Some f) some stops plain is = lexeme_begins bytes f plain (sym is)

@@ -10,13 +10,13 @@ use Rattle.std.proofs.lemmas.Slice.Eq.{bytes_eq-Decides}
 use Rattle.std.proofs.Math.Numerals.{one-add}
 use Rattle.std.proofs.lemmas.Bool.{cases_Bool, and_parts, and_from, and_left, and_right, or_cases, or_left, false≢true, cond_both, eqb-true, eq-eqb, leb-true, not-true, not_from_true, cond-true, cond-false, lt-ltb}
 use Rattle.nss_lexer.specs.declared.bytes.Class.TheVariants.{Name as InName, Decimal, Hexadecimal}
-use Rattle.nss_lexer.specs.declared.token.Kind.{Kind}
-use Rattle.nss_lexer.specs.declared.token.Kind.TheVariants.{Name, Word, Int, Float, Text, Sign}
+use Rattle.nss_lexer.specs.declared.token.TokenKind.{TokenKind}
+use Rattle.nss_lexer.specs.declared.token.TokenKind.TheVariants.{Name, Word, Int, Float, Text, Sign}
 use Rattle.nss_lexer.specs.declared.scan.Scanned.{Scanned}
 use Rattle.nss_lexer.specs.Bytes.{is_letter, is_decimal, is_hexadecimal, is_name_byte}
 use Rattle.nss_lexer.specs.Lexemes.{IsIdentifier, IsInt, decimal, hexadecimal, IsSuffix, none, suffix, IsFloat, pointed, fraction, marked, HasForm, is_word, is_sign, words, signs}
 use Rattle.nss_lexer.specs.Strings.{StandsFor, quoted}
-use Rattle.nss_lexer.specs.Reading.{is_in, run, scanned, name_form, fraction_length, float_form, decimal_form, begins_hexadecimal, hexadecimal_form, number_form, string_form, is_prefix, first_prefix, sign_form, form}
+use Rattle.nss_lexer.specs.Reading.{is_in, class_run, scanned, name_form, fraction_length, float_form, decimal_form, begins_hexadecimal, hexadecimal_form, number_form, string_form, is_prefix, first_prefix, sign_form, form}
 use Rattle.nss_lexer.proofs.StringLaws.{inside_read}
 
 -- ---- the cases of reading
@@ -77,20 +77,20 @@ digit_is_no_letter b h = grind arith
 -- ---- names and words
 
 -- The bytes are read as at least so many, and where these are all, as of this kind.
-abbrev pub AtLeast : Kind → ℕ → Option Scanned → Type 0
+abbrev pub AtLeast : TokenKind → ℕ → Option Scanned → Type 0
 AtLeast kind m None = ⊥
 AtLeast kind m (Some f) = (m ≤ f.length) × (m ≡ f.length → kind ≡ f.kind)
 
-abbrev kind_of_name : List ℕ → Kind
+abbrev kind_of_name : List ℕ → TokenKind
 kind_of_name text = if is_word text then Word else Name
 
-name_reads : (kind : Kind) (text more : List ℕ) → IsIdentifier text → kind ≡ kind_of_name text → AtLeast kind (length text) (form (text ++ more))
+name_reads : (kind : TokenKind) (text more : List ℕ) → IsIdentifier text → kind ≡ kind_of_name text → AtLeast kind (length text) (form (text ++ more))
 name_reads kind [] more h is = absurd h
 name_reads kind (b ∷ bytes) more h is =
     let all : AllByRecursion (λ c. is_in InName c ≡ true) (b ∷ bytes) = (or_left (is_letter b) (is_decimal b) h.0, h.1) in
     subst (AtLeast kind (length (b ∷ bytes))) (sym (form_letter (b ∷ (bytes ++ more)) h.0)) (
       run_least (is_in InName) (b ∷ bytes) more all,
-      λ same. is ∙ ap kind_of_name (sym (take_run (b ∷ bytes) more (run InName (b ∷ (bytes ++ more))) same)),
+      λ same. is ∙ ap kind_of_name (sym (take_run (b ∷ bytes) more (class_run InName (b ∷ (bytes ++ more))) same)),
     )
 
 -- ---- numbers
@@ -98,13 +98,13 @@ name_reads kind (b ∷ bytes) more h is =
 digit_is_no_x : (b : ℕ) → digit_value b < 10 → (b == 120 || b == 88) ≡ false
 digit_is_no_x b h = grind arith
 
-decimal_at : (bytes : List ℕ) (n : ℕ) → run Decimal bytes ≡ n → slice_index bytes n ≡ 46 → decimal_form bytes ≡ float_form bytes n
+decimal_at : (bytes : List ℕ) (n : ℕ) → class_run Decimal bytes ≡ n → slice_index bytes n ≡ 46 → decimal_form bytes ≡ float_form bytes n
 decimal_at bytes n count is_point = rw count (rw is_point refl)
 
-marked_at : (bytes : List ℕ) (n : ℕ) → run Decimal bytes ≡ n → slice_index bytes n ≡ 102 → decimal_form bytes ≡ scanned Float (n + 1)
+marked_at : (bytes : List ℕ) (n : ℕ) → class_run Decimal bytes ≡ n → slice_index bytes n ≡ 102 → decimal_form bytes ≡ scanned Float (n + 1)
 marked_at bytes n count is_mark = rw count (rw is_mark refl)
 
-marked_fraction : (bytes : List ℕ) (n : ℕ) → run Decimal bytes ≡ n → slice_index bytes n ≡ 102 → fraction_length bytes ≡ n + 1
+marked_fraction : (bytes : List ℕ) (n : ℕ) → class_run Decimal bytes ≡ n → slice_index bytes n ≡ 102 → fraction_length bytes ≡ n + 1
 marked_fraction bytes n count is_mark = rw count (rw is_mark refl)
 
 digit_second : (digits end more : List ℕ) → IsNumeral 10 digits → is_decimal (slice_index ((digits ++ end) ++ more) 0) ≡ true
@@ -132,7 +132,7 @@ point_form : (digits tail : List ℕ) → IsNumeral 10 digits → form (digits +
 point_form [] tail h = absurd (omega (arith, h.0))
 point_form (d ∷ ds) tail h =
     let w : List ℕ = d ∷ (ds ++ 46 ∷ tail) in
-    let count : run Decimal w ≡ length (d ∷ ds) = run_exact (is_in Decimal) (d ∷ ds) 46 tail (decimals_pass (d ∷ ds) h.1) refl in
+    let count : class_run Decimal w ≡ length (d ∷ ds) = run_exact (is_in Decimal) (d ∷ ds) 46 tail (decimals_pass (d ∷ ds) h.1) refl in
     let is_point : slice_index w (length (d ∷ ds)) ≡ 46 = get_or_at (d ∷ ds) 46 tail 0 (length (d ∷ ds)) refl in
     let left : drop (length (d ∷ ds) + 1) w ≡ tail = drop-append-add (d ∷ ds) (46 ∷ tail) 1 in
     number_front d ds 46 tail h.1.0 h.1.1 refl
@@ -143,20 +143,20 @@ marked_form : (digits tail : List ℕ) → IsNumeral 10 digits → form (digits 
 marked_form [] tail h = absurd (omega (arith, h.0))
 marked_form (d ∷ ds) tail h =
     let w : List ℕ = d ∷ (ds ++ 102 ∷ tail) in
-    let count : run Decimal w ≡ length (d ∷ ds) = run_exact (is_in Decimal) (d ∷ ds) 102 tail (decimals_pass (d ∷ ds) h.1) refl in
+    let count : class_run Decimal w ≡ length (d ∷ ds) = run_exact (is_in Decimal) (d ∷ ds) 102 tail (decimals_pass (d ∷ ds) h.1) refl in
     let is_mark : slice_index w (length (d ∷ ds)) ≡ 102 = get_or_at (d ∷ ds) 102 tail 0 (length (d ∷ ds)) refl in
     number_front d ds 102 tail h.1.0 h.1.1 refl ∙ ap Some (marked_at w (length (d ∷ ds)) count is_mark)
 
-fraction_more : (bytes : List ℕ) → run Decimal bytes ≤ fraction_length bytes
+fraction_more : (bytes : List ℕ) → class_run Decimal bytes ≤ fraction_length bytes
 fraction_more bytes =
-    cond_both (slice_index bytes (run Decimal bytes) == 102) (run Decimal bytes + 1) (run Decimal bytes) (λ n. run Decimal bytes ≤ n)
+    cond_both (slice_index bytes (class_run Decimal bytes) == 102) (class_run Decimal bytes + 1) (class_run Decimal bytes) (λ n. class_run Decimal bytes ≤ n)
     (λ _. omega arith) (λ _. omega arith)
 
 fraction_least : (digits end more : List ℕ) → AllDigits 10 digits → IsSuffix end → length (digits ++ end) ≤ fraction_length ((digits ++ end) ++ more)
 fraction_least digits end more all none =
     rw (append-nil digits) (omega (arith, run_least (is_in Decimal) digits more (decimals_pass digits all), fraction_more (digits ++ more)))
 fraction_least digits end more all suffix =
-    let count : run Decimal (digits ++ 102 ∷ more) ≡ length digits = run_exact (is_in Decimal) digits 102 more (decimals_pass digits all) refl in
+    let count : class_run Decimal (digits ++ 102 ∷ more) ≡ length digits = run_exact (is_in Decimal) digits 102 more (decimals_pass digits all) refl in
     let is_mark : slice_index (digits ++ 102 ∷ more) (length digits) ≡ 102 = get_or_at digits 102 more 0 (length digits) refl in
     let whole : fraction_length (digits ++ 102 ∷ more) ≡ length digits + 1 = marked_fraction (digits ++ 102 ∷ more) (length digits) count is_mark in
     rw (append_assoc digits (102 ∷ []) more, whole, length-append digits (102 ∷ [])) (omega arith)
@@ -182,27 +182,27 @@ decimal_reads : (digits more : List ℕ) → IsNumeral 10 digits → AtLeast (In
 decimal_reads [] more h = absurd (omega (arith, h.0))
 decimal_reads (d ∷ ds) more h =
     let w : List ℕ = d ∷ (ds ++ more) in
-    let kind : Kind = Int (digits_value 10 (d ∷ ds)) in
+    let kind : TokenKind = Int (digits_value 10 (d ∷ ds)) in
     let m : ℕ = length (d ∷ ds) in
-    let least : m ≤ run Decimal w = run_least (is_in Decimal) (d ∷ ds) more (decimals_pass (d ∷ ds) h.1) in
+    let least : m ≤ class_run Decimal w = run_least (is_in Decimal) (d ∷ ds) more (decimals_pass (d ∷ ds) h.1) in
     let P : Scanned → Type 0 = λ f. AtLeast kind m (Some f) in
     subst (AtLeast kind m) (sym (form_digit w (digit_is_no_letter d h.1.0) (lt-ltb (digit_value d) 10 h.1.0)))
     (cond_both (begins_hexadecimal w) (hexadecimal_form w) (decimal_form w) P
     (λ hex. let one : length ds ≡ 0 = hexadecimal_no_decimal d ds more h.1.1 hex in
     (omega (arith, one), λ same. absurd (omega (arith, one, same))))
-    (λ _. cond_both (slice_index w (run Decimal w) == 46) (float_form w (run Decimal w)) _ P
+    (λ _. cond_both (slice_index w (class_run Decimal w) == 46) (float_form w (class_run Decimal w)) _ P
     (λ _. (omega (arith, least), λ same. absurd (omega (arith, least, same))))
-    (λ _. cond_both (slice_index w (run Decimal w) == 102) (scanned Float (run Decimal w + 1)) (scanned (Int (digits_value 10 (take (run Decimal w) w))) (run Decimal w)) P
+    (λ _. cond_both (slice_index w (class_run Decimal w) == 102) (scanned Float (class_run Decimal w + 1)) (scanned (Int (digits_value 10 (take (class_run Decimal w) w))) (class_run Decimal w)) P
     (λ _. (omega (arith, least), λ same. absurd (omega (arith, least, same))))
-    (λ _. (least, λ same. ap (λ t. Int (digits_value 10 t)) (sym (take_run (d ∷ ds) more (run Decimal w) same)))))))
+    (λ _. (least, λ same. ap (λ t. Int (digits_value 10 t)) (sym (take_run (d ∷ ds) more (class_run Decimal w) same)))))))
 
 hexadecimal_reads : (x : ℕ) (digits more : List ℕ) → (x == 120 || x == 88) ≡ true → IsNumeral 16 digits
     → AtLeast (Int (digits_value 16 digits)) (length (48 ∷ x ∷ digits)) (form (48 ∷ x ∷ (digits ++ more)))
 hexadecimal_reads x [] more is h = absurd (omega (arith, h.0))
 hexadecimal_reads x (d ∷ ds) more is h =
     let w : List ℕ = 48 ∷ x ∷ d ∷ (ds ++ more) in
-    let kind : Kind = Int (digits_value 16 (d ∷ ds)) in
-    let n : ℕ = run Hexadecimal (d ∷ (ds ++ more)) in
+    let kind : TokenKind = Int (digits_value 16 (d ∷ ds)) in
+    let n : ℕ = class_run Hexadecimal (d ∷ (ds ++ more)) in
     let least : length (d ∷ ds) ≤ n = run_least (is_in Hexadecimal) (d ∷ ds) more (hexadecimals_pass (d ∷ ds) h.1) in
     let begins : begins_hexadecimal w ≡ true = and_from (x == 120 || x == 88) (is_hexadecimal d) is (lt-ltb (digit_value d) 16 h.1.0) in
     subst (AtLeast kind (length (48 ∷ x ∷ d ∷ ds))) (sym (form_digit w refl refl ∙ ap Some (cond-true (begins_hexadecimal w) _ _ begins))) (
@@ -236,7 +236,7 @@ no_head h = false≢true h
 digit_fraction : (bytes : List ℕ) → is_decimal (slice_index bytes 0) ≡ true → 0 < fraction_length bytes
 digit_fraction [] h = absurd (false≢true h)
 digit_fraction (b ∷ bytes) h =
-    let one : run Decimal (b ∷ bytes) ≡ suc (run Decimal bytes) = cond-true (is_decimal b) (1 + run Decimal bytes) 0 h ∙ one-add (run Decimal bytes) in
+    let one : class_run Decimal (b ∷ bytes) ≡ suc (class_run Decimal bytes) = cond-true (is_decimal b) (1 + class_run Decimal bytes) 0 h ∙ one-add (class_run Decimal bytes) in
     omega (arith, one, fraction_more (b ∷ bytes))
 
 falling : List (List ℕ) → Bool
@@ -365,7 +365,7 @@ word_is_identifier : (text : List ℕ) → is_word text ≡ true → IsIdentifie
 unfolding is_word
 word_is_identifier text is = identifier_of text (any_passes word_head text words is words_are_names)
 
-pub reads : (kind : Kind) (text more : List ℕ) → HasForm kind text → AtLeast kind (length text) (form (text ++ more))
+pub reads : (kind : TokenKind) (text more : List ℕ) → HasForm kind text → AtLeast kind (length text) (form (text ++ more))
 reads Name text more h = name_reads Name text more h.0 (sym (cond-false (is_word text) Word Name h.1))
 reads Word text more h = name_reads Word text more (word_is_identifier text h) (sym (cond-true (is_word text) Word Name h))
 reads (Int n) text more h = int_reads n text more h

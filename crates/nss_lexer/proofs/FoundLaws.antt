@@ -12,14 +12,14 @@ use Rattle.std.proofs.lemmas.Slice.Eq.{bytes_eq-Decides}
 use Rattle.std.proofs.lemmas.Bool.{cases_Bool, cases_lt, and_parts, or_left, or_right, false≢true, cond_both, eqb-true, cond-true, cond-false, ltb-true}
 use Rattle.nss_lexer.specs.declared.bytes.Class.{Class}
 use Rattle.nss_lexer.specs.declared.bytes.Class.TheVariants.{Name as InName, Decimal, Hexadecimal}
-use Rattle.nss_lexer.specs.declared.token.Kind.{Kind}
-use Rattle.nss_lexer.specs.declared.token.Kind.TheVariants.{Name, Word, Int, Float, Text, Sign}
+use Rattle.nss_lexer.specs.declared.token.TokenKind.{TokenKind}
+use Rattle.nss_lexer.specs.declared.token.TokenKind.TheVariants.{Name, Word, Int, Float, Text, Sign}
 use Rattle.nss_lexer.specs.declared.scan.Scanned.{Scanned}
 use Rattle.nss_lexer.specs.declared.string.Escape.TheVariants.{Outside}
 use Rattle.nss_lexer.specs.Bytes.{is_letter, is_decimal, is_hexadecimal, is_name_byte}
 use Rattle.nss_lexer.specs.Lexemes.{IsIdentifier, decimal, hexadecimal, IsSuffix, none, suffix, IsFloat, pointed, fraction, marked, HasForm, is_word, is_sign, signs}
 use Rattle.nss_lexer.specs.Strings.{quoted}
-use Rattle.nss_lexer.specs.Reading.{is_in, run, scanned, name_form, fraction_length, float_form, decimal_form, begins_hexadecimal, hexadecimal_form, number_form, string_form, is_prefix, first_prefix, sign_form, form, closing}
+use Rattle.nss_lexer.specs.Reading.{is_in, class_run, scanned, name_form, fraction_length, float_form, decimal_form, begins_hexadecimal, hexadecimal_form, number_form, string_form, is_prefix, first_prefix, sign_form, form, closing}
 use Rattle.nss_lexer.proofs.StringLaws.{closing_finishes}
 
 -- the bytes have the form that was read, with one byte at least
@@ -49,21 +49,21 @@ pass_digits : (radix : ℕ) (xs : List ℕ) → AllByRecursion (λ c. is_digit c
 pass_digits radix [] all = tt
 pass_digits radix (x ∷ xs) all = (ltb-true (digit_value x) radix all.0, pass_digits radix xs all.1)
 
-run_decimals : (bytes : List ℕ) → AllDigits 10 (take (run Decimal bytes) bytes)
-run_decimals bytes = pass_digits 10 (take (run Decimal bytes) bytes) (run_passes (is_in Decimal) bytes)
+run_decimals : (bytes : List ℕ) → AllDigits 10 (take (class_run Decimal bytes) bytes)
+run_decimals bytes = pass_digits 10 (take (class_run Decimal bytes) bytes) (run_passes (is_in Decimal) bytes)
 
-run_hexadecimals : (bytes : List ℕ) → AllDigits 16 (take (run Hexadecimal bytes) bytes)
-run_hexadecimals bytes = pass_digits 16 (take (run Hexadecimal bytes) bytes) (run_passes (is_in Hexadecimal) bytes)
+run_hexadecimals : (bytes : List ℕ) → AllDigits 16 (take (class_run Hexadecimal bytes) bytes)
+run_hexadecimals bytes = pass_digits 16 (take (class_run Hexadecimal bytes) bytes) (run_passes (is_in Hexadecimal) bytes)
 
 pub length_taken : (n : ℕ) (xs : List ℕ) → n ≤ length xs → length (take n xs) ≡ n
 length_taken n xs h = simp length-take (omega arith)
 
-run_within : (class : Class) (bytes : List ℕ) → run class bytes ≤ length bytes
+run_within : (class : Class) (bytes : List ℕ) → class_run class bytes ≤ length bytes
 run_within class bytes = prefix_len-le-length (is_in class) bytes
 
 -- ---- names and words
 
-abbrev kind_of_name : List ℕ → Kind
+abbrev kind_of_name : List ℕ → TokenKind
 kind_of_name text = if is_word text then Word else Name
 
 name_has : (text : List ℕ) → IsIdentifier text → HasForm (kind_of_name text) text
@@ -77,11 +77,11 @@ name_found : (bytes : List ℕ) → is_letter (slice_index bytes 0) ≡ true →
 name_found [] h = absurd (false≢true h)
 name_found (b ∷ bytes) h =
     let w : List ℕ = b ∷ bytes in
-    let one : run InName w ≡ suc (run InName bytes) = run_some (is_in InName) b bytes (or_left (is_letter b) (is_decimal b) h) in
-    let all : AllByRecursion (λ c. is_name_byte c ≡ true) (take (run InName bytes) bytes) = run_passes (is_in InName) bytes in
-    let fits : run InName bytes ≤ length bytes = run_within InName bytes in
+    let one : class_run InName w ≡ suc (class_run InName bytes) = run_some (is_in InName) b bytes (or_left (is_letter b) (is_decimal b) h) in
+    let all : AllByRecursion (λ c. is_name_byte c ≡ true) (take (class_run InName bytes) bytes) = run_passes (is_in InName) bytes in
+    let fits : class_run InName bytes ≤ length bytes = run_within InName bytes in
     subst (λ n. IsFound w (scanned (kind_of_name (take n w)) n)) (sym one) (record {
-      has = name_has (b ∷ take (run InName bytes) bytes) (h, all);
+      has = name_has (b ∷ take (class_run InName bytes) bytes) (h, all);
       some = omega arith;
       within = omega (arith, fits);
     })
@@ -107,13 +107,13 @@ taken_through bytes n c more is some =
 record FractionSplit (tail : List ℕ) (n : ℕ) : Type 0 where
   pub end : List ℕ
   pub ends : IsSuffix end
-  pub is : take n tail ≡ take (run Decimal tail) tail ++ end
+  pub is : take n tail ≡ take (class_run Decimal tail) tail ++ end
   pub within : n ≤ length tail
-  pub least : run Decimal tail ≤ n
+  pub least : class_run Decimal tail ≤ n
 
 fraction_split : (tail : List ℕ) → FractionSplit tail (fraction_length tail)
 fraction_split tail =
-    let r : ℕ = run Decimal tail in
+    let r : ℕ = class_run Decimal tail in
     cond_both (slice_index tail r == 102) (r + 1) r (FractionSplit tail)
     (λ mark.
     let is : slice_index tail r ≡ 102 = eqb-true (slice_index tail r) 102 mark in
@@ -127,18 +127,18 @@ fraction_split tail =
     })
     (λ _. record { end = []; ends = none; is = sym (append-nil (take r tail)); within = run_within Decimal tail; least = omega arith })
 
-numeral_found : (d : ℕ) (bytes : List ℕ) → is_decimal d ≡ true → IsNumeral 10 (take (run Decimal (d ∷ bytes)) (d ∷ bytes))
+numeral_found : (d : ℕ) (bytes : List ℕ) → is_decimal d ≡ true → IsNumeral 10 (take (class_run Decimal (d ∷ bytes)) (d ∷ bytes))
 numeral_found d bytes h =
     let w : List ℕ = d ∷ bytes in
-    let one : run Decimal w ≡ suc (run Decimal bytes) = run_some (is_in Decimal) d bytes h in
-    let size : length (take (run Decimal w) w) ≡ run Decimal w = length_taken (run Decimal w) w (run_within Decimal w) in
+    let one : class_run Decimal w ≡ suc (class_run Decimal bytes) = run_some (is_in Decimal) d bytes h in
+    let size : length (take (class_run Decimal w) w) ≡ class_run Decimal w = length_taken (class_run Decimal w) w (run_within Decimal w) in
     (omega (arith, one, size), run_decimals w)
 
 decimal_found : (d : ℕ) (bytes : List ℕ) → is_decimal d ≡ true → IsFound (d ∷ bytes) (decimal_form (d ∷ bytes))
 decimal_found d bytes h =
     let w : List ℕ = d ∷ bytes in
-    let n : ℕ = run Decimal w in
-    let one : n ≡ suc (run Decimal bytes) = run_some (is_in Decimal) d bytes h in
+    let n : ℕ = class_run Decimal w in
+    let one : n ≡ suc (class_run Decimal bytes) = run_some (is_in Decimal) d bytes h in
     let numeral : IsNumeral 10 (take n w) = numeral_found d bytes h in
     let fits : n ≤ length w = run_within Decimal w in
     let tail : List ℕ = drop (n + 1) w in
@@ -147,10 +147,10 @@ decimal_found d bytes h =
     let is : slice_index w n ≡ 46 = eqb-true (slice_index w n) 46 point in
     let inside : n < length w = inside_from w n 46 is (omega arith) in
     let split = fraction_split tail in
-    let text : take (n + 1 + fraction_length tail) w ≡ take n w ++ 46 ∷ (take (run Decimal tail) tail ++ split.end) =
+    let text : take (n + 1 + fraction_length tail) w ≡ take n w ++ 46 ∷ (take (class_run Decimal tail) tail ++ split.end) =
     taken_through w n 46 (fraction_length tail) is (omega arith) ∙ ap (λ t. take n w ++ 46 ∷ t) split.is in
     record {
-      has = subst IsFloat (sym text) (pointed (take n w) (take (run Decimal tail) tail) split.end numeral (run_decimals tail) split.ends);
+      has = subst IsFloat (sym text) (pointed (take n w) (take (class_run Decimal tail) tail) split.end numeral (run_decimals tail) split.ends);
       some = omega arith;
       within = omega (arith, split.within, length-drop (n + 1) w, inside);
     })
@@ -170,8 +170,8 @@ hexadecimal_at : (x d : ℕ) (bytes : List ℕ) → (x == 120 || x == 88) ≡ tr
 hexadecimal_at x d bytes is h =
     let w : List ℕ = 48 ∷ x ∷ d ∷ bytes in
     let rest : List ℕ = d ∷ bytes in
-    let n : ℕ = run Hexadecimal rest in
-    let one : n ≡ suc (run Hexadecimal bytes) = run_some (is_in Hexadecimal) d bytes h in
+    let n : ℕ = class_run Hexadecimal rest in
+    let one : n ≡ suc (class_run Hexadecimal bytes) = run_some (is_in Hexadecimal) d bytes h in
     let fits : n ≤ length rest = run_within Hexadecimal rest in
     let size : length (take n rest) ≡ n = length_taken n rest fits in
     let numeral : IsNumeral 16 (take n rest) = (omega (arith, one, size), run_hexadecimals rest) in
@@ -211,7 +211,7 @@ fraction_at d bytes h =
     let split = fraction_split tail in
     let count : 0 + 1 + fraction_length tail ≡ suc (fraction_length tail) = omega arith in
     subst (λ k. IsFound (46 ∷ tail) (scanned Float k)) (sym count) (record {
-      has = subst (λ t. IsFloat (46 ∷ t)) (sym split.is) (fraction (take (run Decimal tail) tail) split.end (numeral_found d bytes h) split.ends);
+      has = subst (λ t. IsFloat (46 ∷ t)) (sym split.is) (fraction (take (class_run Decimal tail) tail) split.end (numeral_found d bytes h) split.ends);
       some = omega arith;
       within = omega (arith, split.within);
     })

@@ -8,14 +8,14 @@ use Rattle.std.proofs.lemmas.Bool.{cases_Bool, and_parts, and_from, not_from_tru
 use Rattle.nss_lexer.specs.declared.bytes.Class.TheVariants.{Line}
 use Rattle.nss_lexer.specs.Bytes.{newline, is_blank}
 use Rattle.nss_lexer.specs.Splitting.{Skips, blank, line, block, EndsLine, NeverCloses}
-use Rattle.nss_lexer.specs.Reading.{run, closing_comment, comment, pass}
+use Rattle.nss_lexer.specs.Reading.{class_run, closing_comment, comment, pass}
 
 option_same : (m n : ℕ) → Some m ≡ Some n → m ≡ n
 option_same m n e = cc
 
 -- ---- what may be passed over is found
 
-line_run : (text after : List ℕ) → AllByRecursion (λ b. (b ≡ newline) → ⊥) text → EndsLine after → run Line (text ++ after) ≡ length text
+line_run : (text after : List ℕ) → AllByRecursion (λ b. (b ≡ newline) → ⊥) text → EndsLine after → class_run Line (text ++ after) ≡ length text
 line_run [] [] all ends = refl
 line_run [] (b ∷ after) all ends = rw ends refl
 line_run (b ∷ text) after all ends =
@@ -61,16 +61,16 @@ skips_passed bytes after (block text rest never) = record {
 abbrev LineSplit : ℕ → List ℕ → Type 0
 LineSplit n text = AllByRecursion (λ b. (b ≡ newline) → ⊥) (take n text) × EndsLine (drop n text)
 
-line_split : (text : List ℕ) → LineSplit (run Line text) text
+line_split : (text : List ℕ) → LineSplit (class_run Line text) text
 line_split [] = (tt, tt)
 line_split (b ∷ text) =
     ⊎_elim
     (λ at_end.
-    let none : run Line (b ∷ text) ≡ 0 = cond-false (not (b == newline)) (1 + run Line text) 0 (not_from_true (b == newline) at_end) in
+    let none : class_run Line (b ∷ text) ≡ 0 = cond-false (not (b == newline)) (1 + class_run Line text) 0 (not_from_true (b == newline) at_end) in
     subst (λ k. LineSplit k (b ∷ text)) (sym none) (tt, eqb-true b newline at_end))
     (λ inside.
-    let one : run Line (b ∷ text) ≡ suc (run Line text) =
-    cond-true (not (b == newline)) (1 + run Line text) 0 (not_from_false (b == newline) inside) ∙ one-add (run Line text) in
+    let one : class_run Line (b ∷ text) ≡ suc (class_run Line text) =
+    cond-true (not (b == newline)) (1 + class_run Line text) 0 (not_from_false (b == newline) inside) ∙ one-add (class_run Line text) in
     let rest = line_split text in
     subst (λ k. LineSplit k (b ∷ text)) (sym one) ((eqb-false b newline inside, rest.0), rest.1))
     (cases_Bool (b == newline))
@@ -118,16 +118,16 @@ block_split (b ∷ text) n is =
     (sym (cond-false ((b == 42) && (slice_index text 0 == 47)) (Some 2) (option_map (λ n. n + 1) (closing_comment text)) here) ∙ is))
     (cases_Bool ((b == 42) && (slice_index text 0 == 47)))
 
-skips_line : (b c : ℕ) (text : List ℕ) (n : ℕ) → ((b == 47) && (c == 47)) ≡ true → n ≡ run Line text + 2 → Skips (b ∷ c ∷ text) (drop n (b ∷ c ∷ text))
+skips_line : (b c : ℕ) (text : List ℕ) (n : ℕ) → ((b == 47) && (c == 47)) ≡ true → n ≡ class_run Line text + 2 → Skips (b ∷ c ∷ text) (drop n (b ∷ c ∷ text))
 skips_line b c text n here is =
     let both = and_parts (b == 47) (c == 47) here in
     let first : b ≡ 47 = eqb-true b 47 both.0 in
     let second : c ≡ 47 = eqb-true c 47 both.1 in
     let split = line_split text in
-    let whole : take (run Line text) text ++ drop (run Line text) text ≡ text = take-append-drop (run Line text) text in
-    rw (first, second, is, drop_two 47 47 (run Line text) text)
-    (subst (λ t. Skips (47 ∷ 47 ∷ t) (drop (run Line text) text)) whole
-    (line (take (run Line text) text) (drop (run Line text) text) split.0 split.1))
+    let whole : take (class_run Line text) text ++ drop (class_run Line text) text ≡ text = take-append-drop (class_run Line text) text in
+    rw (first, second, is, drop_two 47 47 (class_run Line text) text)
+    (subst (λ t. Skips (47 ∷ 47 ∷ t) (drop (class_run Line text) text)) whole
+    (line (take (class_run Line text) text) (drop (class_run Line text) text) split.0 split.1))
 
 skips_split : (text body after : List ℕ) (m : ℕ) → text ≡ body ++ 42 ∷ 47 ∷ after → m ≡ length body + 2 → NeverCloses body
     → Skips (47 ∷ 42 ∷ text) (drop m text)
@@ -162,12 +162,12 @@ skips_comment (b ∷ []) n is = absurd (cc)
 skips_comment (b ∷ c ∷ text) n is =
     ⊎_elim
     (λ here. skips_line b c text n here
-    (option_same n (run Line text + 2) (sym is ∙ cond-true ((b == 47) && (c == 47)) (Some (run Line text + 2)) _ here)))
+    (option_same n (class_run Line text + 2) (sym is ∙ cond-true ((b == 47) && (c == 47)) (Some (class_run Line text + 2)) _ here)))
     (λ other. ⊎_elim
     (λ here. in_block b c text n here (closing_comment text) refl
-    (sym (cond-false ((b == 47) && (c == 47)) (Some (run Line text + 2)) _ other
+    (sym (cond-false ((b == 47) && (c == 47)) (Some (class_run Line text + 2)) _ other
     ∙ cond-true ((b == 47) && (c == 42)) (option_map (λ n. n + 2) (closing_comment text)) None here) ∙ is))
-    (λ here. absurd (none_some n (sym (cond-false ((b == 47) && (c == 47)) (Some (run Line text + 2)) _ other
+    (λ here. absurd (none_some n (sym (cond-false ((b == 47) && (c == 47)) (Some (class_run Line text + 2)) _ other
     ∙ cond-false ((b == 47) && (c == 42)) (option_map (λ n. n + 2) (closing_comment text)) None here) ∙ is)))
     (cases_Bool ((b == 47) && (c == 42))))
     (cases_Bool ((b == 47) && (c == 47)))

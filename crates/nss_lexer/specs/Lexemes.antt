@@ -3,8 +3,8 @@ use Rattle.std.specs.Prelude.{◌≡◌, ℕ, ◌^◌, ◌<◌, ◌≤◌, Bool,
 use Rattle.std.specs.List.{list_any, AllByRecursion}
 use Rattle.std.specs.Str.Parse.{IsNumeral, AllDigits, digits_value}
 use Rattle.nwq_value.specs.Limits.{name_limit}
-use Rattle.nss_lexer.specs.declared.token.Kind.{Kind}
-use Rattle.nss_lexer.specs.declared.token.Kind.TheVariants.{Name, Word, Int, Float, Text, Sign}
+use Rattle.nss_lexer.specs.declared.token.TokenKind.{TokenKind}
+use Rattle.nss_lexer.specs.declared.token.TokenKind.TheVariants.{Name, Word, Int, Float, Text, Sign}
 use Rattle.nss_lexer.specs.declared.token.Token.{Token}
 use Rattle.nss_lexer.specs.Bytes.{is_letter, is_name_byte}
 use Rattle.nss_lexer.specs.Strings.{IsString}
@@ -60,7 +60,7 @@ pub data IsFloat : List ℕ → Type 0 where
 
 -- The bytes have the form of this kind, whatever the limits. The longest match is among forms: a
 -- number that is too great isn't cut into two that aren't.
-abbrev pub HasForm : Kind → List ℕ → Type 0
+abbrev pub HasForm : TokenKind → List ℕ → Type 0
 HasForm Name text = IsIdentifier text × (is_word text ≡ false)
 HasForm Word text = IsTrue (is_word text)
 HasForm (Int n) text = IsInt n text
@@ -69,13 +69,13 @@ HasForm Text text = IsString text
 HasForm Sign text = IsTrue (is_sign text)
 
 -- a name has at most 255 bytes, and an int fits 32 bits
-abbrev pub IsWithin : Kind → List ℕ → Type 0
+abbrev pub IsWithin : TokenKind → List ℕ → Type 0
 IsWithin Name text = length text ≤ name_limit
 IsWithin (Int n) text = n < 2 ^ 32
 IsWithin _ text = Unit {0}
 
 -- these bytes spell a token of this kind
-abbrev pub IsLexeme : Kind → List ℕ → Type 0
+abbrev pub IsLexeme : TokenKind → List ℕ → Type 0
 IsLexeme kind text = HasForm kind text × IsWithin kind text
 
 -- a token as the lexer gives them: its bytes spell its kind

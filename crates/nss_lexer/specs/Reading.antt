@@ -7,8 +7,8 @@ use Rattle.std.specs.Str.Parse.{digits_value}
 use Rattle.nwq_value.specs.Limits.{name_limit}
 use Rattle.nss_lexer.specs.declared.bytes.Class.{Class}
 use Rattle.nss_lexer.specs.declared.bytes.Class.TheVariants.{Name as InName, Decimal, Hexadecimal, Line}
-use Rattle.nss_lexer.specs.declared.token.Kind.{Kind}
-use Rattle.nss_lexer.specs.declared.token.Kind.TheVariants.{Name, Word, Int, Float, Text, Sign}
+use Rattle.nss_lexer.specs.declared.token.TokenKind.{TokenKind}
+use Rattle.nss_lexer.specs.declared.token.TokenKind.TheVariants.{Name, Word, Int, Float, Text, Sign}
 use Rattle.nss_lexer.specs.declared.scan.Scanned.{Scanned}
 use Rattle.nss_lexer.specs.declared.string.Escape.{Escape}
 use Rattle.nss_lexer.specs.declared.string.Escape.TheVariants.{Outside, AfterBackslash, AfterX, AfterDigit}
@@ -25,10 +25,10 @@ is_in Hexadecimal b = is_hexadecimal b
 is_in Line b = not (b == newline)
 
 -- how many bytes of the class begin the bytes
-abbrev pub run : Class → List ℕ → ℕ
-run class bytes = prefix_len (is_in class) bytes
+abbrev pub class_run : Class → List ℕ → ℕ
+class_run class bytes = prefix_len (is_in class) bytes
 
-abbrev pub scanned : Kind → ℕ → Scanned
+abbrev pub scanned : TokenKind → ℕ → Scanned
 scanned kind n = record { kind = kind; length = n }
 
 -- a number that fits 32 bits
@@ -36,7 +36,7 @@ abbrev pub small : ℕ → Option ℕ
 small n = if nat_lt n (2 ^ 32) then Some n else None
 
 -- within the limits, or nothing
-abbrev pub limited : Kind → ℕ → Option Scanned
+abbrev pub limited : TokenKind → ℕ → Option Scanned
 limited Name n = if nat_le n name_limit then Some (scanned Name n) else None
 limited (Int v) n = option_map (λ w. scanned (Int w) n) (small v)
 limited Word n = Some (scanned Word n)
@@ -50,11 +50,11 @@ within f = limited f.kind f.length
 -- the longest form that begins the bytes
 
 abbrev pub name_form : List ℕ → Scanned
-name_form bytes = let n = run InName bytes in scanned (if is_word (take n bytes) then Word else Name) n
+name_form bytes = let n = class_run InName bytes in scanned (if is_word (take n bytes) then Word else Name) n
 
 -- how many bytes of a float follow its point: digits, and maybe an `f`
 abbrev pub fraction_length : List ℕ → ℕ
-fraction_length tail = let n = run Decimal tail in if slice_index tail n == 102 then n + 1 else n
+fraction_length tail = let n = class_run Decimal tail in if slice_index tail n == 102 then n + 1 else n
 
 -- a float whose point stands at this place
 abbrev pub float_form : List ℕ → ℕ → Scanned
@@ -62,7 +62,7 @@ float_form bytes point = scanned Float (point + 1 + fraction_length (drop (point
 
 abbrev pub decimal_form : List ℕ → Scanned
 decimal_form bytes =
-    let n = run Decimal bytes in
+    let n = class_run Decimal bytes in
     if slice_index bytes n == 46 then float_form bytes n
     else (if slice_index bytes n == 102 then scanned Float (n + 1) else scanned (Int (digits_value 10 (take n bytes))) n)
 
@@ -72,7 +72,7 @@ begins_hexadecimal bytes =
 
 abbrev pub hexadecimal_form : List ℕ → Scanned
 hexadecimal_form bytes =
-    let n = run Hexadecimal (drop 2 bytes) in scanned (Int (digits_value 16 (take n (drop 2 bytes)))) (n + 2)
+    let n = class_run Hexadecimal (drop 2 bytes) in scanned (Int (digits_value 16 (take n (drop 2 bytes)))) (n + 2)
 
 abbrev pub number_form : List ℕ → Scanned
 number_form bytes = if begins_hexadecimal bytes then hexadecimal_form bytes else decimal_form bytes
@@ -158,7 +158,7 @@ abbrev pub comment : List ℕ → Option ℕ
 comment [] = None
 comment (b ∷ []) = None
 comment (b ∷ c ∷ text) =
-    if b == 47 && c == 47 then Some (run Line text + 2)
+    if b == 47 && c == 47 then Some (class_run Line text + 2)
     else (if b == 47 && c == 42 then option_map (λ n. n + 2) (closing_comment text) else None)
 
 -- the length of the blank or the closed comment that begins the bytes

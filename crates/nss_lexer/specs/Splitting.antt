@@ -1,7 +1,7 @@
 -- How a file is split into tokens and the gaps between them.
 use Rattle.std.specs.Prelude.{◌≡◌, ◌≢◌, ℕ, ◌+◌, ◌<◌, ◌≤◌, Bool, false, ◌&&◌, ◌||◌, ◌==◌, IsTrue, List, [], ◌∷◌, ◌++◌, length, take, drop, Option, Some, None}
 use Rattle.std.specs.List.{AllByRecursion}
-use Rattle.nss_lexer.specs.declared.token.Kind.{Kind}
+use Rattle.nss_lexer.specs.declared.token.TokenKind.{TokenKind}
 use Rattle.nss_lexer.specs.declared.token.Token.{Token}
 use Rattle.nss_lexer.specs.declared.token.Lexed.{Lexed}
 use Rattle.nss_lexer.specs.declared.token.Lexed.TheVariants.{Token as GivesToken, End, Bad}
@@ -40,21 +40,21 @@ begins_comment (b ∷ c ∷ bytes) = b == 47 && (c == 47 || c == 42)
 
 -- A token of this kind with this text begins the bytes: no comment begins them, and no longer
 -- prefix of them has the form of a token.
-pub record Begins (bytes : List ℕ) (kind : Kind) (text : List ℕ) : Type 0 where
+pub record BeginsWithToken (bytes : List ℕ) (kind : TokenKind) (text : List ℕ) : Type 0 where
   pub prefix : text ≡ take (length text) bytes
   pub lexeme : IsLexeme kind text
-  pub longest : (other : Kind) (n : ℕ) → n ≤ length bytes → HasForm other (take n bytes) → n ≤ length text
+  pub longest : (other : TokenKind) (n : ℕ) → n ≤ length bytes → HasForm other (take n bytes) → n ≤ length text
   pub no_comment : begins_comment bytes ≡ false
 
 -- no token, blank or closed comment begins the bytes, of which there is one at least
 pub record IsStuck (bytes : List ℕ) : Type 0 where
   pub some : bytes ≢ []
   pub no_gap : (after : List ℕ) → Skips bytes after → ⊥
-  pub no_token : (kind : Kind) (text : List ℕ) → Begins bytes kind text → ⊥
+  pub no_token : (kind : TokenKind) (text : List ℕ) → BeginsWithToken bytes kind text → ⊥
 
 -- a token without where its bytes lie in memory
 pub record Lexeme : Type 0 where
-  pub kind : Kind
+  pub kind : TokenKind
   pub text : List ℕ
   pub file : ℕ
   pub start : ℕ
@@ -78,7 +78,7 @@ first (Bad place) = BadAt place
 pub record IsFirstToken (bytes : List ℕ) (number at : ℕ) (t : Lexeme) : Type 0 where
   pub from : at ≤ t.start
   pub gap : Gap (drop at bytes) (drop t.start bytes)
-  pub begins : Begins (drop t.start bytes) t.kind t.text
+  pub begins : BeginsWithToken (drop t.start bytes) t.kind t.text
   pub last : t.end ≡ t.start + length t.text
   pub some : t.start < t.end
   pub within : t.end ≤ length bytes

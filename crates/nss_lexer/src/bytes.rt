@@ -58,7 +58,7 @@ pub fn byte(bytes: &[u8], at: usize) -> u8
 
 /// How many bytes of the class begin the bytes.
 pub fn run(class: Class, bytes: &[u8]) -> usize
-    ensures count { result ≡ reading.run class bytes.now }
+    ensures count { result ≡ reading.class_run class bytes.now }
     ensures within { result ≤ length bytes.now }
 {
     let mut n = 0;

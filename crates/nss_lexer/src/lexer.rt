@@ -1,6 +1,6 @@
 ghost use Rattle.std.specs.Prelude.{◌≡◌, ◌≤◌, ◌<◌, ◌^◌, length, take, MatchOption, None};
 ghost use Rattle.nwq_value.specs.Limits.{file_limit};
-ghost use Rattle.nss_lexer.specs.Splitting.{Begins, IsFirst, IsStuck, first};
+ghost use Rattle.nss_lexer.specs.Splitting.{BeginsWithToken, IsFirst, IsStuck, first};
 ghost use Rattle.nss_lexer.specs.Reading as reading;
 
 use crate::bytes::{head, tail};
@@ -15,7 +15,7 @@ fn token_at_start(bytes: &[u8]) -> Option<Scanned>
     requires stops { reading.pass bytes.now ≡ None }
     ensures { MatchOption result (IsStuck bytes.now)
         (λ scanned. (0 < scanned.length) × (scanned.length ≤ length bytes.now)
-        × Begins bytes.now scanned.kind (take scanned.length bytes.now)) }
+        × BeginsWithToken bytes.now scanned.kind (take scanned.length bytes.now)) }
 {
     if begins_comment(bytes) {
         return None;

@@ -20,5 +20,5 @@ pub use bytes::Class;
 pub use lexer::next;
 pub use scan::Scanned;
 pub use string::{Escape, Step};
-pub use token::{Kind, Lexed, Token};
+pub use token::{Lexed, Token, TokenKind};
 pub use unquote::literal;

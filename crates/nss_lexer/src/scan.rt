@@ -6,12 +6,12 @@ ghost use Rattle.nss_lexer.specs.Reading as reading;
 
 use crate::bytes::{Class, byte, digit_value, is_in, is_letter, run};
 use crate::string::closing_quote;
-use crate::token::Kind;
+use crate::token::TokenKind;
 
 /// A token's kind and its length, where it begins the bytes.
 #[derive(Clone, Copy)]
 pub struct Scanned {
-    pub kind: Kind,
+    pub kind: TokenKind,
     pub length: usize,
 }
 
@@ -94,12 +94,12 @@ fn scan_name(bytes: &[u8]) -> Option<Scanned>
     let length = run(Class::Name, bytes);
     if is_word(&bytes[..length]) {
         Some(Scanned {
-            kind: Kind::Word,
+            kind: TokenKind::Word,
             length,
         })
     } else if length <= NAME_BYTES {
         Some(Scanned {
-            kind: Kind::Name,
+            kind: TokenKind::Name,
             length,
         })
     } else {
@@ -111,12 +111,12 @@ fn scan_name(bytes: &[u8]) -> Option<Scanned>
 fn int(radix: u8, digits: &[u8], length: usize) -> Option<Scanned>
     requires { (2 ≤ radix) × (radix ≤ 16) }
     ensures { result
-        ≡ reading.within (reading.scanned (Kind.Int (digits_value radix digits.now)) length) }
+        ≡ reading.within (reading.scanned (TokenKind.Int (digits_value radix digits.now)) length) }
 {
     match number(radix, digits) {
         None => None,
         Some(value) => Some(Scanned {
-            kind: Kind::Int(value),
+            kind: TokenKind::Int(value),
             length,
         }),
     }
@@ -141,7 +141,7 @@ fn scan_fraction(bytes: &[u8], point: usize) -> Scanned
     ensures { result ≡ reading.float_form bytes.now point }
 {
     Scanned {
-        kind: Kind::Float,
+        kind: TokenKind::Float,
         length: point + 1 + fraction_length(&bytes[point + 1..]),
     }
 }
@@ -154,7 +154,7 @@ fn scan_decimal(bytes: &[u8]) -> Option<Scanned>
     match byte(bytes, end) {
         b'.' => Some(scan_fraction(bytes, end)),
         b'f' => Some(Scanned {
-            kind: Kind::Float,
+            kind: TokenKind::Float,
             length: end + 1,
         }),
         _ => int(10, &bytes[..end], end),
@@ -197,7 +197,7 @@ fn scan_string(bytes: &[u8]) -> Option<Scanned>
     match closing_quote(&bytes[1..]) {
         None => None,
         Some(end) => Some(Scanned {
-            kind: Kind::Text,
+            kind: TokenKind::Text,
             length: end + 1,
         }),
     }
@@ -236,7 +236,7 @@ fn scan_sign(bytes: &[u8]) -> Option<Scanned>
     match first_prefix(&SIGNS, bytes) {
         None => None,
         Some(length) => Some(Scanned {
-            kind: Kind::Sign,
+            kind: TokenKind::Sign,
             length,
         }),
     }

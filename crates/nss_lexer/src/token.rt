@@ -1,6 +1,6 @@
 /// What a token is.
 #[derive(Clone, Copy, Debug, PartialEq, Eq)]
-pub enum Kind {
+pub enum TokenKind {
     /// A name of at most 255 bytes.
     Name,
     /// One of the words that are no names, as `while`.
@@ -17,7 +17,7 @@ pub enum Kind {
 /// A token with its bytes, the number of its file and its span there.
 #[derive(Clone, Copy)]
 pub struct Token<'a> {
-    pub kind: Kind,
+    pub kind: TokenKind,
     pub text: &'a [u8],
     pub file: u16,
     pub start: u32,

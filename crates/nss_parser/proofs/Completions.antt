@@ -1,6 +1,6 @@
 -- Symbols that complete a list of tokens: each with the proof that a token spells it.
 use Rattle.std.proofs.Common.{◌≡◌, ℕ, List, [], ◌∷◌, ◌++◌, codes, refl, ap, arith, rules}
-use Rattle.nss_lexer.specs.declared.token.Kind.TheVariants as kind
+use Rattle.nss_lexer.specs.declared.token.TokenKind.TheVariants as kind
 use Rattle.nss_lexer.specs.Lexemes.{is_word}
 use Rattle.nss_lexer.specs.Lexemes.IsInt.{decimal}
 use Rattle.nss_symbols.specs.declared.terminal.Terminal.{Terminal}

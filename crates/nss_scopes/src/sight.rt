@@ -4,8 +4,10 @@ ghost use Rattle.typing_rules.specs.Sight.{case_seen, declaration_seen, default_
 ghost use Rattle.std.specs.Prelude.{◌≡◌, ◌+◌, ◌≤◌, ◌<◌, None, Some, IfOk, OnErr, OnOk};
 ghost use Rattle.std.specs.Option.{option_map};
 ghost use Rattle.nwq_value.specs.Engine.{EngineTable};
-ghost use Rattle.typing_rules.specs.Sight.{begun, cell_limit, cells_if, counted, crosses};
-ghost use Rattle.typing_rules.specs.Sight.{crosses_with, declared, entered, frame_with, inside};
+ghost use Rattle.typing_rules.specs.Sight.{function_begun, cell_limit, cells_if, counted_to_limit};
+ghost use Rattle.typing_rules.specs.Sight.{crosses};
+ghost use Rattle.typing_rules.specs.Sight.{crosses_with, declared, scope_entered, frame_with};
+ghost use Rattle.typing_rules.specs.Sight.{inside};
 ghost use Rattle.typing_rules.specs.Sight.{is_of_header, is_taken, is_taken_by_other, looped};
 ghost use Rattle.typing_rules.specs.Sight.{start, switched, variable_of};
 ghost use Rattle.nss_scopes.specs.Entries.{variable_limit};
@@ -67,7 +69,7 @@ pub struct Mark {
 /// So many cells more, counted to one past the limit.
 pub fn counted(limit: u32, before: u32, more: u32) -> u32
     requires limit { limit ≤ 4000 }
-    ensures count { result ≡ counted limit before more }
+    ensures count { result ≡ counted_to_limit limit before more }
 {
     if before > limit || more > limit {
         return limit + 1;
@@ -229,8 +231,8 @@ impl Sight {
     /// A block begins.
     pub fn enter(&mut self) -> Mark
         ensures mark { result ≡ mark_of self.old }
-        ensures entered { (table : EngineTable)
-            → in_sight table self.new ≡ entered (in_sight table self.old) }
+        ensures scope_entered { (table : EngineTable)
+            → in_sight table self.new ≡ scope_entered (in_sight table self.old) }
     {
         let mark = self.mark();
         self.scope = self.names.len();
@@ -267,8 +269,8 @@ impl Sight {
     /// A function with this result begins.
     pub fn begin(&mut self, ty: Option<Ty>) -> Mark
         ensures mark { result ≡ mark_of self.old }
-        ensures begun { (table : EngineTable)
-            → in_sight table self.new ≡ begun (in_sight table self.old) ty }
+        ensures function_begun { (table : EngineTable)
+            → in_sight table self.new ≡ function_begun (in_sight table self.old) ty }
     {
         let mark = self.mark();
         self.scope = self.names.len();

@@ -127,8 +127,8 @@ abbrev pub headed : Terminal → State → State
 headed m s = if is_head m then with_last s (record { number = s.last.number + 1; dos = s.last.dos }) else s
 
 -- a `do` also raises the count of the last number by 1
-abbrev pub counted : Terminal → State → State
-counted m s = if is_do m then with_last s (record { number = s.last.number; dos = s.last.dos + 1 }) else s
+abbrev pub do_counted : Terminal → State → State
+do_counted m s = if is_do m then with_last s (record { number = s.last.number; dos = s.last.dos + 1 }) else s
 
 -- a `while` directly after `}` or `;` lowers the count of the last number by 1 where it isn't 0
 abbrev pub uncounted : Option Terminal → Terminal → State → State
@@ -149,7 +149,7 @@ reset m after s = if is_end m && not (is_some_and is_else after) && not (is_some
 -- what a token makes of the numbers, by the one before it and the one after it
 abbrev pub changed : Option Terminal → Option Terminal → Option Terminal → State → State
 changed before None after s = s
-changed before (Some m) after s = reset m after (uncounted before m (counted m (headed m (closed m (opened m s)))))
+changed before (Some m) after s = reset m after (uncounted before m (do_counted m (headed m (closed m (opened m s)))))
 
 -- the sum of the numbers
 abbrev pub total : State → ℕ

@@ -1,7 +1,7 @@
 -- Laws of the terminals: each is read from its spelling, and a token spells each.
 use Rattle.std.specs.Prelude.{◌≡◌, IsTrue, refl, Some}
 use Rattle.std.proofs.Common.{ap}
-use Rattle.nss_lexer.specs.declared.token.Kind.TheVariants as kind
+use Rattle.nss_lexer.specs.declared.token.TokenKind.TheVariants as kind
 use Rattle.nss_lexer.specs.Lexemes.{is_sign, is_word}
 use Rattle.nss_symbols.specs.declared.terminal.Terminal.{Terminal}
 use Rattle.nss_symbols.specs.declared.terminal.Terminal.TheVariants as terminal

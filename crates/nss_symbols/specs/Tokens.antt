@@ -1,8 +1,8 @@
 -- What the grammar sees of the lexer's tokens, and which symbols tokens spell.
 use Rattle.std.specs.Prelude.{◌≡◌, ℕ, List, [], ◌∷◌, Option, None, Some, take, map}
 use Rattle.nwq_value.specs.Limits.{text_limit}
-use Rattle.nss_lexer.specs.declared.token.Kind.{Kind}
-use Rattle.nss_lexer.specs.declared.token.Kind.TheVariants as kind
+use Rattle.nss_lexer.specs.declared.token.TokenKind.{TokenKind}
+use Rattle.nss_lexer.specs.declared.token.TokenKind.TheVariants as kind
 use Rattle.nss_lexer.specs.declared.token.Token.{Token}
 use Rattle.nss_lexer.specs.Lexemes.{IsLexeme}
 use Rattle.nss_lexer.specs.Strings.{string_value}
@@ -15,7 +15,7 @@ of_terminal (Some t) = Fixed t
 of_terminal None = Unknown
 
 -- A string is seen as the bytes that it stands for, as many as a text keeps.
-abbrev pub of_kind : Kind → List ℕ → Symbol
+abbrev pub of_kind : TokenKind → List ℕ → Symbol
 of_kind kind.Name text = Name text
 of_kind kind.Word text = of_terminal (terminal_of text)
 of_kind (kind.Int n) text = Int n
@@ -31,7 +31,7 @@ symbols_of = map symbol_of
 
 -- Some bytes spell a token that is seen so.
 pub record IsSpelled (s : Symbol) : Type 0 where
-  pub kind : Kind
+  pub kind : TokenKind
   pub text : List ℕ
   pub lexeme : IsLexeme kind text
   pub seen : of_kind kind text ≡ s

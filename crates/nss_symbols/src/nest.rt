@@ -1,7 +1,8 @@
 ghost use Rattle.std.specs.Prelude.{◌≡◌, drop, ◌+◌, ◌<◌, ◌≤◌, ◌^◌, length, map, IfOk, OnOk};
 ghost use Rattle.nss_symbols.specs.Nest as nest;
 ghost use Rattle.nss_symbols.specs.Nest.{IsNestAnswer, head_of, terminal_in, changed, closed};
-ghost use Rattle.nss_symbols.specs.Nest.{counted, headed, opened, reset, start, total, uncounted};
+ghost use Rattle.nss_symbols.specs.Nest.{do_counted, headed, opened, reset, start, total};
+ghost use Rattle.nss_symbols.specs.Nest.{uncounted};
 ghost use Rattle.nss_symbols.specs.Cursor.{plain_symbol};
 
 use crate::symbol::Seen;
@@ -206,7 +207,7 @@ impl Nest {
 
     fn head(&mut self, terminal: Terminal)
         requires { total self.old < 1000 }
-        ensures state { self.new ≡ counted terminal (headed terminal self.old) }
+        ensures state { self.new ≡ do_counted terminal (headed terminal self.old) }
         ensures sum { total self.new ≤ total self.old + 1 }
     {
         if is_head(terminal) {

@@ -11,7 +11,7 @@ ghost use Rattle.nss_symbols.specs.Cursor.{plain_symbol, IsSound, AreSound};
 
 use crate::terminal::{Terminal, terminal_of};
 use nss_lexer::laws::values_are_bytes;
-use nss_lexer::{Kind, Token};
+use nss_lexer::{Token, TokenKind};
 use nwq_value::{NoMemory, Text};
 use std::alloc::Global;
 
@@ -81,11 +81,11 @@ fn seen_of<'a>(token: &Token<'a>) -> Seen<'a>
     ensures literal { IsLiteral (plain_symbol result) }
 {
     match token.kind {
-        Kind::Name => Seen::Name(token.text),
-        Kind::Word | Kind::Sign => spelled(token.text),
-        Kind::Int(value) => Seen::Int(value),
-        Kind::Float => Seen::Float,
-        Kind::Text => string_seen(token.text),
+        TokenKind::Name => Seen::Name(token.text),
+        TokenKind::Word | TokenKind::Sign => spelled(token.text),
+        TokenKind::Int(value) => Seen::Int(value),
+        TokenKind::Float => Seen::Float,
+        TokenKind::Text => string_seen(token.text),
     }
 }
 

@@ -12,7 +12,7 @@ use Rattle.nss_tree.specs.Source.{SourceLine}
 use Rattle.typing_rules.specs.declared.fault.FaultKind.{FaultKind}
 use Rattle.typing_rules.specs.Nodes.{Rows, first_kind, fine, ruled, asked, two}
 use Rattle.typing_rules.specs.Typed.{TypedLine}
-use Rattle.typing_rules.specs.Sight.{Members, Structure, cells, cells_if, counted, has_struct}
+use Rattle.typing_rules.specs.Sight.{Members, Structure, cells, cells_if, counted_to_limit, has_struct}
 use Rattle.typing_rules.specs.Rules.{Fields, crosses_fields, field_rows, field_rule, fields_with, is_among, no_fields, struct_rows, struct_rule, when}
 use Rattle.typing_rules.specs.Verdicts.{after_fields, after_line, field_added, field_verdict, fields_fine, line_fine, line_of, line_type, lines_fine, members_of_line, members_of_lines, no_members, one_more, struct_members, struct_verdict}
 
@@ -54,7 +54,7 @@ not_true false e = refl
 
 record Sums (limit before more : ℕ) : Type 0 where
   within : before + more ≤ limit
-  is : counted limit before more ≡ before + more
+  is : counted_to_limit limit before more ≡ before + more
 
 sums_by : (limit before more : ℕ) (b : Bool) → nat_lt limit (min (before + more) (limit + 1)) ≡ b → (not (nat_lt limit before) && b) ≡ false → before ≤ limit → Sums limit before more
 sums_by limit before more true is none le =

@@ -10,7 +10,7 @@
 
 ghost use Rattle.std.specs.Prelude.{◌≡◌, ◌≤◌, ◌+◌, [], map, IfOk, Ok, OnOk};
 ghost use Rattle.hook_table.specs.Served.{AreFirst};
-ghost use Rattle.hook_table.specs.Standard.{function_numbered, types_of, IsAnswer};
+ghost use Rattle.hook_table.specs.Standard.{function_numbered, types_of_values, IsAnswer};
 ghost use Rattle.world_core.specs.Calls.{AreServing, tables_of};
 
 use hook_table::laws::standard_hooks_are_put_one_by_one;
@@ -93,9 +93,9 @@ fn result_of(n: u8) -> Ty
 pub fn put_hook(alloc: Global, hooks: &mut Hooks, n: u8, call: Call) -> Result<(), NoMemory>
     requires number { n ≤ 9 }
     requires first { AreFirst n (map (λ h. h.known) hooks.old.all.items) }
-    requires callable { (args : _) → types_of args.now ≡ (function_numbered n).params
+    requires callable { (args : _) → types_of_values args.now ≡ (function_numbered n).params
         → Call.pre call args }
-    requires answers { (args : _) (v : _) → types_of args.now ≡ (function_numbered n).params
+    requires answers { (args : _) (v : _) → types_of_values args.now ≡ (function_numbered n).params
         → Call.post call args (Ok v) → IsAnswer [] (function_numbered n).name
         (function_numbered n).result args.now v }
     ensures next { OnOk result (AreFirst (n + 1) (map (λ h. h.known) hooks.new.all.items)) }
@@ -117,9 +117,9 @@ pub fn put_cell_hook(
     tables: Tables,
 ) -> Result<(), NoMemory>
     requires first { AreFirst 9 (map (λ h. h.known) hooks.old.all.items) }
-    requires callable { (args : _) → types_of args.now ≡ (function_numbered 9).params
+    requires callable { (args : _) → types_of_values args.now ≡ (function_numbered 9).params
         → Call.pre call args }
-    requires answers { (args : _) (v : _) → types_of args.now ≡ (function_numbered 9).params
+    requires answers { (args : _) (v : _) → types_of_values args.now ≡ (function_numbered 9).params
         → Call.post call args (Ok v) → IsAnswer tables (function_numbered 9).name
         (function_numbered 9).result args.now v }
     ensures next { OnOk result (AreFirst 10 (map (λ h. h.known) hooks.new.all.items)) }

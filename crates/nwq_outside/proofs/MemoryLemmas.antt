@@ -13,7 +13,7 @@ use Rattle.std.specs.Prelude.{String}
 use Rattle.std.specs.Str.{bytes_eq}
 use Rattle.std.specs.String.{string_bytes, string_cmp}
 use Rattle.nwq_outside.specs.Memory.{contents_of}
-use Rattle.nwq_outside.specs.Outside.{Contents, AreBytes}
+use Rattle.nwq_outside.specs.Outside.{Contents, ContentsAreBytes}
 
 find_held : {A : Type 0} (es : List (String A × List ℕ)) (name : List ℕ)
     → find (slice_cmp nat_cmp) name (map (λ (e : String A × List ℕ). (string_bytes e.0, e.1)) es) ≡ lookup (is_at (λ k. slice_cmp nat_cmp name (string_bytes k))) es
@@ -58,20 +58,20 @@ either_bytes : (b : Bool) (bytes other : List ℕ) (content : Option (List ℕ))
 either_bytes true bytes other content all else is = subst (All (λ x. x < 256)) (same_Some bytes other is) all
 either_bytes false bytes other content all else is = else is
 
-pub bytes_put : (before after : Contents) (name bytes : List ℕ) → after ≡ insert before name bytes → AreBytes before → All (λ x. x < 256) bytes → AreBytes after
-unfolding AreBytes
+pub bytes_put : (before after : Contents) (name bytes : List ℕ) → after ≡ insert before name bytes → ContentsAreBytes before → All (λ x. x < 256) bytes → ContentsAreBytes after
+unfolding ContentsAreBytes
 bytes_put before after name bytes put held all other content is =
     either_bytes (is_eq (slice_cmp nat_cmp other name)) bytes content (get before other) all (held other content)
     (sym (get-insert nat_list_cmp_total before name bytes other) ∙ ap (λ c. get c other) (sym put) ∙ is)
 
-pub bytes_stay : (before after : Contents) → after ≡ before → AreBytes before → AreBytes after
-bytes_stay before after same held = subst AreBytes (sym same) held
+pub bytes_stay : (before after : Contents) → after ≡ before → ContentsAreBytes before → ContentsAreBytes after
+bytes_stay before after same held = subst ContentsAreBytes (sym same) held
 
 nothing_there : (none : Contents) (name : List ℕ) → none ≡ empty → get none name ≡ None
 nothing_there none name is = subst (λ (c : Contents). get c name ≡ None) (sym is) (get-empty (slice_cmp nat_cmp) name)
 
-pub no_bytes : (none : Contents) → none ≡ empty → AreBytes none
-unfolding AreBytes
+pub no_bytes : (none : Contents) → none ≡ empty → ContentsAreBytes none
+unfolding ContentsAreBytes
 no_bytes none is name bytes held = let nothing = nothing_there none name is in cc
 
 pub ruleset bytes_are = (bytes_put, bytes_stay, no_bytes)

@@ -63,8 +63,8 @@ CountsDone done.Failed before now = Rises before now
 CountsDone done.NoMemory before now = now ≡ before
 
 -- what stands under each name are bytes
-unfoldable pub AreBytes : Contents → Type 0
-AreBytes contents = (name bytes : List ℕ) → map.get contents name ≡ Some bytes → All (λ b. b < 256) bytes
+unfoldable pub ContentsAreBytes : Contents → Type 0
+ContentsAreBytes contents = (name bytes : List ℕ) → map.get contents name ≡ Some bytes → All (λ b. b < 256) bytes
 
 -- an answer to a read of a name with this content, or with none
 abbrev pub ReadsContent : Option (List ℕ) → Read → Type 0

@@ -58,7 +58,7 @@ pub struct MemFiles {
 
 impl Model for MemFiles {
     ghost use Rattle.nwq_outside.specs.Memory.{Memory, memory_code, contents_of};
-    ghost use Rattle.nwq_outside.specs.Outside.{AreBytes};
+    ghost use Rattle.nwq_outside.specs.Outside.{ContentsAreBytes};
 
     ghost Value = { Memory };
 
@@ -71,7 +71,7 @@ impl Model for MemFiles {
       counts = m.counts;
     } };
 
-    ghost invariant = { λ m. AreBytes (contents_of m.held) };
+    ghost invariant = { λ m. ContentsAreBytes (contents_of m.held) };
 }
 
 impl MemFiles {

@@ -1,7 +1,7 @@
 ghost use Rattle.std.specs.Prelude.{◌≡◌, ℕ, Bool, List, IsTrue};
 ghost use Rattle.std.specs.FinMap as map;
 ghost use Rattle.nwq_outside.specs.declared.counts.FileCounts.{FileCounts};
-ghost use Rattle.nwq_outside.specs.Outside.{Contents, AreBytes, CountsRead, CountsWrite};
+ghost use Rattle.nwq_outside.specs.Outside.{Contents, ContentsAreBytes, CountsRead, CountsWrite};
 ghost use Rattle.nwq_outside.specs.Outside.{CountsDone, ReadsContent, IsFileSize, KeepsOthers};
 ghost use Rattle.nwq_outside.specs.Outside.{Leaves, Takes};
 
@@ -22,7 +22,7 @@ pub trait Files {
 
     /// That what the files hold are bytes, where they tell it.
     fn contents_are_bytes(&self)
-        ensures bytes { IsTrue tells → AreBytes (contents self.now) };
+        ensures bytes { IsTrue tells → ContentsAreBytes (contents self.now) };
 
     /// What is under the name.
     fn read(&mut self, alloc: Global, name: &str) -> Read

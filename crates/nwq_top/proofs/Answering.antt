@@ -4,7 +4,7 @@ use Rattle.std.specs.List.{list_any}
 use Rattle.nwq_value.specs.Limits.{entry_limit}
 use Rattle.nwq_text.specs.Number.{number_of}
 use Rattle.nwq_text.specs.Names.{is_script_name}
-use Rattle.nwq_outside.specs.Outside.{Contents, AreBytes}
+use Rattle.nwq_outside.specs.Outside.{Contents, ContentsAreBytes}
 use Rattle.nss_lexer.specs.Splitting.{SomeSplit}
 use Rattle.nss_parser.specs.Sentence.{TreeOrPlace}
 use Rattle.engine_table.specs.Headers.{OneHeader}
@@ -86,7 +86,7 @@ numbered words = one_of (list_any is_option words) NoForm (command_form words) t
 module _ (header : OneHeader) (some : SomeSplit) (trees : TreeOrPlace) (right : VerdictsAreRight) (settled : NoneKeptIsTyped) (pass : UnitsPass) (have : ScriptsHaveUnits)
     (reads : HeadersHaveTables) (own : BuiltInIsTable) (made : SourcesCompile) (sizes : SizeLaws) (places : PlaceLaws) (code : CodeIsBytes)
     (states : FirstEntriesHaveStates) (plans : PlansKeep) where
-  plain_goes : (cell : CellLookup) (form : Form) → IsNumbered form → IsPlainForm form → (c : Contents) → AreBytes c → Goes (work_of cell form) c Anything
+  plain_goes : (cell : CellLookup) (form : Form) → IsNumbered form → IsPlainForm form → (c : Contents) → ContentsAreBytes c → Goes (work_of cell form) c Anything
   plain_goes cell (Run word script) small plain c held = run_goes header some trees right settled pass have reads own cell word script c held
   plain_goes cell (Compile word script) small plain c held = compile_goes header some trees right settled pass have reads own word script c
   plain_goes cell (Tree file) small plain c held = shows_tree_goes file c
@@ -103,7 +103,7 @@ module _ (header : OneHeader) (some : SomeSplit) (trees : TreeOrPlace) (right : 
   plain_have_outcomes cell words c t held plain =
       has_outcome (work_of cell (form_of words)) c t Anything (plain_goes cell (form_of words) (numbered words) plain c held)
 
-  form_goes : (cell : CellLookup) (form : Form) → IsNumbered form → (c : Contents) → CanSave cell c form → AreBytes c → Undeniable (Goes (work_of cell form) c Anything)
+  form_goes : (cell : CellLookup) (form : Form) → IsNumbered form → (c : Contents) → CanSave cell c form → ContentsAreBytes c → Undeniable (Goes (work_of cell form) c Anything)
   form_goes cell (Run word script) small c can held = surely (plain_goes cell (Run word script) tt tt c held)
   form_goes cell (Compile word script) small c can held = surely (plain_goes cell (Compile word script) tt tt c held)
   form_goes cell (Tree file) small c can held = surely (shows_tree_goes file c)
@@ -122,7 +122,7 @@ module _ (header : OneHeader) (some : SomeSplit) (trees : TreeOrPlace) (right : 
   each_has_outcome cell words c t held can none =
       form_goes cell (form_of words) (numbered words) c can held (λ g. none (has_outcome (work_of cell (form_of words)) c t Anything g))
 
-  whole_goes : (form : Form) → IsNumbered form → (c : Contents) → ((tables : List Named) → CanSave (cell_of tables) c form) → AreBytes c
+  whole_goes : (form : Form) → IsNumbered form → (c : Contents) → ((tables : List Named) → CanSave (cell_of tables) c form) → ContentsAreBytes c
       → Undeniable (Goes (whole_work form) c Anything)
   unfolding whole_work
   whole_goes form small c can held =

@@ -8,7 +8,7 @@ use Rattle.ncs_code.specs.Plain.{PlainOp}
 use Rattle.ncs_code.specs.Spelling.{op_size, IsOp}
 use Rattle.ncs_code.specs.File.{header_size, ops_size, file_length, file_bytes, op_at, leads_well}
 use Rattle.ncs_code.specs.Laws.{PlaceLaws, StandsBehind}
-use Rattle.ncs_text.specs.Assembly.{Writes, IsRemark, Assembles, none, remark, instruction, IsAssembled, StopsAt, IsLarge, LeadsAstray}
+use Rattle.ncs_text.specs.Assembly.{Writes, IsRemark, Assembles, none, remark, instruction, IsAssembled, AssemblyStopsAt, IsLarge, LeadsAstray}
 use Rattle.ncs_text.specs.declared.fault.AsmFault.{AsmFault}
 use Rattle.ncs_text.specs.declared.fault.AsmFault.TheVariants as asm
 use Rattle.ncs_text.specs.Assembly as assembly
@@ -127,7 +127,7 @@ split _ _ _ (instruction at line o lines ops w a) (x ∷ first) op others e =
 -- the text stands for a file, or a test fails that isn't want of memory
 pub data AssemblyComes (text : List ℕ) : Type 0 where
   file : (bytes : List ℕ) → IsAssembled text bytes → AssemblyComes text
-  broken : (fails : AsmFault) → fails ≢ asm.NoMemory → assembly.Fails fails text → AssemblyComes text
+  broken : (fails : AsmFault) → fails ≢ asm.NoMemory → assembly.AssemblyFails fails text → AssemblyComes text
 
 module _ (places : PlaceLaws) (text : List ℕ) where
   astray_in : (ops : List PlainOp) → Assembles header_size (lines_of text) ops → file_length ops ≤ file_limit → (l : Least (LeadsBadly ops)) → StandsBehind ops l.number l.is.op

@@ -20,7 +20,7 @@ use Rattle.table_2da.specs.declared.tables.Named.{Named}
 use Rattle.table_2da.specs.Look.{cell_of}
 use Rattle.module_player.specs.CodePlays.{code_end_text}
 use Rattle.play_worlds.specs.Worlds.{plan_world}
-use Rattle.command_plays.specs.Plays.{played, played_first}
+use Rattle.command_plays.specs.Plays.{plan_played, played_first}
 use Rattle.saved_state.specs.declared.saved.Saved.{Saved}
 use Rattle.state_format.specs.declared.parts.Parts.{Parts as StateParts}
 use Rattle.state_format.specs.Fields.{parts_bytes}
@@ -32,7 +32,7 @@ use Rattle.command_work.specs.Parts.{value_or}
 use Rattle.command_work.specs.Sequences.{Parts, ends_first, goes_on, parts}
 use Rattle.command_work.specs.Comes.{Came, gave, stopped, cut}
 use Rattle.command_sources.specs.Headers as headers
-use Rattle.command_sources.specs.Headers.{table_by, table_in, table_named, table_unless, table_of}
+use Rattle.command_sources.specs.Headers.{table_by, table_in, table_named, table_unless, table_of_word}
 use Rattle.command_sources.specs.Units as units
 use Rattle.command_sources.specs.Units.{PlainScript, unit_by, unit_of}
 use Rattle.command_files.specs.Codes as codes_of
@@ -142,8 +142,8 @@ module _ (P : List ℕ → Type 0) where
   unless_within true word = λ made. tt
   unless_within false word = table_named_within word
 
-  table_within : (word : List ℕ) → Within P (table_of word)
-  unfolding table_of
+  table_within : (word : List ℕ) → Within P (table_of_word word)
+  unfolding table_of_word
   table_within word = unless_within (bytes_eq word (codes "-")) word
 
   tree_by_within : (name : List ℕ) (fate : trees.TreeFate) → Within P (tree_by name fate)
@@ -386,13 +386,13 @@ module _ (to : List ℕ) (r : Result Finished Status) where
   plan_keeps : (cell : CellLookup) (table : EngineTable) (p : Plan) (scripts : List Script) (a : PlainArea) (d d' : Contents) (t t' : List ℕ)
       → Does (plays_plan cell table a p scripts to) d t r d' t' → KeepsBut (λ name. MayLeave r × (name ≡ to)) d d'
   unfolding plays_plan
-  plan_keeps cell table p scripts a d d' t t' does = tells_keeps scripts (played cell table p scripts (plan_world a p)) d d' t t' does
+  plan_keeps cell table p scripts a d d' t t' does = tells_keeps scripts (plan_played cell table p scripts (plan_world a p)) d d' t t' does
 
   play_keeps : (cell : CellLookup) (header area plan : List ℕ) (c c' : Contents) (t t' : List ℕ) → Does (plays cell header area plan to) c t r c' t'
       → KeepsBut (λ name. IsListedFile c plan name ⊎ (MayLeave r × (name ≡ to))) c c'
   unfolding plays plays_under plays_scripts plays_area
   play_keeps cell header area plan c c' t t' does =
-      files_keep (λ table. table) plan (table_of header) (area_named area) (λ table p scripts a. plays_plan cell table a p scripts to) c r (λ name. MayLeave r × (name ≡ to))
+      files_keep (λ table. table) plan (table_of_word header) (area_named area) (λ table p scripts a. plays_plan cell table a p scripts to) c r (λ name. MayLeave r × (name ≡ to))
       (table_within (λ name. IsListedFile c plan name ⊎ (MayLeave r × (name ≡ to))) header) (area_within (λ name. IsListedFile c plan name ⊎ (MayLeave r × (name ≡ to))) area)
       (plan_keeps cell) c' t t' does
 
@@ -469,8 +469,8 @@ names_within list = within_then NoName (file_named list) (names_in list) (read_w
     by_fate (lists.Whole names) = tt
     by_fate (lists.Faulty number) = tt
 
-one_within : (file : List ℕ) → Within NoName (tables.table_of file)
-unfolding tables.table_of tables.table_in
+one_within : (file : List ℕ) → Within NoName (tables.table_in_file file)
+unfolding tables.table_in_file tables.table_in
 one_within file = within_then NoName (file_named file) (tables.table_in file) (read_within NoName file) (λ bytes. by_fate)
   where
     by_fate : (fate : tables.TableFate) → Within NoName (tables.table_by file fate)
@@ -482,7 +482,7 @@ unfolding all_behind one_more
 all_within [] before = tt
 all_within (name ∷ names) before =
     within_then NoName (one_more before name) (λ more. all_behind more names)
-    (within_then NoName (tables.table_of (table_file name)) (λ table. makes (with_table before name table)) (one_within (table_file name)) (λ table made. tt))
+    (within_then NoName (tables.table_in_file (table_file name)) (λ table. makes (with_table before name table)) (one_within (table_file name)) (λ table made. tt))
     (all_within names)
 
 given_within : (list : Option (List ℕ)) → Within NoName (tables_given list)

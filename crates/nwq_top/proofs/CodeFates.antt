@@ -12,7 +12,7 @@ use Rattle.ncs_code.specs.File.{magic, spellings, ops_size, file_length, file_by
 use Rattle.ncs_code.specs.Laws.{SizeLaws, PlaceLaws}
 use Rattle.ncs_file.specs.declared.fault.LoadFault.{LoadFault}
 use Rattle.ncs_file.specs.declared.fault.LoadFault.TheVariants as load
-use Rattle.ncs_file.specs.Loading.{HasHeader, Fails}
+use Rattle.ncs_file.specs.Loading.{HasHeader, LoadFails}
 use Rattle.nwq_top.proofs.Undeniable.{Least, search_below}
 use Rattle.nwq_top.proofs.Decoding.{Spelled, begins_spelled}
 
@@ -87,7 +87,7 @@ module _ (ops : List PlainOp) where
 -- the bytes are those of instructions, or a test fails that isn't want of memory
 pub data CodeComes (bytes : List ℕ) : Type 0 where
   code : (ops : List PlainOp) → IsCode ops → bytes ≡ file_bytes ops → CodeComes bytes
-  broken : (fails : LoadFault) → fails ≢ load.NoMemory → Fails fails bytes → CodeComes bytes
+  broken : (fails : LoadFault) → fails ≢ load.NoMemory → LoadFails fails bytes → CodeComes bytes
 
 header_length : (n : ℕ) → length (magic ++ four n) ≡ 13
 unfolding four

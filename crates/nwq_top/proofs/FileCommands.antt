@@ -13,7 +13,7 @@ use Rattle.command_work.specs.Parts.{then_ok, then_err}
 use Rattle.command_work.specs.Outcomes.{IsSure, agree}
 use Rattle.command_work.specs.Reading.{IsRead, IsUnread}
 use Rattle.command_work.specs.Comes.{Came, cut, gives_does, refused_does, refusal_not_cut, Follows, follows, ends, cuts, then_follows, given_comes, refusal_comes, then_comes, read_does, unread_does, file_comes}
-use Rattle.command_sources.specs.Headers.{table_of}
+use Rattle.command_sources.specs.Headers.{table_of_word}
 use Rattle.command_files.specs.Assemblies as assemblies
 use Rattle.command_files.specs.Assemblies.{assembly_in, assembly_named}
 use Rattle.command_files.specs.Trees.{tree_named}
@@ -156,21 +156,21 @@ module _ (sure : SureChecks) (header file : List ℕ) (c : Contents) (t : List �
 
   check_refuses : (why : Refusal) → RefusesCheck header file c why → Does (checks header file) c t (Err (status_of why)) c (t ++ line_of why)
   unfolding checks checks_under
-  check_refuses why (of_header _ is) = then_err (table_of header) (checks_under file) (status_of why) c c t (t ++ line_of why) (header_refuses c t header why is)
+  check_refuses why (of_header _ is) = then_err (table_of_word header) (checks_under file) (status_of why) c c t (t ++ line_of why) (header_refuses c t header why is)
   check_refuses why (of_code table _ has_header is) =
-      then_ok (table_of header) (checks_under file) table c c c t t (t ++ line_of why) (Err (status_of why)) (header_does c t header table has_header)
+      then_ok (table_of_word header) (checks_under file) table c c c t t (t ++ line_of why) (Err (status_of why)) (header_does c t header table has_header)
       (then_err (checked_named table file) puts_passed (status_of why) c c t (t ++ line_of why) (binary_refuses table c t file why is))
 
   check_passes : (ops : List PlainOp) → PassesCheck header file c ops → Does (checks header file) c t (Ok tt) c (t ++ passed_line (length ops))
   unfolding checks checks_under
   check_passes ops h =
-      then_ok (table_of header) (checks_under file) h.table c c c t t (t ++ passed_line (length ops)) (Ok tt) (header_does c t header h.table h.has_header)
+      then_ok (table_of_word header) (checks_under file) h.table c c c t t (t ++ passed_line (length ops)) (Ok tt) (header_does c t header h.table h.has_header)
       (then_ok (checked_named h.table file) puts_passed ops c c c t t (t ++ passed_line (length ops)) (Ok tt) (binary_does h.table c t file ops h.code)
       (put_does (passed_line (length ops)) c t))
 
   check_comes : Does (checks header file) c t r c' t' → CheckComes
   unfolding checks
-  check_comes does = table_comes (then_follows (checks_under file) (HasHeader c header) (RefusesHeader c header) c t r c' t' (table_of header) (header_comes c t header) does)
+  check_comes does = table_comes (then_follows (checks_under file) (HasHeader c header) (RefusesHeader c header) c t r c' t' (table_of_word header) (header_comes c t header) does)
 
   pub check_means : Does (checks header file) c t r c' t' → MeansCheck header file c t r c' t'
   check_means does = record {

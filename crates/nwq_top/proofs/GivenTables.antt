@@ -14,7 +14,7 @@ use Rattle.command_work.specs.Comes.{Came, gave, stopped, cut, gives_does, refus
 use Rattle.command_tables.specs.Lists as lists
 use Rattle.command_tables.specs.Lists.{names_in, names_listed}
 use Rattle.command_tables.specs.Tables as tables_of
-use Rattle.command_tables.specs.Tables.{table_file, table_in, table_of, with_table, one_more, all_behind, tables_listed, tables_given}
+use Rattle.command_tables.specs.Tables.{table_file, table_in, table_in_file, with_table, one_more, all_behind, tables_listed, tables_given}
 use Rattle.nwq_top.specs.GivenTables as given
 use Rattle.nwq_top.specs.GivenTables.{ReadsList, RefusesList, ReadsTable, RefusesTable, HasTables, RefusesTables, GivesTables, RefusesGiven}
 
@@ -64,14 +64,14 @@ record IsMore (c : Contents) (before : List Named) (name : List ℕ) (all : List
   are : all ≡ with_table before name table
 
 module _ (c : Contents) (t : List ℕ) (name : List ℕ) where
-  table_does : (table : PlainTable) → ReadsTable c name table → Does (table_of (table_file name)) c t (Ok table) c t
-  unfolding table_of table_in
+  table_does : (table : PlainTable) → ReadsTable c name table → Does (table_in_file (table_file name)) c t (Ok table) c t
+  unfolding table_in_file table_in
   table_does table h =
       then_ok (file_named (table_file name)) (table_in (table_file name)) h.bytes c c c t t t (Ok table) (read_does c t (table_file name) h.bytes h.read)
       (inr (record { found = tables_of.Whole table; is = tables_of.whole table h.has; goes = gives_does table c t }))
 
-  table_refuses : (why : Refusal) → RefusesTable c name why → Does (table_of (table_file name)) c t (Err (status_of why)) c (t ++ line_of why)
-  unfolding table_of table_in
+  table_refuses : (why : Refusal) → RefusesTable c name why → Does (table_in_file (table_file name)) c t (Err (status_of why)) c (t ++ line_of why)
+  unfolding table_in_file table_in
   table_refuses why (given.unread _ is) =
       then_err (file_named (table_file name)) (table_in (table_file name)) (status_of why) c c t (t ++ line_of why) (unread_does c t (table_file name) why is)
   table_refuses why (given.faulty bytes read number is) =
@@ -95,8 +95,8 @@ module _ (c : Contents) (t : List ℕ) (name : List ℕ) where
     table_in_comes bytes read (inl x) = cut x.0
     table_in_comes bytes read (inr h) = table_by bytes read h.found h.is h.goes
 
-    table_comes : Does (table_of (table_file name)) c t r c' t' → TableComes
-    unfolding table_of
+    table_comes : Does (table_in_file (table_file name)) c t r c' t' → TableComes
+    unfolding table_in_file
     table_comes does =
         then_comes (file_named (table_file name)) (table_in (table_file name)) (IsRead c (table_file name)) (IsUnread c (table_file name)) (ReadsTable c name)
         (RefusesTable c name) c t r c' t' (file_comes c t (table_file name)) table_in_comes given.unread does
@@ -106,19 +106,19 @@ module _ (c : Contents) (t : List ℕ) (name : List ℕ) where
     more_does : (table : PlainTable) → ReadsTable c name table → Does (one_more before name) c t (Ok (with_table before name table)) c t
     unfolding one_more
     more_does table h =
-        then_ok (table_of (table_file name)) (λ x. makes (with_table before name x)) table c c c t t t (Ok (with_table before name table)) (table_does table h)
+        then_ok (table_in_file (table_file name)) (λ x. makes (with_table before name x)) table c c c t t t (Ok (with_table before name table)) (table_does table h)
         (makes_does (with_table before name table) (with_table before name table) c c t t refl refl refl)
 
     more_refuses : (why : Refusal) → RefusesTable c name why → Does (one_more before name) c t (Err (status_of why)) c (t ++ line_of why)
     unfolding one_more
     more_refuses why is =
-        then_err (table_of (table_file name)) (λ x. makes (with_table before name x)) (status_of why) c c t (t ++ line_of why) (table_refuses why is)
+        then_err (table_in_file (table_file name)) (λ x. makes (with_table before name x)) (status_of why) c c t (t ++ line_of why) (table_refuses why is)
 
     more_comes : (r : Result (List Named) Status) (c' : Contents) (t' : List ℕ) → Does (one_more before name) c t r c' t'
         → Came (IsMore c before name) (RefusesTable c name) c t r c' t'
     unfolding one_more
     more_comes r c' t' does =
-        then_comes (table_of (table_file name)) (λ x. makes (with_table before name x)) (ReadsTable c name) (RefusesTable c name) (IsMore c before name)
+        then_comes (table_in_file (table_file name)) (λ x. makes (with_table before name x)) (ReadsTable c name) (RefusesTable c name) (IsMore c before name)
         (RefusesTable c name) c t r c' t' table_comes
         (λ x h next. made_comes (IsMore c before name) (RefusesTable c name) c t r c' t' (with_table before name x) (record { table = x; reads = h; are = refl }) next)
         (λ why is. is) does

@@ -6,7 +6,7 @@ use Rattle.std.proofs.lemmas.List.Elements.{recursion_from_All}
 use Rattle.std.specs.FinMap as map
 use Rattle.nwq_value.specs.Limits.{file_limit}
 use Rattle.nwq_value.specs.Engine.{EngineTable}
-use Rattle.nwq_outside.specs.Outside.{Contents, AreBytes}
+use Rattle.nwq_outside.specs.Outside.{Contents, ContentsAreBytes}
 use Rattle.gff_bytes.specs.File.{open_fault}
 use Rattle.gff_bytes.specs.declared.rows.OpenFault.{OpenFault}
 use Rattle.gff_tree.specs.Whole.{PlainGff}
@@ -31,7 +31,7 @@ use Rattle.command_work.specs.declared.flaw.AreaFlaw.{AreaFlaw}
 use Rattle.command_work.specs.declared.flaw.AreaFlaw.TheVariants as area_flaw
 use Rattle.command_work.specs.Work.{file_named, puts, writes}
 use Rattle.command_work.specs.Reading.{IsRead}
-use Rattle.command_sources.specs.Headers.{table_of}
+use Rattle.command_sources.specs.Headers.{table_of_word}
 use Rattle.command_files.specs.Trees.{TreeFate, IsTreeFate, open_flaw, tree_flaw, tree_by, tree_in, tree_named}
 use Rattle.command_files.specs.Trees as trees
 use Rattle.command_files.specs.Codes.{CodeFate, IsCodeFate, load_flaw, code_by, code_in, code_named}
@@ -115,8 +115,8 @@ pub data IsSomeFile (bytes : List ℕ) : Type 0 where
 abbrev pub AreFiles : Contents → Type 0
 AreFiles c = (name bytes : List ℕ) → map.get c name ≡ Some bytes → IsSomeFile bytes
 
-pub files_of_bytes : (c : Contents) → AreBytes c → AreFiles c
-unfolding AreBytes
+pub files_of_bytes : (c : Contents) → ContentsAreBytes c → AreFiles c
+unfolding ContentsAreBytes
 files_of_bytes c held name bytes is = are_bytes (recursion_from_All IsByte bytes (held name bytes is))
 
 module _ (sizes : SizeLaws) (places : PlaceLaws) where
@@ -168,7 +168,7 @@ module _ (sizes : SizeLaws) (places : PlaceLaws) where
   pub check_goes : OneHeader → (word name : List ℕ) (c : Contents) → AreFiles c → Undeniable (Goes (checks word name) c Anything)
   unfolding checks checks_under puts
   check_goes header word name c held =
-      goes_both (table_of word) (checks_under name) c (Still c (HasHeader c word)) Anything (surely (table_goes header word c))
+      goes_both (table_of_word word) (checks_under name) c (Still c (HasHeader c word)) Anything (surely (table_goes header word c))
       (λ table d is. goes_both (checked_named table name) puts_passed d (Still d (HasCode table d name)) Anything
       (binary_goes table name d (subst AreFiles (sym is.0) held)) (λ ops e same. surely tt))
 

@@ -8,7 +8,7 @@ use Rattle.std.specs.Ordering.{nat_cmp, is_eq}
 use Rattle.std.specs.FinMap as map
 use Rattle.nwq_value.specs.Limits.{file_limit}
 use Rattle.nwq_value.specs.Engine.{EngineTable, IsTable}
-use Rattle.nwq_outside.specs.Outside.{Contents, AreBytes}
+use Rattle.nwq_outside.specs.Outside.{Contents, ContentsAreBytes}
 use Rattle.gff_tree.specs.Whole.{PlainGff}
 use Rattle.gff_write.specs.declared.fault.WriteFault.TheVariants as write_fault
 use Rattle.gff_write.specs.File.{written, outcome_of}
@@ -34,7 +34,7 @@ use Rattle.typing_rules.specs.Laws.{VerdictsAreRight, NoneKeptIsTyped}
 use Rattle.command_work.specs.Work as work
 use Rattle.command_work.specs.Work.{Work, file_named, then, Finished, puts, writes}
 use Rattle.command_work.specs.Reading.{IsRead}
-use Rattle.command_sources.specs.Headers.{table_of}
+use Rattle.command_sources.specs.Headers.{table_of_word}
 use Rattle.command_files.specs.Checks.{checked_named, loaded_in}
 use Rattle.command_files.specs.Trees.{tree_named}
 use Rattle.command_compile.specs.Files.{code_name, compiled_named}
@@ -121,7 +121,7 @@ pub record AreFine (c : Contents) : Type 0 where
   pub sources : HoldBytes c
   pub files : AreFiles c
 
-pub fine_bytes : (c : Contents) → AreBytes c → AreFine c
+pub fine_bytes : (c : Contents) → ContentsAreBytes c → AreFine c
 fine_bytes c held = record { sources = source_bytes c held; files = files_of_bytes c held }
 
 one_file : (b : Bool) (file bytes : List ℕ) (other : Option (List ℕ)) → IsSomeFile file → (other ≡ Some bytes → IsSomeFile bytes) → cond b (Some file) other ≡ Some bytes → IsSomeFile bytes
@@ -221,7 +221,7 @@ module _ (header : OneHeader) (some : SomeSplit) (trees : TreeOrPlace) (right : 
 
   -- ---- the plays
 
-  module _ (cell : CellLookup) (word area to : List ℕ) (c : Contents) (held : AreBytes c) where
+  module _ (cell : CellLookup) (word area to : List ℕ) (c : Contents) (held : ContentsAreBytes c) where
     area_plays : (table : EngineTable) (plan : Plan) (scripts : List Script) (d : Contents) → Goes (plays_area cell table area plan to scripts) d Anything
     unfolding plays_area plays_plan
     area_plays table plan scripts d =
@@ -238,7 +238,7 @@ module _ (header : OneHeader) (some : SomeSplit) (trees : TreeOrPlace) (right : 
     unfolding plays_under
     header_plays plan d same =
         subst (λ x. Undeniable (Goes (plays_under cell word area to plan) x Anything)) (sym same)
-        (goes_both (table_of word) (plays_scripts cell area plan to) c (Still c (HasHeader c word)) Anything (surely (table_goes header word c)) (scripts_play plan))
+        (goes_both (table_of_word word) (plays_scripts cell area plan to) c (Still c (HasHeader c word)) Anything (surely (table_goes header word c)) (scripts_play plan))
 
     pub play_goes : (plan : List ℕ) → Undeniable (Goes (games.plays cell word area plan to) c Anything)
     unfolding games.plays

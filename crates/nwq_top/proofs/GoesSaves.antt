@@ -3,7 +3,7 @@
 use Rattle.std.proofs.Common.{◌≡◌, ◌≢◌, ℕ, nat_lt, Bool, true, false, List, [], ◌∷◌, length, codes, bytes_eq, refl, sym, subst}
 use Rattle.nwq_value.specs.Limits.{file_limit}
 use Rattle.nwq_value.specs.Engine.{IsTable}
-use Rattle.nwq_outside.specs.Outside.{Contents, AreBytes}
+use Rattle.nwq_outside.specs.Outside.{Contents, ContentsAreBytes}
 use Rattle.gff_tree.specs.Whole.{PlainGff}
 use Rattle.gff_read.specs.Stands.{Stands}
 use Rattle.area_rules.specs.Broken.{Place, broken_places}
@@ -135,7 +135,7 @@ module _ (h : HeaderFile) (file : List ℕ) (p : Plan) (scripts : List Script) (
 
 module _ (header : OneHeader) (some : SomeSplit) (trees : TreeOrPlace) (right : VerdictsAreRight) (settled : NoneKeptIsTyped) (pass : UnitsPass) (have : ScriptsHaveUnits)
     (reads : HeadersHaveTables) (own : BuiltInIsTable) (sizes : SizeLaws) (places : PlaceLaws) (code : CodeIsBytes) (states : FirstEntriesHaveStates) (plans : PlansKeep)
-    (cell : CellLookup) (word area plan : List ℕ) (n : ℕ) (name : List ℕ) (c : Contents) (held : AreBytes c) (room : SavedHasRoom cell word area plan n c) where
+    (cell : CellLookup) (word area plan : List ℕ) (n : ℕ) (name : List ℕ) (c : Contents) (held : ContentsAreBytes c) (room : SavedHasRoom cell word area plan n c) where
   area_saves : (p : Plan) → ReadsPlan c plan p → (h : HeaderFile) → HasHeaderFile c word h → (scripts : List Script) (left : Contents) → HasScripts h.table p.scripts c scripts left
       → Undeniable (Goes (saves_area cell h area p n name scripts) left Anything)
   unfolding saves_area saves_plan

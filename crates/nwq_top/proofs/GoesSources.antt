@@ -5,7 +5,7 @@ use Rattle.std.specs.FinMap as map
 use Rattle.nwq_value.specs.Limits.{file_limit}
 use Rattle.nwq_value.specs.Engine.{EngineTable, IsTable}
 use Rattle.nwq_value.specs.HeaderTable.{header_table}
-use Rattle.nwq_outside.specs.Outside.{Contents, AreBytes}
+use Rattle.nwq_outside.specs.Outside.{Contents, ContentsAreBytes}
 use Rattle.nss_lexer.specs.Splitting.{Lexeme, SomeSplit}
 use Rattle.nss_tree.specs.Source.{SourceTree}
 use Rattle.nss_symbols.specs.Nest.{IsFirstOver, IsWithinNest}
@@ -34,7 +34,7 @@ use Rattle.generator_laws.specs.Scripts.{SourcesCompile}
 use Rattle.command_work.specs.declared.cause.Cause.TheVariants as cause
 use Rattle.command_work.specs.Work.{file_named, puts, writes}
 use Rattle.command_work.specs.Reading.{IsRead}
-use Rattle.command_sources.specs.Headers.{HeaderFate, IsHeaderFate, table_by, table_in, table_named, table_unless, table_of}
+use Rattle.command_sources.specs.Headers.{HeaderFate, IsHeaderFate, table_by, table_in, table_named, table_unless, table_of_word}
 use Rattle.command_sources.specs.Headers as headers
 use Rattle.command_sources.specs.Units.{PlainScript, UnitFate, IsUnitFate, grammar_symbols, unit_by, unit_of, spot_at}
 use Rattle.command_sources.specs.Units as units
@@ -96,8 +96,8 @@ module _ (header : OneHeader) where
     unless_goes false e =
         goes_next (file_named word) (table_in word) c (Still c (IsRead c word)) (Still c (HasHeader c word)) (file_goes word c) (in_goes e)
 
-    pub table_goes : Goes (table_of word) c (Still c (HasHeader c word))
-    unfolding table_of
+    pub table_goes : Goes (table_of_word word) c (Still c (HasHeader c word))
+    unfolding table_of_word
     table_goes = unless_goes (bytes_eq word (codes "-")) refl
 
 -- ---- a script's unit
@@ -204,7 +204,7 @@ module _ (header : OneHeader) (some : SomeSplit) (trees : TreeOrPlace) (right : 
   pub made_passes : (table : EngineTable) (c : Contents) (name bytes : List ℕ) → IsTable table → HoldBytes c → (made : IsMade table c name bytes) → Passes table made.unit
   made_passes table c name bytes kept held made = pass table made.unit kept (have table c name made.unit held made.script) made.small
 
-  module _ (cell : CellLookup) (word script : List ℕ) (c : Contents) (held : AreBytes c) where
+  module _ (cell : CellLookup) (word script : List ℕ) (c : Contents) (held : ContentsAreBytes c) where
     played_goes : (table : EngineTable) (name : List ℕ) (ops : List PlainOp) (d : Contents) → Goes (plays_code cell table name ops) d Anything
     unfolding plays_code
     played_goes table name ops d = end_goes _ d
@@ -228,7 +228,7 @@ module _ (header : OneHeader) (some : SomeSplit) (trees : TreeOrPlace) (right : 
 
     pub run_goes : Goes (runs cell word script) c Anything
     unfolding runs
-    run_goes = goes_next (table_of word) (runs_under cell script) c (Still c (HasHeader c word)) Anything (table_goes header word c) run_script_goes
+    run_goes = goes_next (table_of_word word) (runs_under cell script) c (Still c (HasHeader c word)) Anything (table_goes header word c) run_script_goes
 
   written_goes : (name bytes line : List ℕ) (c : Contents) → Goes (writes_and_puts name bytes line) c Anything
   unfolding writes_and_puts writes puts
@@ -243,7 +243,7 @@ module _ (header : OneHeader) (some : SomeSplit) (trees : TreeOrPlace) (right : 
 
     pub compile_goes : Goes (compiles word script) c Anything
     unfolding compiles
-    compile_goes = goes_next (table_of word) (compiles_under script) c (Still c (HasHeader c word)) Anything (table_goes header word c) compile_script_goes
+    compile_goes = goes_next (table_of_word word) (compiles_under script) c (Still c (HasHeader c word)) Anything (table_goes header word c) compile_script_goes
 
   module _ (made : SourcesCompile) (cell : CellLookup) (n : ℕ) (few : n ≤ number_limit) where
     source_held : map.get (made_files n) (codes "beat.nss") ≡ Some (play_of n).source

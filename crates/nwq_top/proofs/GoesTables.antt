@@ -9,7 +9,7 @@ use Rattle.table_2da.specs.Table.{PlainTable}
 use Rattle.command_work.specs.Work.{makes, file_named}
 use Rattle.command_work.specs.Reading.{IsRead}
 use Rattle.command_tables.specs.Lists.{may_follow, AreNames, ListFate, Whole, Faulty, IsListFate, whole, faulty, names_by, names_in, names_listed}
-use Rattle.command_tables.specs.Tables.{TableFate, IsTableFate, table_by, table_in, table_of, table_file, with_table, one_more, all_behind, tables_listed, tables_given}
+use Rattle.command_tables.specs.Tables.{TableFate, IsTableFate, table_by, table_in, table_in_file, table_file, with_table, one_more, all_behind, tables_listed, tables_given}
 use Rattle.command_tables.specs.Tables as tables
 use Rattle.nwq_top.proofs.Undeniable.{Undeniable, surely, by_it, with_it, either_way, Least, least_one}
 use Rattle.nwq_top.proofs.Going.{Goes, Still, goes_both, file_goes}
@@ -101,8 +101,8 @@ table_fated : (bytes : List ℕ) → (r : Result PlainTable ℕ) → GivesOf byt
 table_fated bytes (Ok table) h = (tables.Whole table, tables.whole table h)
 table_fated bytes (Err line) h = (tables.Faulty line, tables.faulty line h)
 
-one_goes : (file : List ℕ) (c : Contents) → Undeniable (Goes (table_of file) c (λ table d. d ≡ c))
-unfolding table_of table_in
+one_goes : (file : List ℕ) (c : Contents) → Undeniable (Goes (table_in_file file) c (λ table d. d ≡ c))
+unfolding table_in_file table_in
 one_goes file c =
     goes_both (file_named file) (table_in file) c (Still c (IsRead c file)) (λ table d. d ≡ c) (surely (file_goes file c))
     (λ bytes d is. with_it (table_comes bytes) (λ k. let f = table_fated bytes k.0 k.1 in (f.0, f.1, by_fate f.0 d is.0)))
@@ -115,7 +115,7 @@ one_goes file c =
 more_goes : (c : Contents) (before : List Named) (name : List ℕ) (d : Contents) → d ≡ c → Undeniable (Goes (one_more before name) d (λ more e. e ≡ c))
 unfolding one_more
 more_goes c before name d same =
-    goes_both (table_of (table_file name)) (λ table. makes (with_table before name table)) d (λ table e. e ≡ d) (λ more e. e ≡ c) (one_goes (table_file name) d)
+    goes_both (table_in_file (table_file name)) (λ table. makes (with_table before name table)) d (λ table e. e ≡ d) (λ more e. e ≡ c) (one_goes (table_file name) d)
     (λ table e is. surely (with_table before name table, refl, is ∙ same))
 
 all_go : (c : Contents) (names : List (List ℕ)) (before : List Named) (d : Contents) → d ≡ c → Undeniable (Goes (all_behind before names) d (λ all e. e ≡ c))

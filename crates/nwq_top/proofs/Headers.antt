@@ -3,7 +3,7 @@ use Rattle.std.proofs.Common.{◌≡◌, inl, inr, Bool, true, false, ℕ, List,
 use Rattle.nwq_value.specs.Engine.{EngineTable, IsTable}
 use Rattle.nwq_value.specs.HeaderTable.{header_table}
 use Rattle.nwq_text.specs.Line.{line_number}
-use Rattle.nwq_outside.specs.Outside.{Contents, AreBytes}
+use Rattle.nwq_outside.specs.Outside.{Contents, ContentsAreBytes}
 use Rattle.engine_table.specs.KeptTables.{HeadersHaveTables, BuiltInIsTable}
 use Rattle.command_work.specs.declared.status.Status.{Status}
 use Rattle.command_work.specs.Refusal.{Refusal, At, line_of, status_of}
@@ -11,7 +11,7 @@ use Rattle.command_work.specs.Work.{Gives, then, Does, file_named}
 use Rattle.command_work.specs.Parts.{then_ok, then_err, makes_does}
 use Rattle.command_work.specs.Reading.{IsRead, IsUnread}
 use Rattle.command_work.specs.Comes.{Came, cut, gives_does, refused_does, given_comes, made_comes, refusal_comes, then_comes, read_does, unread_does, file_comes}
-use Rattle.command_sources.specs.Headers.{HeaderFate, Whole, Faulty, IsHeaderFate, whole, table_by, table_in, table_named, table_unless, table_of}
+use Rattle.command_sources.specs.Headers.{HeaderFate, Whole, Faulty, IsHeaderFate, whole, table_by, table_in, table_named, table_unless, table_of_word}
 use Rattle.command_save.specs.declared.inputs.HeaderFile.{HeaderFile}
 use Rattle.command_save.specs.Inputs as inputs
 use Rattle.command_save.specs.Inputs.{header_file, header_in, header_named, header_unless, header_of}
@@ -30,16 +30,16 @@ module _ (c : Contents) (t : List ℕ) (word : List ℕ) where
   unless_named r c' t' true e does = absurd cc
   unless_named r c' t' false e does = does
 
-  pub header_does : (table : EngineTable) → HasHeader c word table → Does (table_of word) c t (Ok table) c t
-  unfolding table_of table_named table_in
+  pub header_does : (table : EngineTable) → HasHeader c word table → Does (table_of_word word) c t (Ok table) c t
+  unfolding table_of_word table_named table_in
   header_does table (built_in e) = unless_built (bytes_eq word (codes "-")) e
   header_does table (read e bytes is _ has) =
       unless_named (Ok table) c t (bytes_eq word (codes "-")) e
       (then_ok (file_named word) (table_in word) bytes c c c t t t (Ok table) (read_does c t word bytes is)
       (inr (record { found = Whole table; is = whole table has; goes = gives_does table c t })))
 
-  pub header_refuses : (why : Refusal) → RefusesHeader c word why → Does (table_of word) c t (Err (status_of why)) c (t ++ line_of why)
-  unfolding table_of table_named table_in
+  pub header_refuses : (why : Refusal) → RefusesHeader c word why → Does (table_of_word word) c t (Err (status_of why)) c (t ++ line_of why)
+  unfolding table_of_word table_named table_in
   header_refuses why (unread e _ is) =
       unless_named (Err (status_of why)) c (t ++ line_of why) (bytes_eq word (codes "-")) e
       (then_err (file_named word) (table_in word) (status_of why) c c t (t ++ line_of why) (unread_does c t word why is))
@@ -71,8 +71,8 @@ module _ (c : Contents) (t : List ℕ) (word : List ℕ) where
         then_comes (file_named word) (table_in word) (IsRead c word) (IsUnread c word) (HasHeader c word) (RefusesHeader c word) c t r c' t'
         (file_comes c t word) (table_comes e) (unread e) does
 
-    pub header_comes : Does (table_of word) c t r c' t' → HeaderComes
-    unfolding table_of
+    pub header_comes : Does (table_of_word word) c t r c' t' → HeaderComes
+    unfolding table_of_word
     header_comes does = word_comes (bytes_eq word (codes "-")) refl does
 
 -- ---- with the bytes of its file
@@ -148,7 +148,7 @@ file_of_header c word table (built_in e) = record { header = inputs.built_in; ha
 file_of_header c word table (read e bytes is _ has) = record { header = header_file bytes table; has = saves.read e bytes is table has; same = refl }
 
 -- the table of a header keeps what every table keeps
-pub is_table : HeadersHaveTables → BuiltInIsTable → (c : Contents) (word : List ℕ) (table : EngineTable) → AreBytes c → HasHeader c word table → IsTable table
-unfolding AreBytes
+pub is_table : HeadersHaveTables → BuiltInIsTable → (c : Contents) (word : List ℕ) (table : EngineTable) → ContentsAreBytes c → HasHeader c word table → IsTable table
+unfolding ContentsAreBytes
 is_table reads own c word table held (built_in e) = own
 is_table reads own c word table held (read e bytes is _ has) = reads bytes table (held word bytes is.held) has

@@ -4,7 +4,7 @@ use Rattle.nwq_outside.specs.Outside.{Contents}
 use Rattle.world_rules.specs.Pure.{CellLookup}
 use Rattle.command_work.specs.declared.status.Status.{Status}
 use Rattle.command_work.specs.Work.{then, IsCut, Does, Finished, ending}
-use Rattle.command_sources.specs.Headers.{table_of}
+use Rattle.command_sources.specs.Headers.{table_of_word}
 use Rattle.command_compile.specs.Files.{code_name, compiled_named}
 use Rattle.command_plays.specs.Scripts.{plays_file}
 use Rattle.nwq_top.specs.WordLaws.{RunsMean, CompilesMean, PlaysMean, SavesMean, ResumesMean, GeneratesMean}
@@ -18,7 +18,7 @@ use Rattle.nwq_top.proofs.FileCommands.{tree_means, check_means, disassembles_me
 -- the parts of a run in a row
 as_parts : (cell : CellLookup) (header script : List ℕ) (c : Contents) (t : List ℕ) (r : Result Finished Status) (c' : Contents) (t' : List ℕ)
     → Does (runs cell header script) c t r c' t'
-    → Does (then (table_of header) (λ table. then (compiled_named table script) (plays_file cell table script (code_name script)))) c t r c' t'
+    → Does (then (table_of_word header) (λ table. then (compiled_named table script) (plays_file cell table script (code_name script)))) c t r c' t'
 unfolding runs runs_under
 as_parts cell header script c t r c' t' does = does
 

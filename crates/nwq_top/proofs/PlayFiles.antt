@@ -3,7 +3,7 @@
 -- saved needs the bytes of their files too.
 use Rattle.std.proofs.Common.{ℕ, List, [], ◌++◌, Result, Ok, Err, sym, subst, ap}
 use Rattle.nwq_value.specs.Engine.{EngineTable}
-use Rattle.nwq_outside.specs.Outside.{Contents, AreBytes}
+use Rattle.nwq_outside.specs.Outside.{Contents, ContentsAreBytes}
 use Rattle.plan_text.specs.declared.plan.Plan.{Plan}
 use Rattle.machine_rules.specs.Machine.{Script}
 use Rattle.typing_laws.specs.FaultLaws.{LeastIsTheKept}
@@ -82,7 +82,7 @@ module _ (pass : UnitsPass) (units : ScriptsHaveUnits) (least : LeastIsTheKept) 
     abbrev pub plan_part : Work Finished
     plan_part = then (plan_named plan) header_part
 
-    module _ (c : Contents) (t : List ℕ) (r : Result Finished Status) (c' : Contents) (t' : List ℕ) (held : AreBytes c) (whole : IsCut r → ⊥) where
+    module _ (c : Contents) (t : List ℕ) (r : Result Finished Status) (c' : Contents) (t' : List ℕ) (held : ContentsAreBytes c) (whole : IsCut r → ⊥) where
       abbrev Comes : Type 0
       Comes = FilesCome table_in HasH HasA header area plan c
 

@@ -2,7 +2,7 @@
 use Rattle.std.proofs.Common.{◌≡◌, ℕ, List, ◌++◌, map, Result, Ok, Err, refl, sym, ap, ◌∙◌, inl, inr, append_assoc}
 use Rattle.std.specs.FinMap as fin_map
 use Rattle.nwq_value.specs.Engine.{EngineTable, IsTable}
-use Rattle.nwq_outside.specs.Outside.{Contents, AreBytes}
+use Rattle.nwq_outside.specs.Outside.{Contents, ContentsAreBytes}
 use Rattle.gff_write.specs.declared.fault.WriteFault.{WriteFault}
 use Rattle.gff_write.specs.File.{written, outcome_of}
 use Rattle.area_rules.specs.Area.{PlainArea}
@@ -22,7 +22,7 @@ use Rattle.command_work.specs.declared.status.Status.{Status}
 use Rattle.command_work.specs.Refusal.{Refusal}
 use Rattle.command_work.specs.Work.{Work, Puts, then, puts, writes, IsCut, Does, Finished}
 use Rattle.command_work.specs.Comes.{refusal_not_cut}
-use Rattle.command_sources.specs.Headers.{table_of}
+use Rattle.command_sources.specs.Headers.{table_of_word}
 use Rattle.command_sources.specs.Laws.{SureTables}
 use Rattle.play_inputs.specs.Areas.{area_named}
 use Rattle.play_inputs.specs.Finals.{final_by, final_written}
@@ -52,8 +52,8 @@ use Rattle.nwq_top.proofs.Running.{not_stopped, source_bytes, as_refused}
 module _ (pass : UnitsPass) (units : ScriptsHaveUnits) (least : LeastIsTheKept) (reads : HeadersHaveTables) (own : BuiltInIsTable)
     (plans : SurePlans) (tables : SureTables) (loaded : SureLoaded) (lists : SureListed) (areas : SureAreas) (games : SurePlays) where
   module _ (cell : CellLookup) (header area plan to : List ℕ) (c : Contents) (t : List ℕ) (r : Result Finished Status) (c' : Contents) (t' : List ℕ)
-      (held : AreBytes c) (whole : IsCut r → ⊥) where
-    abbrev header_reading : ReadsHeaderBy (λ table. table) (table_of header) header (λ d. HasHeader d header)
+      (held : ContentsAreBytes c) (whole : IsCut r → ⊥) where
+    abbrev header_reading : ReadsHeaderBy (λ table. table) (table_of_word header) header (λ d. HasHeader d header)
     header_reading = record {
       does = λ d k table has. header_does d k header table has;
       refuses = λ d k why is. header_refuses d k header why is;
@@ -82,21 +82,21 @@ module _ (pass : UnitsPass) (units : ScriptsHaveUnits) (least : LeastIsTheKept) 
     play_comes : Does (plays cell header area plan to) c t r c' t' → PlayComes header area plan c
     unfolding plays plays_under plays_scripts plays_area
     play_comes does =
-        as_comes (files_come pass units least reads own plans loaded lists (λ table. table) header area plan (table_of header) (λ d. HasHeader d header) header_reading
+        as_comes (files_come pass units least reads own plans loaded lists (λ table. table) header area plan (table_of_word header) (λ d. HasHeader d header) header_reading
         (area_named area) (λ d. ReadsArea d area) area_reading final c t r c' t' held whole does)
 
     play_refused : (why : Refusal) (left : Contents) → RefusesPlay header area plan c why left → Does (plays cell header area plan to) c t r c' t' → IsRefused why left t r c' t'
     unfolding plays plays_under plays_scripts plays_area
     play_refused why left is does =
         as_refused (plays cell header area plan to) (games cell header area plan to) why c left c' t t' r whole (refusal_not_cut why)
-        (files_refuse pass units least reads own plans loaded lists (λ table. table) header area plan (table_of header) (λ d. HasHeader d header) header_reading
+        (files_refuse pass units least reads own plans loaded lists (λ table. table) header area plan (table_of_word header) (λ d. HasHeader d header) header_reading
         (area_named area) (λ d. ReadsArea d area) area_reading final c t why left is) does
 
     play_goes : (table : EngineTable) (p : Plan) (scripts : List Script) (a : PlainArea) (left : Contents) → AcceptsPlay header area plan c table p scripts a left
         → Does (plays cell header area plan to) c t r c' t' → Does (plays_plan cell table a p scripts to) left t r c' t'
     unfolding plays plays_under plays_scripts plays_area
     play_goes table p scripts a left h does =
-        files_go pass units least reads own plans loaded lists (λ x. x) header area plan (table_of header) (λ d. HasHeader d header) header_reading
+        files_go pass units least reads own plans loaded lists (λ x. x) header area plan (table_of_word header) (λ d. HasHeader d header) header_reading
         (area_named area) (λ d. ReadsArea d area) area_reading final c t r c' t' held whole table p scripts a left
         (record { reads_plan = h.reads_plan; has_header = h.has_header; lists = h.lists; reads_area = h.reads_area }) does
 
@@ -125,7 +125,7 @@ module _ (pass : UnitsPass) (units : ScriptsHaveUnits) (least : LeastIsTheKept) 
 
   module _ (few : FewStepsPlayAsMeant) (unstopped : UnstoppedPlansPlayAsMeant) (stopped : StoppedPlansBeginAsMeant) (no_fault : CheckedPlaysHaveNoFault) where
     sources_mean : (cell : CellLookup) (header area plan to : List ℕ) (c : Contents) (t : List ℕ) (r : Result Finished Status) (c' : Contents) (t' : List ℕ)
-        → AreBytes c → (IsCut r → ⊥) → Does (plays cell header area plan to) c t r c' t'
+        → ContentsAreBytes c → (IsCut r → ⊥) → Does (plays cell header area plan to) c t r c' t'
         → (table : EngineTable) (p : Plan) (listed : List Listed) (a : PlainArea) (left : Contents)
         → AcceptsSources header area plan c table p listed a left → MeansSources cell table a p listed to left t r c' t'
     sources_mean cell header area plan to c t r c' t' held whole does table p listed a left h =

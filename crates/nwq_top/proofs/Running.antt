@@ -1,7 +1,7 @@
 -- What `run` and `compile` do.
 use Rattle.std.proofs.Common.{◌≡◌, inl, inr, ℕ, List, [], ◌∷◌, ◌++◌, length, Result, Err, sym, ap, ◌∙◌}
 use Rattle.nwq_value.specs.Engine.{EngineTable, IsTable}
-use Rattle.nwq_outside.specs.Outside.{Contents, AreBytes}
+use Rattle.nwq_outside.specs.Outside.{Contents, ContentsAreBytes}
 use Rattle.nss_include.specs.Names.{file_name}
 use Rattle.typing_rules.specs.Typed.{TypedUnit}
 use Rattle.emission_rules.specs.Units.{unit_file}
@@ -14,7 +14,7 @@ use Rattle.command_work.specs.Parts.{then_ok, then_err}
 use Rattle.command_work.specs.Outcomes.{IsSure, agree, sure_then, sure_writes, sure_puts}
 use Rattle.command_work.specs.Sequences.{then_known}
 use Rattle.command_work.specs.Comes.{refusal_not_cut, Follows, follows, ends, cuts, then_follows}
-use Rattle.command_sources.specs.Headers.{table_of}
+use Rattle.command_sources.specs.Headers.{table_of_word}
 use Rattle.command_sources.specs.Laws.{SureTables}
 use Rattle.command_files.specs.Commands.{writes_and_puts}
 use Rattle.command_compile.specs.Files.{code_name, compiled_named, compiled_line, writes_code, compiles_under, compiles}
@@ -46,8 +46,8 @@ use Rattle.nwq_top.proofs.Listing.{compiles as compiles_so}
 pub not_stopped : Done ≡ StoppedInside → ⊥
 not_stopped e = absurd cc
 
-pub source_bytes : (c : Contents) → AreBytes c → HoldBytes c
-unfolding AreBytes
+pub source_bytes : (c : Contents) → ContentsAreBytes c → HoldBytes c
+unfolding ContentsAreBytes
 source_bytes c held name bytes is = held (file_name name) bytes is
 
 -- a work that has one outcome and was done is refused where it can be
@@ -61,10 +61,10 @@ as_refused w sure why c d c' t t' r whole plain could does =
 
 module _ (pass : UnitsPass) (units : ScriptsHaveUnits) (least : LeastIsTheKept) (reads : HeadersHaveTables) (own : BuiltInIsTable) (tables : SureTables) (compiled : SureCompiled) (loaded : SureLoaded) where
   module _ (next : EngineTable → List ℕ → Work Finished) (each : (table : EngineTable) (bytes : List ℕ) → IsSure (next table bytes)) (header script : List ℕ)
-      (c : Contents) (t : List ℕ) (r : Result Finished Status) (c' : Contents) (t' : List ℕ) (held : AreBytes c) (whole : IsCut r → ⊥) where
-    sure_work : IsSure (then (table_of header) (λ table. then (compiled_named table script) (next table)))
+      (c : Contents) (t : List ℕ) (r : Result Finished Status) (c' : Contents) (t' : List ℕ) (held : ContentsAreBytes c) (whole : IsCut r → ⊥) where
+    sure_work : IsSure (then (table_of_word header) (λ table. then (compiled_named table script) (next table)))
     sure_work =
-        sure_then (table_of header) (λ table. then (compiled_named table script) (next table)) (tables header)
+        sure_then (table_of_word header) (λ table. then (compiled_named table script) (next table)) (tables header)
         (λ table. sure_then (compiled_named table script) (next table) (compiled table script) (each table))
 
     source_ends : (table : EngineTable) → HasHeader c header table
@@ -82,30 +82,30 @@ module _ (pass : UnitsPass) (units : ScriptsHaveUnits) (least : LeastIsTheKept) 
     header_ends (ends why is p q o) = refused why (of_header why is)
     header_ends (cuts x) = absurd (whole x)
 
-    pub script_comes : Does (then (table_of header) (λ table. then (compiled_named table script) (next table))) c t r c' t' → ScriptComes header script c
+    pub script_comes : Does (then (table_of_word header) (λ table. then (compiled_named table script) (next table))) c t r c' t' → ScriptComes header script c
     script_comes does =
-        header_ends (then_follows (λ table. then (compiled_named table script) (next table)) (HasHeader c header) (RefusesHeader c header) c t r c' t' (table_of header)
+        header_ends (then_follows (λ table. then (compiled_named table script) (next table)) (HasHeader c header) (RefusesHeader c header) c t r c' t' (table_of_word header)
         (header_comes c t header) does)
 
     could_refuse : (why : Refusal) → RefusesScript header script c why
-        → Does (then (table_of header) (λ table. then (compiled_named table script) (next table))) c t (Err (status_of why)) c (t ++ line_of why)
+        → Does (then (table_of_word header) (λ table. then (compiled_named table script) (next table))) c t (Err (status_of why)) c (t ++ line_of why)
     could_refuse why (of_header _ is) =
-        then_err (table_of header) (λ table. then (compiled_named table script) (next table)) (status_of why) c c t (t ++ line_of why) (header_refuses c t header why is)
+        then_err (table_of_word header) (λ table. then (compiled_named table script) (next table)) (status_of why) c c t (t ++ line_of why) (header_refuses c t header why is)
     could_refuse why (of_source table _ has is) =
-        then_ok (table_of header) (λ x. then (compiled_named x script) (next x)) table c c c t t (t ++ line_of why) (Err (status_of why)) (header_does c t header table has)
+        then_ok (table_of_word header) (λ x. then (compiled_named x script) (next x)) table c c c t t (t ++ line_of why) (Err (status_of why)) (header_does c t header table has)
         (then_err (compiled_named table script) (next table) (status_of why) c c t (t ++ line_of why) (source_refuses table c t script least why is))
 
     pub script_refused : (why : Refusal) → RefusesScript header script c why
-        → Does (then (table_of header) (λ table. then (compiled_named table script) (next table))) c t r c' t' → IsRefused why c t r c' t'
+        → Does (then (table_of_word header) (λ table. then (compiled_named table script) (next table))) c t r c' t' → IsRefused why c t r c' t'
     script_refused why is does =
-        as_refused (then (table_of header) (λ table. then (compiled_named table script) (next table))) sure_work why c c c' t t' r whole (refusal_not_cut why) (could_refuse why is) does
+        as_refused (then (table_of_word header) (λ table. then (compiled_named table script) (next table))) sure_work why c c c' t t' r whole (refusal_not_cut why) (could_refuse why is) does
 
     pub script_goes : (table : EngineTable) (unit : TypedUnit) → AcceptsScript header script c table unit
-        → Does (then (table_of header) (λ x. then (compiled_named x script) (next x))) c t r c' t' → Does (next table (unit_file unit)) c t r c' t'
+        → Does (then (table_of_word header) (λ x. then (compiled_named x script) (next x))) c t r c' t' → Does (next table (unit_file unit)) c t r c' t'
     script_goes table unit h does =
         then_known (compiled_named table script) (next table) (compiled table script) (unit_file unit) c c c' t t t' r whole
         (source_does table c t script unit h.compiles.script h.compiles.small)
-        (then_known (table_of header) (λ x. then (compiled_named x script) (next x)) (tables header) table c c c' t t t' r whole (header_does c t header table h.has_header) does)
+        (then_known (table_of_word header) (λ x. then (compiled_named x script) (next x)) (tables header) table c c c' t t t' r whole (header_does c t header table h.has_header) does)
 
   -- ---- run
 
@@ -154,7 +154,7 @@ module _ (pass : UnitsPass) (units : ScriptsHaveUnits) (least : LeastIsTheKept) 
   written_so script unit c t r c' t' whole (inr (inr (is, s))) = record { answer = is; taken = s.1; contents = s.0 }
 
   as_work : (header script : List ℕ) (c : Contents) (t : List ℕ) (r : Result Finished Status) (c' : Contents) (t' : List ℕ) → Does (compiles header script) c t r c' t'
-      → Does (then (table_of header) (λ table. then (compiled_named table script) (writes_code script))) c t r c' t'
+      → Does (then (table_of_word header) (λ table. then (compiled_named table script) (writes_code script))) c t r c' t'
   unfolding compiles compiles_under
   as_work header script c t r c' t' does = does
 

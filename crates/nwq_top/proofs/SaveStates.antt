@@ -10,7 +10,7 @@ use Rattle.std.specs.Ordering.{nat_cmp, is_eq}
 use Rattle.std.specs.FinMap as fin_map
 use Rattle.nwq_value.specs.Engine.{EngineTable, IsTable}
 use Rattle.nwq_text.specs.Names.{is_script_name}
-use Rattle.nwq_outside.specs.Outside.{Contents, AreBytes}
+use Rattle.nwq_outside.specs.Outside.{Contents, ContentsAreBytes}
 use Rattle.engine_table.specs.KeptTables.{HeadersHaveTables, BuiltInIsTable}
 use Rattle.gff_tree.specs.Whole.{PlainGff}
 use Rattle.area_rules.specs.Area.{PlainArea, area_of}
@@ -53,8 +53,8 @@ ByteList bytes = AllByRecursion (λ b. b < 256) bytes
 abbrev AllBytes : Contents → Type 0
 AllBytes c = (name bytes : List ℕ) → fin_map.get c name ≡ Some bytes → ByteList bytes
 
-all_bytes : (c : Contents) → AreBytes c → AllBytes c
-unfolding AreBytes
+all_bytes : (c : Contents) → ContentsAreBytes c → AllBytes c
+unfolding ContentsAreBytes
 all_bytes c held name bytes is = recursion_from_All (λ b. b < 256) bytes (held name bytes is)
 
 one_bytes : (b : Bool) (file bytes : List ℕ) (other : Option (List ℕ)) → ByteList file → (other ≡ Some bytes → ByteList bytes) → cond b (Some file) other ≡ Some bytes → ByteList bytes
@@ -124,7 +124,7 @@ module _ (code : CodeIsBytes) (table : EngineTable) where
 -- ---- the state
 
 module _ (code : CodeIsBytes) (states : FirstEntriesHaveStates) (plans : PlansKeep) (reads : HeadersHaveTables) (own : BuiltInIsTable)
-    (cell : CellLookup) (word area plan : List ℕ) (n : ℕ) (c : Contents) (held : AreBytes c) where
+    (cell : CellLookup) (word area plan : List ℕ) (n : ℕ) (c : Contents) (held : ContentsAreBytes c) where
   record IsHeaded (h : HeaderFile) : Type 0 where
     headed : IsHeaderOf h.text h.table
     text : IsMaybe IsBlob h.text

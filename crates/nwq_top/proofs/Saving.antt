@@ -6,7 +6,7 @@ use Rattle.std.specs.Prelude.{nat_lt, length, min, ◌==◌, if◌then◌else◌
 use Rattle.std.specs.FinMap as fin_map
 use Rattle.nwq_value.specs.Engine.{EngineTable, IsTable}
 use Rattle.nwq_value.specs.Limits.{file_limit}
-use Rattle.nwq_outside.specs.Outside.{Contents, AreBytes}
+use Rattle.nwq_outside.specs.Outside.{Contents, ContentsAreBytes}
 use Rattle.plan_text.specs.declared.plan.Plan.{Plan}
 use Rattle.machine_rules.specs.Machine.{Script}
 use Rattle.saved_state.specs.declared.saved.Saved.{Saved}
@@ -15,7 +15,7 @@ use Rattle.world_rules.specs.Pure.{CellLookup}
 use Rattle.world_rules.specs.Trace.{trace_text}
 use Rattle.world_rules.specs.Plays as plays
 use Rattle.world_rules.specs.Turns.{Begun, begin}
-use Rattle.world_rules.specs.Plays.{Bounds, Runner, PlayEnd, Played, Progress, entered, further, full, after_entry, next_entry, unplayed, plays as plays_from}
+use Rattle.world_rules.specs.Plays.{Bounds, Runner, PlayEnd, Played, Progress, entry_entered, further, full, after_entry, next_entry, unplayed, plays as plays_from}
 use Rattle.module_player.specs.CodePlays.{code_runner}
 use Rattle.source_meaning.specs.Scripts.{Listed, Setting}
 use Rattle.source_laws.specs.Executing.{script_of}
@@ -73,7 +73,7 @@ module _ (runner : Runner Saved) (bounds : Bounds) where
       → ((q : Progress Saved) → q.entries ≡ p.entries + 1 → Comes entries (go q)) → Comes entries (next_entry runner b p go)
   next_comes entries None p go comes = record { paused = λ e. absurd cc; within = λ e. absurd cc }
   next_comes entries (Some b) p go comes =
-      after_comes entries (entered runner b).stopped (further (entered runner b) p) go (comes (further (entered runner b) p) refl)
+      after_comes entries (entry_entered runner b).stopped (further (entry_entered runner b) p) go (comes (further (entry_entered runner b) p) refl)
 
   turn_comes : (entries : ℕ) (is_full : Bool) (end : PlayEnd) (b : Option (Begun Saved)) (p : Progress Saved) (go : Progress Saved → Played Saved) → is_full ≡ false
       → ((q : Progress Saved) → q.entries ≡ p.entries + 1 → Comes entries (go q))
@@ -153,7 +153,7 @@ module _ (header : HeaderFile) (file : AreaFile) (plan : Plan) (scripts : List S
 module _ (pass : UnitsPass) (units : ScriptsHaveUnits) (least : LeastIsTheKept) (reads : HeadersHaveTables) (own : BuiltInIsTable)
     (plans : SurePlans) (loaded : SureLoaded) (lists : SureListed) (headers : SureHeaderFiles) (areas : SureAreaFiles) (sure : SureSaves) where
   module _ (cell : CellLookup) (header area plan : List ℕ) (n : ℕ) (name : List ℕ) (c : Contents) (t : List ℕ) (r : Result Finished Status) (c' : Contents)
-      (t' : List ℕ) (held : AreBytes c) (whole : IsCut r → ⊥) where
+      (t' : List ℕ) (held : ContentsAreBytes c) (whole : IsCut r → ⊥) where
     abbrev table_in : HeaderFile → EngineTable
     table_in h = h.table
 
@@ -209,7 +209,7 @@ module _ (pass : UnitsPass) (units : ScriptsHaveUnits) (least : LeastIsTheKept) 
 
   module _ (ends : ListedPlaysEnd) (stops : ListedPlaysStop) (keep : EntriesKeepAlike) where
     first_as_meant : (cell : CellLookup) (header area plan : List ℕ) (n : ℕ) (name : List ℕ) (c : Contents) (t : List ℕ) (r : Result Finished Status) (c' : Contents) (t' : List ℕ)
-        → AreBytes c → (IsCut r → ⊥) → Does (saves cell header area plan n name) c t r c' t' → (h : HeaderFile) (p : Plan) (listed : List Listed) (a : AreaFile)
+        → ContentsAreBytes c → (IsCut r → ⊥) → Does (saves cell header area plan n name) c t r c' t' → (h : HeaderFile) (p : Plan) (listed : List Listed) (a : AreaFile)
         (left : Contents) → AcceptsSourcesToSave header area plan c h p listed a left → FirstAsMeant cell h a p listed n name left t r c' t'
     unfolding source_first
     first_as_meant cell header area plan n name c t r c' t' held whole does h p listed a left k =

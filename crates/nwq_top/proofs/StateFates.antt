@@ -10,7 +10,7 @@ use Rattle.state_format.specs.declared.parts.Parts.{Parts}
 use Rattle.state_format.specs.declared.parts.Script.{Script as ScriptPart}
 use Rattle.state_format.specs.Parts.{HasForm}
 use Rattle.state_format.specs.Fields.{joined, parts_fields}
-use Rattle.state_format.specs.Place.{StateOf, BeginsWith, StopsAt}
+use Rattle.state_format.specs.Place.{StateOf, BeginsWith, StateStopsAt}
 use Rattle.play_save.specs.Rules.{Rule, rules, KeepsAll, IsAccepted, IsFirstBroken, IsSound}
 use Rattle.play_save.specs.World.{world_of}
 use Rattle.command_save.specs.Saves.{file_of, AreSpelled}
@@ -80,7 +80,7 @@ module _ (bytes : List ℕ) where
     | inr more ↦ omega (arith, more, l.is.few, begins_inside further h)
   ]
 
-  stops_somewhere : ((s : Parts) × StateOf bytes s → ⊥) → Undeniable ((place : ℕ) × StopsAt bytes place)
+  stops_somewhere : ((s : Parts) × StateOf bytes s → ⊥) → Undeniable ((place : ℕ) × StateStopsAt bytes place)
   stops_somewhere none =
       with_it (least_one Left (length bytes - 0) (left_at 0 begins_at_once))
       (λ l. (length bytes - l.number, record { none = λ s of. none (s, of); begins = l.is.begins; farthest = farthest_by l }))

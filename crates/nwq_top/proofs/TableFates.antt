@@ -1,7 +1,7 @@
 -- What comes of the bytes of a 2DA table: it can't be that they have no table, and that no line is
 -- the first that breaks a rule.
 use Rattle.std.proofs.Common.{◌⊎◌, inl, inr, ℕ, ◌+◌, List, [], ◌∷◌, length, Result, Ok, Err}
-use Rattle.table_2da.specs.Grammar.{IsHeading, IsSecond, HasColumns, Adds, Follow, whole, goes, stops, Begins, with_columns, Gives, headless, no_second, no_columns, headed, GivesOf}
+use Rattle.table_2da.specs.Grammar.{IsHeading, IsSecond, HasColumns, Adds, Follow, whole, goes, stops, FirstIs, with_columns, Gives, headless, no_second, no_columns, headed, GivesOf}
 use Rattle.table_2da.specs.Table.{PlainTable}
 use Rattle.nwq_text.specs.Lines.{lines_of}
 use Rattle.nwq_top.proofs.Undeniable.{Undeniable, surely, by_it, with_it, either_way}
@@ -28,22 +28,22 @@ module _ (width : ℕ) where
 abbrev Given : List (List ℕ) → Type 0
 Given lines = (r : Result PlainTable ℕ) × Gives lines r
 
-columns_by : (heading second : List ℕ) (lines : List (List ℕ)) → IsHeading heading → IsSecond second → Begins HasColumns lines ⊎ (Begins HasColumns lines → ⊥)
+columns_by : (heading second : List ℕ) (lines : List (List ℕ)) → IsHeading heading → IsSecond second → FirstIs HasColumns lines ⊎ (FirstIs HasColumns lines → ⊥)
     → Undeniable (Given (heading ∷ second ∷ lines))
 columns_by heading second [] h s (inl has) = absurd has
 columns_by heading second (line ∷ lines) h s (inl has) =
     with_it (follows (length has.0) 4 [] lines) (λ f. (with_columns has.0 f.0, headed heading second line lines has.0 f.0 h s has.1 f.1))
 columns_by heading second lines h s (inr none) = surely (Err 3, no_columns heading second lines h s none)
 
-second_by : (heading : List ℕ) (lines : List (List ℕ)) → IsHeading heading → Begins IsSecond lines ⊎ (Begins IsSecond lines → ⊥) → Undeniable (Given (heading ∷ lines))
+second_by : (heading : List ℕ) (lines : List (List ℕ)) → IsHeading heading → FirstIs IsSecond lines ⊎ (FirstIs IsSecond lines → ⊥) → Undeniable (Given (heading ∷ lines))
 second_by heading [] h (inl has) = absurd has
-second_by heading (second ∷ lines) h (inl s) = by_it (either_way (Begins HasColumns lines)) (columns_by heading second lines h s)
+second_by heading (second ∷ lines) h (inl s) = by_it (either_way (FirstIs HasColumns lines)) (columns_by heading second lines h s)
 second_by heading lines h (inr none) = surely (Err 2, no_second heading lines h none)
 
-heading_by : (lines : List (List ℕ)) → Begins IsHeading lines ⊎ (Begins IsHeading lines → ⊥) → Undeniable (Given lines)
+heading_by : (lines : List (List ℕ)) → FirstIs IsHeading lines ⊎ (FirstIs IsHeading lines → ⊥) → Undeniable (Given lines)
 heading_by [] (inl has) = absurd has
-heading_by (heading ∷ lines) (inl h) = by_it (either_way (Begins IsSecond lines)) (second_by heading lines h)
+heading_by (heading ∷ lines) (inl h) = by_it (either_way (FirstIs IsSecond lines)) (second_by heading lines h)
 heading_by lines (inr none) = surely (Err 1, headless lines none)
 
 pub table_comes : (bytes : List ℕ) → Undeniable ((r : Result PlainTable ℕ) × GivesOf bytes r)
-table_comes bytes = by_it (either_way (Begins IsHeading (lines_of bytes))) (heading_by (lines_of bytes))
+table_comes bytes = by_it (either_way (FirstIs IsHeading (lines_of bytes))) (heading_by (lines_of bytes))

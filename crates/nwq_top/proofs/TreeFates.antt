@@ -7,13 +7,13 @@ use Rattle.gff_bytes.specs.declared.rows.StructRow.{StructRow}
 use Rattle.gff_bytes.specs.File.{open_fault, data_at, list_word, struct_row, field_row, label_row}
 use Rattle.gff_read.specs.declared.fault.TreeFault.{TreeFault}
 use Rattle.gff_read.specs.declared.fault.TreeFault.TheVariants as fault
-use Rattle.gff_tree.specs.Tree.{PlainNode, PlainLeaf, Struct, depth_limit}
+use Rattle.gff_tree.specs.Tree.{PlainNode, PlainLeaf, Struct, struct_depth_limit}
 use Rattle.gff_tree.specs.Tree as tree
 use Rattle.gff_tree.specs.Whole.{PlainGff}
-use Rattle.gff_read.specs.declared.kind.Kind.{Kind}
-use Rattle.gff_read.specs.declared.kind.Kind.TheVariants as kind
+use Rattle.gff_read.specs.declared.kind.FieldKind.{FieldKind}
+use Rattle.gff_read.specs.declared.kind.FieldKind.TheVariants as kind
 use Rattle.gff_read.specs.Rows.{◌>>=◌, placed, bad_data, for_field, of_kind, kinds, number_in, bytes_for, number_for, counted_for, name_for, part_in, parts_in, localized_in, scalar_for, leaf_for, words_from, PlainShape, Value, One, Many, PlainRow, shape_for, has_label, row_for, field_number, rows_from, rows_of}
-use Rattle.gff_read.specs.Walk.{Marks, Reading, struct_count, entered, node_at, nodes_at, leaf_at, fields_at, tree_of}
+use Rattle.gff_read.specs.Walk.{Marks, Reading, struct_count, struct_entered, node_at, nodes_at, leaf_at, fields_at, tree_of}
 use Rattle.gff_read.specs.Stands.{Stands}
 use Rattle.gff_read.proofs.TreeLaws.{stands_read, tree_is}
 
@@ -84,7 +84,7 @@ localized_named field bytes =
     either_named (nat_lt (length bytes) 8) (bad_data field) _ tt
     (then_named (parts_in field (number_in 4 (drop 4 bytes)) (drop 8 bytes)) _ (parts_named field (number_in 4 (drop 4 bytes)) (drop 8 bytes)) (λ parts. tt))
 
-scalar_named : (bytes : List ℕ) (field : ℕ) (k : Kind) (word : ℕ) → IsNamed (scalar_for bytes field k word)
+scalar_named : (bytes : List ℕ) (field : ℕ) (k : FieldKind) (word : ℕ) → IsNamed (scalar_for bytes field k word)
 unfolding scalar_for
 scalar_named bytes field kind.Byte word = tt
 scalar_named bytes field kind.Char word = tt
@@ -104,7 +104,7 @@ scalar_named bytes field kind.Void word = then_named (counted_for bytes field wo
 scalar_named bytes field kind.Struct word = tt
 scalar_named bytes field kind.List word = tt
 
-leaf_named : (bytes : List ℕ) (field : ℕ) (k : Kind) (word : ℕ) → IsNamed (leaf_for bytes field k word)
+leaf_named : (bytes : List ℕ) (field : ℕ) (k : FieldKind) (word : ℕ) → IsNamed (leaf_for bytes field k word)
 unfolding leaf_for
 leaf_named bytes field k word = then_named (scalar_for bytes field k word) _ (scalar_named bytes field k word) (λ s. tt)
 
@@ -113,7 +113,7 @@ words_named bytes place zero = tt
 words_named bytes place (suc n) =
     then_named (placed (list_word bytes place)) _ (placed_named (list_word bytes place)) (λ word. then_named (words_from bytes (place + 4) n) _ (words_named bytes (place + 4) n) (λ words. tt))
 
-shape_named : (bytes : List ℕ) (field : ℕ) (k : Kind) (word : ℕ) → IsNamed (shape_for bytes field k word)
+shape_named : (bytes : List ℕ) (field : ℕ) (k : FieldKind) (word : ℕ) → IsNamed (shape_for bytes field k word)
 unfolding shape_for
 shape_named bytes field kind.Struct word = tt
 shape_named bytes field kind.List word =
@@ -121,7 +121,7 @@ shape_named bytes field kind.List word =
     (λ count. then_named (words_from bytes (word + 4) count) _ (words_named bytes (word + 4) count) (λ words. tt))
 shape_named bytes field k word = then_named (leaf_for bytes field k word) _ (leaf_named bytes field k word) (λ holds. tt)
 
-kind_named : {A : Type 0} (field : ℕ) (k : Option Kind) (next : Kind → Result A TreeFault) → ((x : Kind) → IsNamed (next x)) → IsNamed (of_kind field k next)
+kind_named : {A : Type 0} (field : ℕ) (k : Option FieldKind) (next : FieldKind → Result A TreeFault) → ((x : FieldKind) → IsNamed (next x)) → IsNamed (of_kind field k next)
 kind_named field None next h = tt
 kind_named field (Some k) next h = h k
 
@@ -158,24 +158,24 @@ module _ (one : Reading) (each : (n : ℕ) (marks : Marks) → IsNamed (one n ma
   fields_named (row ∷ rows) marks =
       then_named (leaf_at one row.shape marks) _ (below_named row.shape marks) (λ first. then_named (fields_at one rows first.1) _ (fields_named rows first.1) (λ rest. tt))
 
-entered_named : (depth : ℕ) (bytes : List ℕ) (n : ℕ) (marks : Marks) → IsNamed (entered depth bytes n marks)
-unfolding entered
+entered_named : (depth : ℕ) (bytes : List ℕ) (n : ℕ) (marks : Marks) → IsNamed (struct_entered depth bytes n marks)
+unfolding struct_entered
 entered_named depth bytes n marks =
     then_named (placed (struct_row bytes n)) _ (placed_named (struct_row bytes n))
     (λ row. either_named (slice_index_or marks n false) (Err (fault.Shared n)) _ tt (either_named (depth == 0) (Err (fault.Deep n)) (Ok row) tt tt))
 
 node_named : (depth : ℕ) (bytes : List ℕ) (n : ℕ) (marks : Marks) → IsNamed (node_at depth bytes n marks)
 unfolding node_at rows_of
-node_named zero bytes n marks = then_named (entered 0 bytes n marks) _ (entered_named 0 bytes n marks) (λ row. tt)
+node_named zero bytes n marks = then_named (struct_entered 0 bytes n marks) _ (entered_named 0 bytes n marks) (λ row. tt)
 node_named (suc depth) bytes n marks =
-    then_named (entered (suc depth) bytes n marks) _ (entered_named (suc depth) bytes n marks)
+    then_named (struct_entered (suc depth) bytes n marks) _ (entered_named (suc depth) bytes n marks)
     (λ row. then_named (rows_of bytes row) _ (rows_named bytes row 0 row.count [])
     (λ rows. then_named (fields_at (node_at depth bytes) rows (slice_set marks n true)) _ (fields_named (node_at depth bytes) (node_named depth bytes) rows (slice_set marks n true)) (λ fields. tt)))
 
 pub tree_named : (bytes : List ℕ) → IsNamed (tree_of bytes)
 unfolding tree_of
 tree_named bytes =
-    then_named (node_at depth_limit bytes 0 (replicate (struct_count bytes) false)) _ (node_named depth_limit bytes 0 (replicate (struct_count bytes) false)) (λ top. tt)
+    then_named (node_at struct_depth_limit bytes 0 (replicate (struct_count bytes) false)) _ (node_named struct_depth_limit bytes 0 (replicate (struct_count bytes) false)) (λ top. tt)
 
 -- ---- the tree
 
@@ -192,7 +192,7 @@ same_tree x y e = cc
 pub read_stands : (bytes : List ℕ) (gff : PlainGff) → open_fault bytes ≡ None → tree_of bytes ≡ Ok gff → Stands bytes gff
 unfolding tree_of
 read_stands bytes gff clear e =
-    let b = given_by (node_at depth_limit bytes 0 (replicate (struct_count bytes) false)) (λ top. Ok (record { file_type = take 4 bytes; top = top.0 })) gff e in
+    let b = given_by (node_at struct_depth_limit bytes 0 (replicate (struct_count bytes) false)) (λ top. Ok (record { file_type = take 4 bytes; top = top.0 })) gff e in
     let is : record { file_type = take 4 bytes; top = b.0.0 } ≡ gff = same_tree (record { file_type = take 4 bytes; top = b.0.0 }) gff b.2 in
     subst (Stands bytes) is (stands_read bytes (replicate (struct_count bytes) false) b.0.0 b.0.1 (take 4 bytes) refl b.1 clear refl)
 

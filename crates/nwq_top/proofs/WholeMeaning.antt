@@ -1,6 +1,6 @@
 -- The work of the whole program does what it means.
 use Rattle.std.proofs.Common.{ℕ, List, ◌++◌, Result, Ok, Err, ap, ◌∙◌}
-use Rattle.nwq_outside.specs.Outside.{Contents, AreBytes}
+use Rattle.nwq_outside.specs.Outside.{Contents, ContentsAreBytes}
 use Rattle.table_2da.specs.Look.{cell_of}
 use Rattle.command_work.specs.declared.status.Status.{Status}
 use Rattle.command_work.specs.Refusal.{Refusal, line_of, status_of}
@@ -19,7 +19,7 @@ use Rattle.nwq_top.specs.Meaning.{MeansWhole, WorkMeans, WholeMeans}
 use Rattle.nwq_top.proofs.GivenTables.{given_do, given_refuse, given_come}
 
 module _ (works : WorkMeans) (sure : SureTables) (form : Form) (c : Contents) (t : List ℕ) (r : Result Finished Status) (c' : Contents) (t' : List ℕ)
-    (held : AreBytes c) (whole : IsCut r → ⊥) where
+    (held : ContentsAreBytes c) (whole : IsCut r → ⊥) where
   abbrev Goes : Type 0
   Goes = Follows (work_with form) (GivesTables c (list_of form)) (RefusesGiven c (list_of form)) c t r c' t'
 

@@ -1,7 +1,7 @@
 -- That an input has an answer: an outcome of the work that isn't cut. Each statement stands on the
 -- contract of a function of `laws`.
 use Rattle.std.specs.Prelude.{ℕ, ◌≢◌, List, Result}
-use Rattle.nwq_outside.specs.Outside.{Contents, AreBytes}
+use Rattle.nwq_outside.specs.Outside.{Contents, ContentsAreBytes}
 use Rattle.table_2da.specs.declared.tables.Named.{Named}
 use Rattle.table_2da.specs.Look.{cell_of}
 use Rattle.plan_text.specs.declared.plan.Plan.{Plan}
@@ -52,12 +52,12 @@ CanSave cell c _ = Unit {0}
 
 -- whatever the words are, whatever bytes the files hold, and whatever was taken
 abbrev pub EachHasOutcome : Type 0
-EachHasOutcome = (cell : CellLookup) (words : List (List ℕ)) (c : Contents) (t : List ℕ) → AreBytes c → CanSave cell c (form_of words)
+EachHasOutcome = (cell : CellLookup) (words : List (List ℕ)) (c : Contents) (t : List ℕ) → ContentsAreBytes c → CanSave cell c (form_of words)
     → HasOutcome (work_of cell (form_of words)) c t
 
 -- the same of the whole program, which reads tables first
 abbrev pub EachWholeHasOutcome : Type 0
-EachWholeHasOutcome = (words : List (List ℕ)) (c : Contents) (t : List ℕ) → AreBytes c
+EachWholeHasOutcome = (words : List (List ℕ)) (c : Contents) (t : List ℕ) → ContentsAreBytes c
     → ((tables : List Named) → CanSave (cell_of tables) c (form_of words)) → HasOutcome (whole_work (form_of words)) c t
 
 -- these check no bytecode, and read neither a text by its lines nor a state
@@ -72,5 +72,5 @@ IsPlainForm _ = ⊥
 
 -- Their outcome is there, without excluded middle.
 abbrev pub PlainHaveOutcomes : Type 0
-PlainHaveOutcomes = (cell : CellLookup) (words : List (List ℕ)) (c : Contents) (t : List ℕ) → AreBytes c → IsPlainForm (form_of words)
+PlainHaveOutcomes = (cell : CellLookup) (words : List (List ℕ)) (c : Contents) (t : List ℕ) → ContentsAreBytes c → IsPlainForm (form_of words)
     → Outcome (work_of cell (form_of words)) c t

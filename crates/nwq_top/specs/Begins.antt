@@ -9,7 +9,7 @@ use Rattle.command_work.specs.Parts.{may_then}
 use Rattle.command_tables.specs.Lists.{names_listed}
 use Rattle.command_tables.specs.Tables.{tables_listed, tables_given}
 use Rattle.nwq_value.specs.Engine.{EngineTable}
-use Rattle.command_sources.specs.Headers.{table_named, table_unless, table_of}
+use Rattle.command_sources.specs.Headers.{table_named, table_unless, table_of_word}
 use Rattle.command_files.specs.Assemblies.{assembly_named}
 use Rattle.command_files.specs.Checks.{checks_under, checks}
 use Rattle.command_files.specs.Codes.{code_named}
@@ -30,9 +30,9 @@ unfolding table_named file_named
 may_unless true word = tt
 may_unless false word = tt
 
-may_head : {A : Type 0} (word : List ℕ) (f : EngineTable → Work A) → MayBeCut (then (table_of word) f)
-unfolding table_of
-may_head word f = may_then (table_of word) f (may_unless (bytes_eq word (codes "-")) word)
+may_head : {A : Type 0} (word : List ℕ) (f : EngineTable → Work A) → MayBeCut (then (table_of_word word) f)
+unfolding table_of_word
+may_head word f = may_then (table_of_word word) f (may_unless (bytes_eq word (codes "-")) word)
 
 pub command_may : (cell : CellLookup) (form : Form) → MayBeCut (work_of cell form)
 unfolding runs compiles shows_tree tree_named checks disassembles code_named assembles assembly_named plays plan_named generates source_compiled saves resumes state_named file_named

@@ -14,7 +14,7 @@ use Rattle.source_meaning.specs.Scripts.{Listed, Setting}
 use Rattle.source_laws.specs.Ledger.{step_cost}
 use Rattle.source_laws.specs.Carries.{Carries}
 use Rattle.source_laws.specs.Executing.{script_of}
-use Rattle.play_meaning.specs.Together.{Begins, PlaysAlike, StoppedAt, whole}
+use Rattle.play_meaning.specs.Together.{IsFirstPartOf, PlaysAlike, StoppedAt, whole}
 use Rattle.play_generator.specs.Made.{creatures_of, rounds_of, play_of}
 use Rattle.command_work.specs.declared.status.Status.{Status}
 use Rattle.command_work.specs.declared.status.Status.TheVariants.{Limit}
@@ -68,7 +68,7 @@ pub record TellsMadeBeginning (cell : CellLookup) (n : ℕ) (unit : TypedUnit) (
     (c' : Contents) (t' : List ℕ) : Type 0 where
   pub stopped : StoppedAt (code_runner (host_of cell header_table (script_of (record { name = codes "beat"; unit = unit }) ∷ [])) (plan_of n).limit)
       (whole (plan_of n).entries (plan_of n).until) (plan_of n).limit (unplayed (plan_world (made_area n) (plan_of n))) (code_made cell n unit)
-  pub begins : Begins (code_made cell n unit).last.trace (source_made cell n unit (plan_of n).limit).last.trace
+  pub begins : IsFirstPartOf (code_made cell n unit).last.trace (source_made cell n unit (plan_of n).limit).last.trace
   pub taken : t' ≡ t ++ summary n (code_made cell n unit)
   pub answer : r ≡ Err Limit
   pub contents : c' ≡ c

@@ -1,6 +1,6 @@
 -- What the words of a command mean, and the whole program.
 use Rattle.std.specs.Prelude.{◌≤◌, ℕ, List, Result}
-use Rattle.nwq_outside.specs.Outside.{Contents, AreBytes}
+use Rattle.nwq_outside.specs.Outside.{Contents, ContentsAreBytes}
 use Rattle.table_2da.specs.declared.tables.Named.{Named}
 use Rattle.table_2da.specs.Look.{cell_of}
 use Rattle.world_rules.specs.Pure.{CellLookup}
@@ -37,7 +37,7 @@ Means cell NoForm c t r c' t' = IsRefused refusal.NoForm c t r c' t'
 -- whatever does the work of words does what they mean, where the files hold bytes, unless a failed
 -- call or want of memory cut it
 abbrev pub WorkMeans : Type 0
-WorkMeans = (cell : CellLookup) (form : Form) (c : Contents) (t : List ℕ) (r : Result Finished Status) (c' : Contents) (t' : List ℕ) → AreBytes c → (IsCut r → ⊥)
+WorkMeans = (cell : CellLookup) (form : Form) (c : Contents) (t : List ℕ) (r : Result Finished Status) (c' : Contents) (t' : List ℕ) → ContentsAreBytes c → (IsCut r → ⊥)
     → Does (work_of cell form) c t r c' t' → Means cell form c t r c' t'
 
 -- What the whole program does, unless a failed call or want of memory cut it. It reads the tables
@@ -51,5 +51,5 @@ pub record MeansWhole (form : Form) (c : Contents) (t : List ℕ) (r : Result Fi
 
 -- whatever does the work of the whole program does what it means, likewise
 abbrev pub WholeMeans : Type 0
-WholeMeans = (form : Form) (c : Contents) (t : List ℕ) (r : Result Finished Status) (c' : Contents) (t' : List ℕ) → AreBytes c → (IsCut r → ⊥)
+WholeMeans = (form : Form) (c : Contents) (t : List ℕ) (r : Result Finished Status) (c' : Contents) (t' : List ℕ) → ContentsAreBytes c → (IsCut r → ⊥)
     → Does (whole_work form) c t r c' t' → MeansWhole form c t r c' t'

@@ -18,7 +18,7 @@ use Rattle.world_rules.specs.Plays.{Done, StoppedInside, Bounds, Played, play_on
 use Rattle.module_player.specs.CodePlays.{code_runner, played_before}
 use Rattle.state_format.specs.declared.parts.Parts.{Parts}
 use Rattle.state_format.specs.Fields.{parts_bytes}
-use Rattle.state_format.specs.Place.{StateOf, StopsAt}
+use Rattle.state_format.specs.Place.{StateOf, StateStopsAt}
 use Rattle.play_save.specs.Rules.{IsAccepted, IsUnfit}
 use Rattle.source_meaning.specs.Evaluation.{Deferred}
 use Rattle.source_meaning.specs.Scripts.{Listed}
@@ -26,13 +26,13 @@ use Rattle.source_meaning.specs.Plays.{runner}
 use Rattle.source_laws.specs.Ledger.{step_cost}
 use Rattle.source_laws.specs.Carries.{Carries}
 use Rattle.source_laws.specs.Executing.{script_of}
-use Rattle.play_meaning.specs.Together.{Begins, PlaysAlike, whole}
+use Rattle.play_meaning.specs.Together.{IsFirstPartOf, PlaysAlike, whole}
 use Rattle.play_worlds.specs.Worlds.{plan_world}
 use Rattle.command_work.specs.declared.flaw.AreaFlaw.TheVariants as flaw
 use Rattle.command_work.specs.declared.status.Status.{Status}
 use Rattle.command_work.specs.Refusal.{Refusal, BadArea}
 use Rattle.command_work.specs.Work.{Finished, IsCut, Does}
-use Rattle.command_plays.specs.Plays.{host_of, played as whole_play, played_first}
+use Rattle.command_plays.specs.Plays.{host_of, plan_played as whole_play, played_first}
 use Rattle.command_meaning.specs.CodeEnds.{GoesWithoutFault}
 use Rattle.command_play.specs.Games.{tells, plays}
 use Rattle.command_save.specs.declared.inputs.HeaderFile.{HeaderFile}
@@ -109,7 +109,7 @@ pub record FirstAsMeant (cell : CellLookup) (h : HeaderFile) (a : AreaFile) (p :
   pub unstopped : (code_first cell h a p listed n).ending ≢ StoppedInside
       → PlaysAlike (Carries (listing_of cell h.table listed)) (code_first cell h a p listed n) (source_first cell h.table a.area p listed n p.limit)
   pub stopped : (code_first cell h a p listed n).ending ≡ StoppedInside
-      → Begins (code_first cell h a p listed n).last.trace (source_first cell h.table a.area p listed n p.limit).last.trace
+      → IsFirstPartOf (code_first cell h a p listed n).last.trace (source_first cell h.table a.area p listed n p.limit).last.trace
 
 -- ---- `save`
 
@@ -157,7 +157,7 @@ pub record ReadsState (c : Contents) (name : List ℕ) (s : Parts) : Type 0 wher
 -- state's, and this is the first rule that it breaks
 pub data RefusesState (c : Contents) (name : List ℕ) : Refusal → Type 0 where
   unread : (why : Refusal) → IsUnread c name why → RefusesState c name why
-  stops : (bytes : List ℕ) → IsRead c name bytes → (place : ℕ) → StopsAt bytes place → RefusesState c name (BadArea name (flaw.State place))
+  stops : (bytes : List ℕ) → IsRead c name bytes → (place : ℕ) → StateStopsAt bytes place → RefusesState c name (BadArea name (flaw.State place))
   unfit : (bytes : List ℕ) → IsRead c name bytes → (s : Parts) (rule : ℕ) → StateOf bytes s → IsUnfit rule s → RefusesState c name (BadArea name (flaw.Unfit rule))
 
 -- one or the other; and what a play goes on from that is accepted

@@ -17,12 +17,12 @@ use Rattle.source_meaning.specs.Plays.{source_play}
 use Rattle.source_laws.specs.Ledger.{step_cost}
 use Rattle.source_laws.specs.Carries.{Carries}
 use Rattle.source_laws.specs.Executing.{script_of}
-use Rattle.play_meaning.specs.Together.{Begins, PlaysAlike, StoppedAt, whole}
+use Rattle.play_meaning.specs.Together.{IsFirstPartOf, PlaysAlike, StoppedAt, whole}
 use Rattle.play_meaning.specs.EndTexts.{source_end_text}
 use Rattle.command_work.specs.declared.status.Status.{Status}
 use Rattle.command_work.specs.declared.status.Status.TheVariants.{Limit}
 use Rattle.command_work.specs.Work.{Work, Ends, Puts, Does, Finished}
-use Rattle.command_plays.specs.Plays.{host_of, played}
+use Rattle.command_plays.specs.Plays.{host_of, plan_played}
 use Rattle.play_worlds.specs.Worlds.{begun_by, plan_world}
 use Rattle.command_play.specs.Games.{ends_by, plays_plan}
 use Rattle.command_meaning.specs.ListedPlays.{AreUnitsOf}
@@ -44,7 +44,7 @@ source_plan_played cell header area plan scripts n =
 
 -- what their code does, where an entry may take as many instructions as the plan says
 unfoldable pub code_plan_played : CellLookup → EngineTable → PlainArea → Plan → List Listed → Played Saved
-code_plan_played cell header area plan scripts = played cell header plan (map script_of scripts) (plan_world area plan)
+code_plan_played cell header area plan scripts = plan_played cell header plan (map script_of scripts) (plan_world area plan)
 
 -- ---- what is told and left of it
 
@@ -75,7 +75,7 @@ pub record DoesBeginning (cell : CellLookup) (header : EngineTable) (area : Plai
     (r : Result Finished Status) (c' : Contents) (t' : List ℕ) : Type 0 where
   pub stopped : StoppedAt (code_runner (host_of cell header (map script_of scripts)) plan.limit) (whole plan.entries plan.until) plan.limit
       (unplayed (plan_world area plan)) (code_plan_played cell header area plan scripts)
-  pub begins : Begins (code_plan_played cell header area plan scripts).last.trace (source_plan_played cell header area plan scripts plan.limit).last.trace
+  pub begins : IsFirstPartOf (code_plan_played cell header area plan scripts).last.trace (source_plan_played cell header area plan scripts plan.limit).last.trace
   pub does : Does (Puts (trace_text (code_plan_played cell header area plan scripts).last.trace)
       (Puts (code_end_text (map script_of scripts) (code_plan_played cell header area plan scripts)) (Ends Limit))) c t r c' t'
 

@@ -3,7 +3,7 @@
 use Rattle.std.specs.Prelude.{◌≡◌, ◌≤◌, ℕ, List, Result}
 use Rattle.std.specs.FinMap as fin_map
 use Rattle.nwq_value.specs.Engine.{EngineTable}
-use Rattle.nwq_outside.specs.Outside.{Contents, AreBytes}
+use Rattle.nwq_outside.specs.Outside.{Contents, ContentsAreBytes}
 use Rattle.typing_rules.specs.declared.fault.Fault.{Fault}
 use Rattle.typing_rules.specs.Nodes.{IsLeast}
 use Rattle.typing_rules.specs.Meaning.{FaultInUnit}
@@ -11,7 +11,7 @@ use Rattle.world_rules.specs.Pure.{CellLookup}
 use Rattle.play_generator.specs.Made.{number_limit}
 use Rattle.command_work.specs.declared.status.Status.{Status}
 use Rattle.command_work.specs.Work.{then, IsCut, Does, Finished}
-use Rattle.command_sources.specs.Headers.{table_of}
+use Rattle.command_sources.specs.Headers.{table_of_word}
 use Rattle.command_sources.specs.Units.{PlainScript, Whole, IsUnitFate}
 use Rattle.command_compile.specs.Files.{code_name, compiled_named, compiles}
 use Rattle.command_plays.specs.Scripts.{plays_file}
@@ -27,27 +27,27 @@ use Rattle.nwq_top.specs.Generated.{MeansGenerate}
 -- a header is read, a script compiled under it, and its file, which isn't written, is played
 abbrev pub RunsMean : Type 0
 RunsMean =
-    (cell : CellLookup) (header script : List ℕ) (c : Contents) (t : List ℕ) (r : Result Finished Status) (c' : Contents) (t' : List ℕ) → AreBytes c → (IsCut r → ⊥)
-    → Does (then (table_of header) (λ table. then (compiled_named table script) (plays_file cell table script (code_name script)))) c t r c' t'
+    (cell : CellLookup) (header script : List ℕ) (c : Contents) (t : List ℕ) (r : Result Finished Status) (c' : Contents) (t' : List ℕ) → ContentsAreBytes c → (IsCut r → ⊥)
+    → Does (then (table_of_word header) (λ table. then (compiled_named table script) (plays_file cell table script (code_name script)))) c t r c' t'
     → MeansRun cell header script c t r c' t'
 
 -- a script is compiled, and its file written
 abbrev pub CompilesMean : Type 0
 CompilesMean =
-    (header script : List ℕ) (c : Contents) (t : List ℕ) (r : Result Finished Status) (c' : Contents) (t' : List ℕ) → AreBytes c → (IsCut r → ⊥)
+    (header script : List ℕ) (c : Contents) (t : List ℕ) (r : Result Finished Status) (c' : Contents) (t' : List ℕ) → ContentsAreBytes c → (IsCut r → ⊥)
     → Does (compiles header script) c t r c' t' → MeansCompile header script c t r c' t'
 
 -- a plan is played over an area
 abbrev pub PlaysMean : Type 0
 PlaysMean =
-    (cell : CellLookup) (header area plan to : List ℕ) (c : Contents) (t : List ℕ) (r : Result Finished Status) (c' : Contents) (t' : List ℕ) → AreBytes c → (IsCut r → ⊥)
+    (cell : CellLookup) (header area plan to : List ℕ) (c : Contents) (t : List ℕ) (r : Result Finished Status) (c' : Contents) (t' : List ℕ) → ContentsAreBytes c → (IsCut r → ⊥)
     → Does (plays cell header area plan to) c t r c' t' → MeansPlay cell header area plan to c t r c' t'
 
 -- the first entries of a plan are played over an area, and the play's state is saved
 abbrev pub SavesMean : Type 0
 SavesMean =
     (cell : CellLookup) (header area plan : List ℕ) (n : ℕ) (name : List ℕ) (c : Contents) (t : List ℕ) (r : Result Finished Status) (c' : Contents) (t' : List ℕ)
-    → AreBytes c → (IsCut r → ⊥) → Does (saves cell header area plan n name) c t r c' t' → MeansSave cell header area plan n name c t r c' t'
+    → ContentsAreBytes c → (IsCut r → ⊥) → Does (saves cell header area plan n name) c t r c' t' → MeansSave cell header area plan n name c t r c' t'
 
 -- a play goes on from its state
 abbrev pub ResumesMean : Type 0

@@ -8,7 +8,7 @@ use Rattle.plan_text.specs.declared.fault.PlanFault.{PlanFault}
 use Rattle.plan_text.specs.declared.fault.PlanFault.TheVariants.{Line as BadLine, NoMemory}
 use Rattle.plan_text.specs.declared.plan.Plan.{Plan}
 use Rattle.plan_text.specs.Plans.{Draft, Reads, Baffles, Comes, whole, more, stops, Gives, headed, headless, IsHeaded, IsVersion, heading, HasPlan, IsFaulty, plan_of}
-use Rattle.plan_text.specs.Steps.{version_in, ReadsOn, StopsAt}
+use Rattle.plan_text.specs.Steps.{version_in, ReadsOn, PlanStopsAt}
 
 -- ---- going on
 
@@ -45,7 +45,7 @@ gives_headed version bytes line lines e is = e ∙ ap (λ l. l ∷ lines) is
 
 -- a fault behind the first line is the text's
 pub faulty : (version : ℕ) (bytes line : List ℕ) (lines : List (List ℕ)) (fault : PlanFault) → lines_of bytes ≡ line ∷ lines → IsVersion version
-    → line ≡ heading version → StopsAt version lines fault → IsFaulty bytes fault
+    → line ≡ heading version → PlanStopsAt version lines fault → IsFaulty bytes fault
 faulty version bytes line lines (BadLine n) e known is stops_at =
     headed version lines (Err n) known (gives_headed version bytes line lines e is) stops_at
 faulty version bytes line lines NoMemory e known is stops_at = tt

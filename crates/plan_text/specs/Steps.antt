@@ -62,9 +62,9 @@ abbrev pub ReadsOn : ℕ → List (List ℕ) → Draft → Type 0
 ReadsOn version lines d = Comes 2 (nothing version) lines (Ok d)
 
 -- one of these lines behind the first is the first without a reading
-abbrev pub StopsAt : ℕ → List (List ℕ) → PlanFault → Type 0
-StopsAt version lines (Line n) = Comes 2 (nothing version) lines (Err n)
-StopsAt version lines NoMemory = Unit {0}
+abbrev pub PlanStopsAt : ℕ → List (List ℕ) → PlanFault → Type 0
+PlanStopsAt version lines (Line n) = Comes 2 (nothing version) lines (Err n)
+PlanStopsAt version lines NoMemory = Unit {0}
 
 -- a line that is not passed over
 pub record IsWorded (line : List ℕ) : Type 0 where

@@ -3,7 +3,7 @@
 ghost use Rattle.std.specs.Prelude.{◌≡◌, IfOk, IfErr};
 ghost use Rattle.plan_text.specs.Drafts.{plain_draft};
 ghost use Rattle.plan_text.specs.Plans.{HasPlan, IsFaulty};
-ghost use Rattle.plan_text.specs.Steps.{version_in, ReadsOn, StopsAt};
+ghost use Rattle.plan_text.specs.Steps.{version_in, ReadsOn, PlanStopsAt};
 
 use crate::draft::Draft;
 use crate::fault::PlanFault;
@@ -29,7 +29,7 @@ fn version_of(line: &[u8]) -> Option<u8>
 fn read_lines(alloc: Global, version: u8, lines: &mut Lines<'_>) -> Result<Draft, PlanFault>
     requires { lines.old.read ≡ 1 }
     ensures plan { IfOk result (λ draft. ReadsOn version lines.old.left (plain_draft draft)) }
-    ensures fault { IfErr result (StopsAt version lines.old.left) }
+    ensures fault { IfErr result (PlanStopsAt version lines.old.left) }
 {
     let mut draft = Draft::new(alloc, version);
     while let Some(line) = lines.next_line() {

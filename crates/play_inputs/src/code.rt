@@ -4,7 +4,7 @@ ghost use Rattle.nwq_value.specs.Limits.{file_limit};
 ghost use Rattle.nwq_text.specs.Names.{is_script_name};
 ghost use Rattle.command_work.specs.Counts.{KeepsBut};
 ghost use Rattle.command_work.specs.Calls.{DoesOn, TalliesOn, IsName};
-ghost use Rattle.command_files.specs.Checks.{plain_answer, KeepsTable};
+ghost use Rattle.command_files.specs.Checks.{plain_checked_answer, KeepsTable};
 ghost use Rattle.command_compile.specs.Files.{code_name};
 ghost use Rattle.play_inputs.specs.Listings.{writes_loaded, source_named, code_by, script_in};
 ghost use Rattle.play_inputs.specs.Listings.{IsOwnFile, StopsListing, script_answer};
@@ -41,7 +41,7 @@ fn write_loaded<F: Files, S: Sink>(
     requires small { length bytes ≤ file_limit }
     ensures does { IsTrue F.tells → IsTrue S.tells → DoesOn F.contents S.taken
         (writes_loaded table.now file.now bytes)
-        files.old out.old (plain_answer result) files.new out.new }
+        files.old out.old (plain_checked_answer result) files.new out.new }
     ensures counts { TalliesOn F.counts S.faults result files.old out.old files.new out.new }
     ensures names { KeepsBut (IsName file.now) (F.contents files.old) (F.contents files.new) }
     ensures kept { IfOk result (KeepsTable table.now) }
@@ -69,7 +69,7 @@ fn read_source<F: Files, S: Sink>(
     requires file { file.now ≡ code_name name.now }
     ensures does { IsTrue F.tells → IsTrue S.tells → DoesOn F.contents S.taken
         (source_named table.now name.now)
-        files.old out.old (plain_answer result) files.new out.new }
+        files.old out.old (plain_checked_answer result) files.new out.new }
     ensures counts { TalliesOn F.counts S.faults result files.old out.old files.new out.new }
     ensures names { KeepsBut (IsName (code_name name.now)) (F.contents files.old) (F.contents
         files.new) }
@@ -96,7 +96,7 @@ fn read_by<F: Files, S: Sink>(
     requires file { file.now ≡ code_name name.now }
     ensures does { IsTrue F.tells → IsTrue S.tells → DoesOn F.contents S.taken
         (code_by binary table.now name.now)
-        files.old out.old (plain_answer result) files.new out.new }
+        files.old out.old (plain_checked_answer result) files.new out.new }
     ensures counts { TalliesOn F.counts S.faults result files.old out.old files.new out.new }
     ensures names { KeepsBut (λ other. (binary ≡ false) × (other ≡ code_name name.now))
         (F.contents files.old) (F.contents files.new) }
@@ -122,7 +122,7 @@ fn read_code<F: Files, S: Sink>(
     requires named { IsTrue (is_script_name line.now.name) }
     ensures does { IsTrue F.tells → IsTrue S.tells → DoesOn F.contents S.taken
         (code_by line.now.binary table.now line.now.name)
-        files.old out.old (plain_answer result) files.new out.new }
+        files.old out.old (plain_checked_answer result) files.new out.new }
     ensures counts { TalliesOn F.counts S.faults result files.old out.old files.new out.new }
     ensures names { KeepsBut (IsOwnFile line.now) (F.contents files.old) (F.contents files.new) }
     ensures kept { IfOk result (KeepsTable table.now) }

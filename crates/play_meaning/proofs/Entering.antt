@@ -7,10 +7,10 @@ use Rattle.world_rules.specs.World.{World}
 use Rattle.world_rules.specs.Engine.{no_script}
 use Rattle.world_rules.specs.Turns.{Begun, turn, turn_done, unapply, fault}
 use Rattle.world_rules.specs.Alike.{Alike, OptionAlike, KindAlike, EntryAlike}
-use Rattle.world_rules.specs.Plays.{Ending, Over, Divided, Stopped, Run, Runner, Entered, quiet, finished_as, finished, named_entry, event_entry, turn_entry, entered_as, entered}
+use Rattle.world_rules.specs.Plays.{Ending, Over, Divided, Stopped, Run, Runner, Entered, quiet, finished_as, finished, named_entry, event_entry, turn_entry, entered_as, entry_entered}
 use Rattle.source_laws.specs.StayAlike.{EntriesStayAlike}
 use Rattle.source_laws.specs.Ledger.{step_cost}
-use Rattle.play_meaning.specs.Together.{Begins, RunsAlike, RunEnds, RunStops, RunnersAre}
+use Rattle.play_meaning.specs.Together.{IsFirstPartOf, RunsAlike, RunEnds, RunStops, RunnersAre}
 use Rattle.play_meaning.proofs.Beginnings.{whole_begins, longer_begins, begins_then}
 use Rattle.play_meaning.proofs.Growing.{turn_done_grows}
 
@@ -27,7 +27,7 @@ EntryEnds R code source = (source.stopped ≡ true → ⊥) → EnteredAlike R c
 pub record EntryStops {X Y : Type 0} (R : X → Y → Type 0) (limit : ℕ) (code : Entered X) (source : Entered Y) : Type 0 where
   pub ends : (code.stopped ≡ true → ⊥) → EnteredAlike R code source
   pub count : code.stopped ≡ true → code.count ≡ limit
-  pub told : code.stopped ≡ true → Begins code.world.trace source.world.trace
+  pub told : code.stopped ≡ true → IsFirstPartOf code.world.trace source.world.trace
 
 -- ---- entries that run a script
 
@@ -35,7 +35,7 @@ module _ {X Y : Type 0} (R : X → Y → Type 0) (stay : EntriesStayAlike R) whe
   -- what is left of an entry keeps worlds alike, and only adds to their lines
   pub record Rest (first : World X → World X) (second : World Y → World Y) : Type 0 where
     pub alike : (w : World X) (v : World Y) → Alike R w v → Alike R (first w) (second v)
-    pub grows : (v : World Y) → Begins v.trace (second v).trace
+    pub grows : (v : World Y) → IsFirstPartOf v.trace (second v).trace
 
   pub nothing_left : Rest (λ w. w) (λ v. v)
   nothing_left = record { alike = λ w v a. a; grows = λ v. whole_begins v.trace }
@@ -79,7 +79,7 @@ module _ {X Y : Type 0} (R : X → Y → Type 0) (stay : EntriesStayAlike R) whe
 
   -- ---- where the run isn't
 
-  finished_tells : {first : World X → World X} {second : World Y → World Y} → Rest first second → (r : Run Y) (b : Ending) → Begins r.world.trace (finished_as b second r).world.trace
+  finished_tells : {first : World X → World X} {second : World Y → World Y} → Rest first second → (r : Run Y) (b : Ending) → IsFirstPartOf r.world.trace (finished_as b second r).world.trace
   finished_tells left r Over = left.grows r.world
   finished_tells left r (Divided o) = begins_then (longer_begins r.world.trace _) (left.grows (fault o r.world))
   finished_tells left r Stopped = whole_begins r.world.trace
@@ -161,7 +161,7 @@ module _ {X Y : Type 0} (R : X → Y → Type 0) (stay : EntriesStayAlike R) whe
     kinds_go (Unapply o) (Stored p d) number w v h a = absurd h
     kinds_go (Unapply o) (Turn p) number w v h a = absurd h
 
-    pub entries_go : (b : Begun X) (d : Begun Y) → EntryAlike R b.entry d.entry → Alike R b.world d.world → Q (entered code b) (entered source d)
+    pub entries_go : (b : Begun X) (d : Begun Y) → EntryAlike R b.entry d.entry → Alike R b.world d.world → Q (entry_entered code b) (entry_entered source d)
     entries_go b d e a =
-        subst (λ (n : ℕ). Q (entered code b) (entered_as source d.entry.kind n d.world)) e.number
+        subst (λ (n : ℕ). Q (entry_entered code b) (entered_as source d.entry.kind n d.world)) e.number
         (kinds_go b.entry.kind d.entry.kind b.entry.number b.world d.world e.kind a)

@@ -25,11 +25,11 @@ use Rattle.world_rules.specs.AlikeLaws.{call}
 use Rattle.world_rules.specs.Turns.{next_turn, turn_done}
 use Rattle.machine_rules.specs.Frames.{Frame}
 use Rattle.machine_rules.specs.Act.{Act, Moves, Asks, Executes, Returns, Divides, act}
-use Rattle.machine_rules.specs.Machine.{Next, Goes, Ends, Divided, depth_limit, begun, executed, over, followed, next_op, script_named, step}
+use Rattle.machine_rules.specs.Machine.{Next, Goes, Ends, Divided, waiting_limit, script_begun, executed, over, followed, next_op, script_named, step}
 use Rattle.source_meaning.specs.Scripts.{Setting}
 use Rattle.source_laws.specs.Ledger.{Machine, MachineHost}
 use Rattle.source_laws.specs.Executing.{IsHostOf}
-use Rattle.play_meaning.specs.Together.{Begins}
+use Rattle.play_meaning.specs.Together.{IsFirstPartOf}
 use Rattle.play_meaning.proofs.Beginnings.{whole_begins, longer_begins}
 
 -- ---- the engine
@@ -37,7 +37,7 @@ use Rattle.play_meaning.proofs.Beginnings.{whole_begins, longer_begins}
 module _ {X : Type 0} where
   -- the second world has the lines of the first one, and perhaps more
   abbrev Grows : World X → World X → Type 0
-  Grows w v = Begins w.trace v.trace
+  Grows w v = IsFirstPartOf w.trace v.trace
 
   stays : (w : World X) → Grows w w
   stays w = whole_begins w.trace
@@ -218,51 +218,51 @@ lines_after Ends before = before
 lines_after Divided before = before
 
 module _ (s : Setting) (host : MachineHost) (of : IsHostOf host s) where
-  asks_grows : (n caller : ℕ) (values : List Value) (a : Option Saved) (w : World Saved) → Begins w.trace (host.engine n caller values a w).world.trace
+  asks_grows : (n caller : ℕ) (values : List Value) (a : Option Saved) (w : World Saved) → IsFirstPartOf w.trace (host.engine n caller values a w).world.trace
   asks_grows n caller values a w =
-      subst (λ v. Begins w.trace v.trace) (sym (of.engine.world n caller values a w)) (engine_grows host.table s.tables n (call caller values a) w)
+      subst (λ v. IsFirstPartOf w.trace v.trace) (sym (of.engine.world n caller values a w)) (engine_grows host.table s.tables n (call caller values a) w)
 
-  told_grows : (w v u : World Saved) → v ≡ u → Begins w.trace u.trace → Begins w.trace v.trace
-  told_grows w v u is h = subst (λ t. Begins w.trace t.trace) (sym is) h
+  told_grows : (w v u : World Saved) → v ≡ u → IsFirstPartOf w.trace u.trace → IsFirstPartOf w.trace v.trace
+  told_grows w v u is h = subst (λ t. IsFirstPartOf w.trace t.trace) (sym is) h
 
-  begun_grows : (o : Option ℕ) (name : List ℕ) (target : ℕ) (f : Frame) (m : Machine) → Begins m.world.trace (begun host o name target f m).world.trace
+  begun_grows : (o : Option ℕ) (name : List ℕ) (target : ℕ) (f : Frame) (m : Machine) → IsFirstPartOf m.world.trace (script_begun host o name target f m).world.trace
   begun_grows None name target f m = told_grows m.world (host.no_script target name m.world) _ (of.unlisted target name m.world) (longer_begins m.world.trace _)
-  begun_grows (Some script) name target f m = either (nat_lt (length m.waiting) depth_limit) _ _ (whole_begins m.world.trace)
+  begun_grows (Some script) name target f m = either (nat_lt (length m.waiting) waiting_limit) _ _ (whole_begins m.world.trace)
       (told_grows m.world (host.too_deep target name m.world) _ (of.deep target name m.world) (longer_begins m.world.trace _))
     where
-      either : (b : Bool) (t u : Machine) → Begins m.world.trace t.world.trace → Begins m.world.trace u.world.trace → Begins m.world.trace (if b then t else u).world.trace
+      either : (b : Bool) (t u : Machine) → IsFirstPartOf m.world.trace t.world.trace → IsFirstPartOf m.world.trace u.world.trace → IsFirstPartOf m.world.trace (if b then t else u).world.trace
       either true t u h k = h
       either false t u h k = k
 
-  executed_grows : (name : List ℕ) (target : ℕ) (f : Frame) (m : Machine) → Begins m.world.trace (executed host name target f m).world.trace
+  executed_grows : (name : List ℕ) (target : ℕ) (f : Frame) (m : Machine) → IsFirstPartOf m.world.trace (executed host name target f m).world.trace
   executed_grows [] target f m = whole_begins m.world.trace
   executed_grows (b ∷ name) target f m = either (host.may_run f.self target m.world) _ _ (begun_grows (script_named host.scripts (b ∷ name)) (b ∷ name) target f m) (whole_begins m.world.trace)
     where
-      either : (b : Bool) (t u : Machine) → Begins m.world.trace t.world.trace → Begins m.world.trace u.world.trace → Begins m.world.trace (if b then t else u).world.trace
+      either : (b : Bool) (t u : Machine) → IsFirstPartOf m.world.trace t.world.trace → IsFirstPartOf m.world.trace u.world.trace → IsFirstPartOf m.world.trace (if b then t else u).world.trace
       either true t u h k = h
       either false t u h k = k
 
-  over_grows : (waiting : List Frame) (m : Machine) → Begins m.world.trace (lines_after (over waiting m) m.world.trace)
+  over_grows : (waiting : List Frame) (m : Machine) → IsFirstPartOf m.world.trace (lines_after (over waiting m) m.world.trace)
   over_grows [] m = whole_begins m.world.trace
   over_grows (f ∷ waiting) m = whole_begins m.world.trace
 
-  followed_grows : (m : Machine) (a : Act) → Begins m.world.trace (lines_after (followed host m a) m.world.trace)
+  followed_grows : (m : Machine) (a : Act) → IsFirstPartOf m.world.trace (lines_after (followed host m a) m.world.trace)
   followed_grows m (Moves f) = whole_begins m.world.trace
   followed_grows m (Asks routine values action f) = asks_grows routine f.self values action m.world
   followed_grows m (Executes name target f) = executed_grows name target f m
   followed_grows m Returns = over_grows m.waiting m
   followed_grows m Divides = whole_begins m.world.trace
 
-  act_grows : (m t : Machine) (a : Option Act) → option_map (followed host m) a ≡ Some (Goes t) → Begins m.world.trace t.world.trace
+  act_grows : (m t : Machine) (a : Option Act) → option_map (followed host m) a ≡ Some (Goes t) → IsFirstPartOf m.world.trace t.world.trace
   act_grows m t None h = absurd cc
   act_grows m t (Some a) h =
       let is : followed host m a ≡ Goes t = cc in
-      subst (λ n. Begins m.world.trace (lines_after n m.world.trace)) is (followed_grows m a)
+      subst (λ n. IsFirstPartOf m.world.trace (lines_after n m.world.trace)) is (followed_grows m a)
 
-  op_grows : (m t : Machine) (op : Option PlainOp) → option_and_then (λ o. option_map (followed host m) (act host.table o m.running)) op ≡ Some (Goes t) → Begins m.world.trace t.world.trace
+  op_grows : (m t : Machine) (op : Option PlainOp) → option_and_then (λ o. option_map (followed host m) (act host.table o m.running)) op ≡ Some (Goes t) → IsFirstPartOf m.world.trace t.world.trace
   op_grows m t None h = absurd cc
   op_grows m t (Some op) h = act_grows m t (act host.table op m.running) h
 
-  pub step_grows : (m t : Machine) → step host m ≡ Some (Goes t) → Begins m.world.trace t.world.trace
+  pub step_grows : (m t : Machine) → step host m ≡ Some (Goes t) → IsFirstPartOf m.world.trace t.world.trace
   unfolding step
   step_grows m t h = op_grows m t (next_op host.scripts m.running) h

@@ -4,10 +4,10 @@ use Rattle.std.specs.Prelude.{◌==◌, if◌then◌else◌}
 use Rattle.world_rules.specs.World.{World}
 use Rattle.world_rules.specs.Turns.{Begun, begin}
 use Rattle.world_rules.specs.Alike.{Alike, BegunAlike}
-use Rattle.world_rules.specs.Plays.{Runner, Entered, Bounds, Progress, PlayEnd, Done, StoppedInside, Paused, Played, entered, further, full, after_entry, next_entry, plays, play_on, unplayed}
+use Rattle.world_rules.specs.Plays.{Runner, Entered, Bounds, Progress, PlayEnd, Done, StoppedInside, Paused, Played, entry_entered, further, full, after_entry, next_entry, plays, play_on, unplayed}
 use Rattle.source_laws.specs.StayAlike.{EntriesStayAlike}
 use Rattle.source_laws.specs.Ledger.{step_cost}
-use Rattle.play_meaning.specs.Together.{Begins, RunEnds, RunStops, RunnersAre, PlaysAlike, PlayEnds, StoppedAt, PlayStops}
+use Rattle.play_meaning.specs.Together.{IsFirstPartOf, RunEnds, RunStops, RunnersAre, PlaysAlike, PlayEnds, StoppedAt, PlayStops}
 use Rattle.play_meaning.proofs.Beginnings.{whole_begins, longer_begins, begins_then, behind_begins}
 use Rattle.play_meaning.proofs.Entering.{EnteredAlike, EntryEnds, EntryStops, entries_go, finish_ends, quiet_ends, finish_stops, quiet_stops}
 
@@ -15,18 +15,18 @@ use Rattle.play_meaning.proofs.Entering.{EnteredAlike, EntryEnds, EntryStops, en
 
 module _ {X : Type 0} (runner : Runner X) (bounds : Bounds) where
   abbrev Tells : (Progress X → Played X) → Type 0
-  Tells go = (p : Progress X) → Begins p.trace (go p).last.trace
+  Tells go = (p : Progress X) → IsFirstPartOf p.trace (go p).last.trace
 
-  after_tells : (go : Progress X → Played X) → Tells go → (stopped : Bool) (p : Progress X) → Begins p.trace (after_entry stopped p go).last.trace
+  after_tells : (go : Progress X → Played X) → Tells go → (stopped : Bool) (p : Progress X) → IsFirstPartOf p.trace (after_entry stopped p go).last.trace
   after_tells go tells true p = whole_begins p.trace
   after_tells go tells false p = tells p
 
-  next_tells : (go : Progress X → Played X) → Tells go → (b : Option (Begun X)) (p : Progress X) → Begins p.trace (next_entry runner b p go).last.trace
+  next_tells : (go : Progress X → Played X) → Tells go → (b : Option (Begun X)) (p : Progress X) → IsFirstPartOf p.trace (next_entry runner b p go).last.trace
   next_tells go tells None p = whole_begins p.trace
-  next_tells go tells (Some b) p = begins_then (longer_begins p.trace (entered runner b).world.trace) (after_tells go tells (entered runner b).stopped (further (entered runner b) p))
+  next_tells go tells (Some b) p = begins_then (longer_begins p.trace (entry_entered runner b).world.trace) (after_tells go tells (entry_entered runner b).stopped (further (entry_entered runner b) p))
 
   turn_tells : (go : Progress X → Played X) → Tells go → (is_full : Bool) (b : Option (Begun X)) (p : Progress X)
-      → Begins p.trace (if is_full then record { ending = full b; last = p } else next_entry runner b p go).last.trace
+      → IsFirstPartOf p.trace (if is_full then record { ending = full b; last = p } else next_entry runner b p go).last.trace
   turn_tells go tells true b p = whole_begins p.trace
   turn_tells go tells false b p = next_tells go tells b p
 
@@ -84,8 +84,8 @@ module _ {X Y : Type 0} (R : X → Y → Type 0) (stay : EntriesStayAlike R) (co
         → PlayEnds R (next_entry code b p go) (next_entry source d q on)
     next_ends go on rest None None h p q k goes = ended_alike Done Done p q refl k
     next_ends go on rest (Some b) (Some d) h p q k goes =
-        let e = entered code b in
-        let f = entered source d in
+        let e = entry_entered code b in
+        let f = entry_entered source d in
         after_ends go on rest e f (entries_go R stay (RunEnds R) (EntryEnds R) code source runners (quiet_ends R stay) (finish_ends R stay) b d h.0 h.1) p q k e.stopped f.stopped refl refl goes
     next_ends go on rest None (Some d) h p q k goes = absurd h
     next_ends go on rest (Some b) None h p q k goes = absurd h
@@ -120,15 +120,15 @@ module _ {X Y : Type 0} (R : X → Y → Type 0) (stay : EntriesStayAlike R) (co
     full_goes (Some b) h = absurd cc
 
     -- an entry before those that a play took till it was stopped
-    entry_before : (b : Begun X) (p : Progress X) (played : Played X) → (p.entries == bounds.entries) ≡ false → begin bounds.until p.world ≡ Some b → (entered code b).stopped ≡ false
-        → StoppedAt code bounds limit (further (entered code b) p) played → StoppedAt code bounds limit p played
+    entry_before : (b : Begun X) (p : Progress X) (played : Played X) → (p.entries == bounds.entries) ≡ false → begin bounds.until p.world ≡ Some b → (entry_entered code b).stopped ≡ false
+        → StoppedAt code bounds limit (further (entry_entered code b) p) played → StoppedAt code bounds limit p played
     entry_before b p played unfull begins passes h = record {
       less = suc h.less;
       before = h.before;
       goes =
           ap (λ (t : Bool). if t then record { ending = full (begin bounds.until p.world); last = p } else next_entry code (begin bounds.until p.world) p (plays code bounds h.less)) unfull
           ∙ ap (λ (next : Option (Begun X)). next_entry code next p (plays code bounds h.less)) begins
-          ∙ ap (λ (t : Bool). after_entry t (further (entered code b) p) (plays code bounds h.less)) passes
+          ∙ ap (λ (t : Bool). after_entry t (further (entry_entered code b) p) (plays code bounds h.less)) passes
           ∙ h.goes;
       entries = let e = h.entries in omega arith;
       begun = h.begun;
@@ -138,15 +138,15 @@ module _ {X Y : Type 0} (R : X → Y → Type 0) (stay : EntriesStayAlike R) (co
       last = h.last;
     }
 
-    after_stops : (go : Progress X → Played X) (on : Progress Y → Played Y) → Stops go on → ((q : Progress Y) → Begins q.trace (on q).last.trace)
-        → (b : Begun X) (d : Begun Y) → EntryStops R limit (entered code b) (entered source d) → (p : Progress X) (q : Progress Y) → (p.entries == bounds.entries) ≡ false → begin bounds.until p.world ≡ Some b → ProgressAlike R p q
-        → (stopped other : Bool) → (entered code b).stopped ≡ stopped → (entered source d).stopped ≡ other
-        → PlayStops R code bounds limit p (after_entry stopped (further (entered code b) p) go) (after_entry other (further (entered source d) q) on)
+    after_stops : (go : Progress X → Played X) (on : Progress Y → Played Y) → Stops go on → ((q : Progress Y) → IsFirstPartOf q.trace (on q).last.trace)
+        → (b : Begun X) (d : Begun Y) → EntryStops R limit (entry_entered code b) (entry_entered source d) → (p : Progress X) (q : Progress Y) → (p.entries == bounds.entries) ≡ false → begin bounds.until p.world ≡ Some b → ProgressAlike R p q
+        → (stopped other : Bool) → (entry_entered code b).stopped ≡ stopped → (entry_entered source d).stopped ≡ other
+        → PlayStops R code bounds limit p (after_entry stopped (further (entry_entered code b) p) go) (after_entry other (further (entry_entered source d) q) on)
     after_stops go on rest tells b d h p q unfull begins k true other is other_is =
-        let e = entered code b in
-        let f = entered source d in
-        let first : Begins (p.trace ++ e.world.trace) (q.trace ++ f.world.trace) =
-        subst (λ l. Begins (p.trace ++ e.world.trace) (l ++ f.world.trace)) k.trace (behind_begins p.trace (h.told is)) in
+        let e = entry_entered code b in
+        let f = entry_entered source d in
+        let first : IsFirstPartOf (p.trace ++ e.world.trace) (q.trace ++ f.world.trace) =
+        subst (λ l. IsFirstPartOf (p.trace ++ e.world.trace) (l ++ f.world.trace)) k.trace (behind_begins p.trace (h.told is)) in
         record {
           ends = λ goes. absurd (goes refl);
           stopped = λ stops. record {
@@ -163,24 +163,24 @@ module _ {X Y : Type 0} (R : X → Y → Type 0) (stay : EntriesStayAlike R) (co
           told = λ stops. begins_then first (after_tells source bounds on tells other (further f q));
         }
     after_stops go on rest tells b d h p q unfull begins k false false is other_is =
-        let so = rest (further (entered code b) p) (further (entered source d) q) (further_alike (entered code b) (entered source d) p q (h.ends (λ stops. absurd cc)) k) in
-        record { ends = so.ends; stopped = λ stops. entry_before b p (go (further (entered code b) p)) unfull begins is (so.stopped stops); told = so.told }
+        let so = rest (further (entry_entered code b) p) (further (entry_entered source d) q) (further_alike (entry_entered code b) (entry_entered source d) p q (h.ends (λ stops. absurd cc)) k) in
+        record { ends = so.ends; stopped = λ stops. entry_before b p (go (further (entry_entered code b) p)) unfull begins is (so.stopped stops); told = so.told }
     after_stops go on rest tells b d h p q unfull begins k false true is other_is =
         let a = h.ends (λ stops. absurd cc) in
         let same = a.stopped in
         absurd cc
 
-    next_stops : (go : Progress X → Played X) (on : Progress Y → Played Y) → Stops go on → ((q : Progress Y) → Begins q.trace (on q).last.trace)
+    next_stops : (go : Progress X → Played X) (on : Progress Y → Played Y) → Stops go on → ((q : Progress Y) → IsFirstPartOf q.trace (on q).last.trace)
         → (b : Option (Begun X)) (d : Option (Begun Y)) → BegunAlike R b d → (p : Progress X) (q : Progress Y) → (p.entries == bounds.entries) ≡ false → begin bounds.until p.world ≡ b → ProgressAlike R p q
         → PlayStops R code bounds limit p (next_entry code b p go) (next_entry source d q on)
     next_stops go on rest tells None None h p q unfull begins k = goes_on p (record { ending = Done; last = p }) (record { ending = Done; last = q }) (λ is. absurd cc) (ended_alike Done Done p q refl k)
     next_stops go on rest tells (Some b) (Some d) h p q unfull begins k =
         after_stops go on rest tells b d (entries_go R stay (RunStops R limit) (EntryStops R limit) code source runners (quiet_stops R stay limit) (finish_stops R stay limit) b d h.0 h.1)
-        p q unfull begins k (entered code b).stopped (entered source d).stopped refl refl
+        p q unfull begins k (entry_entered code b).stopped (entry_entered source d).stopped refl refl
     next_stops go on rest tells None (Some d) h p q unfull begins k = absurd h
     next_stops go on rest tells (Some b) None h p q unfull begins k = absurd h
 
-    turn_stops : (go : Progress X → Played X) (on : Progress Y → Played Y) → Stops go on → ((q : Progress Y) → Begins q.trace (on q).last.trace)
+    turn_stops : (go : Progress X → Played X) (on : Progress Y → Played Y) → Stops go on → ((q : Progress Y) → IsFirstPartOf q.trace (on q).last.trace)
         → (is_full : Bool) (b : Option (Begun X)) (d : Option (Begun Y)) → BegunAlike R b d → (p : Progress X) (q : Progress Y) → (p.entries == bounds.entries) ≡ is_full → begin bounds.until p.world ≡ b → ProgressAlike R p q
         → PlayStops R code bounds limit p (if is_full then record { ending = full b; last = p } else next_entry code b p go) (if is_full then record { ending = full d; last = q } else next_entry source d q on)
     turn_stops go on rest tells true b d h p q fullness begins k =

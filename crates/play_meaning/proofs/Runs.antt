@@ -16,7 +16,7 @@ use Rattle.source_meaning.specs.Plays as source
 use Rattle.source_laws.specs.Ledger.{Machine, MachineHost, later, step_cost}
 use Rattle.source_laws.specs.Executing.{IsHostOf}
 use Rattle.source_laws.specs.Entries.{EndsAs, EntryRuns}
-use Rattle.play_meaning.specs.Together.{Begins, RunsAlike, RunEnds, RunStops}
+use Rattle.play_meaning.specs.Together.{IsFirstPartOf, RunsAlike, RunEnds, RunStops}
 use Rattle.play_meaning.proofs.Earlier.{Earlier, earlier}
 
 module _ (host : MachineHost) (R : Saved → Deferred → Type 0) (traces : (w : World Saved) (v : World Deferred) → Alike R w v → w.trace ≡ v.trace) where
@@ -60,7 +60,7 @@ module _ (host : MachineHost) (R : Saved → Deferred → Type 0) (traces : (w :
         let on : short.ending ≡ OutOfInstructions → ⊥ = λ is. goes (ap (λ e. ending_of e short.last.running.self) is) in
         subst (λ a. RunsAlike R (code.run_of a) r) (sym (h.ends on)) (alike (λ is. on (ap (λ a. a.ending) (h.ends on) ∙ is)));
     count = λ is. h.count (stopped short.ending refl is);
-    told = λ is. subst (λ t. Begins short.last.world.trace t) same (h.told (stopped short.ending refl is));
+    told = λ is. subst (λ t. IsFirstPartOf short.last.world.trace t) same (h.told (stopped short.ending refl is));
   }
     where
       stopped : (e : runs.Ending) → short.ending ≡ e → ending_of e short.last.running.self ≡ Stopped → short.ending ≡ OutOfInstructions

@@ -5,11 +5,11 @@ use Rattle.std.specs.Prelude.{◌≡◌, ◌≤◌, ℕ, ◌+◌, ◌*◌, List,
 use Rattle.world_rules.specs.World.{World}
 use Rattle.world_rules.specs.Turns.{Begun, begin}
 use Rattle.world_rules.specs.Alike.{Alike}
-use Rattle.world_rules.specs.Plays.{Stopped, Run, Runner, Progress, StoppedInside, Paused, Played, Bounds, entered, further, plays}
+use Rattle.world_rules.specs.Plays.{Stopped, Run, Runner, Progress, StoppedInside, Paused, Played, Bounds, entry_entered, further, plays}
 use Rattle.source_laws.specs.Ledger.{step_cost}
 
 -- the one list is a beginning of the other, or all of it
-pub record Begins {A : Type 0} (part whole : List A) : Type 0 where
+pub record IsFirstPartOf {A : Type 0} (part whole : List A) : Type 0 where
   pub more : List A
   pub is : whole ≡ part ++ more
 
@@ -32,7 +32,7 @@ RunEnds R code source = (source.ending ≡ Stopped → ⊥) → RunsAlike R code
 pub record RunStops {X Y : Type 0} (R : X → Y → Type 0) (limit : ℕ) (code : Run X) (source : Run Y) : Type 0 where
   pub ends : (code.ending ≡ Stopped → ⊥) → RunsAlike R code source
   pub count : code.ending ≡ Stopped → code.count ≡ limit
-  pub told : code.ending ≡ Stopped → Begins code.world.trace source.world.trace
+  pub told : code.ending ≡ Stopped → IsFirstPartOf code.world.trace source.world.trace
 
 -- Two runners know the same scripts, and what they run goes together in worlds that are alike.
 pub record RunnersAre {X Y : Type 0} (R : X → Y → Type 0) (P : Run X → Run Y → Type 0) (code : Runner X) (source : Runner Y) : Type 0 where
@@ -72,9 +72,9 @@ pub record StoppedAt {X : Type 0} (runner : Runner X) (bounds : Bounds) (limit :
   pub entries : p.last.entries ≡ from.entries + less + 1
   pub begun : Begun X
   pub is : begin bounds.until before.world ≡ Some begun
-  pub stopped : (entered runner begun).stopped ≡ true
-  pub count : (entered runner begun).count ≡ limit
-  pub last : p.last ≡ further (entered runner begun) before
+  pub stopped : (entry_entered runner begun).stopped ≡ true
+  pub count : (entry_entered runner begun).count ≡ limit
+  pub last : p.last ≡ further (entry_entered runner begun) before
 
 -- So where the play of code isn't stopped. Where it is, all the instructions that an entry may take
 -- were made in its last entry, and what it has told is a beginning of what the play of source
@@ -82,4 +82,4 @@ pub record StoppedAt {X : Type 0} (runner : Runner X) (bounds : Bounds) (limit :
 pub record PlayStops {X Y : Type 0} (R : X → Y → Type 0) (runner : Runner X) (bounds : Bounds) (limit : ℕ) (from : Progress X) (code : Played X) (source : Played Y) : Type 0 where
   pub ends : (code.ending ≡ StoppedInside → ⊥) → PlaysAlike R code source
   pub stopped : code.ending ≡ StoppedInside → StoppedAt runner bounds limit from code
-  pub told : code.ending ≡ StoppedInside → Begins code.last.trace source.last.trace
+  pub told : code.ending ≡ StoppedInside → IsFirstPartOf code.last.trace source.last.trace

@@ -26,8 +26,8 @@ use Rattle.ncs_machine.specs.Stored.{KindFits, EntryFits, ItemFits, ThingsFit}
 use Rattle.state_format.specs.declared.parts.Captured.{Captured}
 use Rattle.state_format.specs.declared.parts.Item.{Item}
 use Rattle.state_format.specs.declared.parts.Item.TheVariants as item
-use Rattle.state_format.specs.declared.parts.Kind.{Kind}
-use Rattle.state_format.specs.declared.parts.Kind.TheVariants as kind
+use Rattle.state_format.specs.declared.parts.KindPart.{KindPart}
+use Rattle.state_format.specs.declared.parts.KindPart.TheVariants as kind
 use Rattle.state_format.specs.declared.parts.Object.{Object}
 use Rattle.state_format.specs.declared.parts.Entry.{Entry as Part}
 use Rattle.state_format.specs.declared.parts.Script.{Script}
@@ -214,7 +214,7 @@ objects_there : (s : Parts) (ls : List Loaded) (f : (c : Captured) → FitsOne (
 objects_there s ls f [] all = tt
 objects_there s ls f (o ∷ os) all = (items_there s ls f o.items all.0, objects_there s ls f os all.1)
 
-kind_there : (s : Parts) (ls : List Loaded) (f : (c : Captured) → FitsOne (scripts_of ls) (tables_of ls) (saved_of c) → IsCapturedIn s c) (k : Kind)
+kind_there : (s : Parts) (ls : List Loaded) (f : (c : Captured) → FitsOne (scripts_of ls) (tables_of ls) (saved_of c) → IsCapturedIn s c) (k : KindPart)
     → KindFits (scripts_of ls) (tables_of ls) (kind_of k) → KindHolds (IsCapturedIn s) k
 kind_there s ls f (kind.Event o script user) is = tt
 kind_there s ls f (kind.Stored o c) is = f c is

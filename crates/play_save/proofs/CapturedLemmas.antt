@@ -19,8 +19,8 @@ use Rattle.ncs_machine.specs.declared.scripts.Loaded.{Loaded}
 use Rattle.state_format.specs.declared.parts.Captured.{Captured}
 use Rattle.state_format.specs.declared.parts.Item.{Item}
 use Rattle.state_format.specs.declared.parts.Item.TheVariants as item
-use Rattle.state_format.specs.declared.parts.Kind.{Kind}
-use Rattle.state_format.specs.declared.parts.Kind.TheVariants as kind
+use Rattle.state_format.specs.declared.parts.KindPart.{KindPart}
+use Rattle.state_format.specs.declared.parts.KindPart.TheVariants as kind
 use Rattle.state_format.specs.declared.parts.Object.{Object}
 use Rattle.state_format.specs.declared.parts.Entry.{Entry}
 use Rattle.state_format.specs.declared.parts.Script.{Script}
@@ -130,7 +130,7 @@ item_map f (item.Do c) is = f c is
 item_map f (item.Wait ms) is = tt
 item_map f (item.Speak text) is = tt
 
-kind_map : {P Q : Captured → Type 0} (f : (c : Captured) → P c → Q c) (k : Kind) → KindHolds P k → KindHolds Q k
+kind_map : {P Q : Captured → Type 0} (f : (c : Captured) → P c → Q c) (k : KindPart) → KindHolds P k → KindHolds Q k
 kind_map f (kind.Event o script user) is = tt
 kind_map f (kind.Stored o c) is = f c is
 kind_map f (kind.Turn o) is = tt

@@ -10,10 +10,10 @@ use Rattle.ncs_code.specs.Plain.{PlainLit, PlainOp, Int, Float, Text, Object, Cp
 use Rattle.ncs_code.specs.Spelling.{two, four, signed, run_size, lit_spelling, spelling, LitFits, Fits, IsOp}
 use Rattle.ncs_code.specs.File.{IsCode, magic, spellings, file_bytes, file_length}
 use Rattle.ncs_code.specs.Laws.{FileLength}
-use Rattle.state_format.specs.Parts.{AreBytes, IsBlob}
+use Rattle.state_format.specs.Parts.{AreStateBytes, IsBlob}
 use Rattle.std.proofs.lemmas.List.Elements.{recursion_from_All}
 
-joined_bytes : (xs ys : List ℕ) → AreBytes xs → AreBytes ys → AreBytes (xs ++ ys)
+joined_bytes : (xs ys : List ℕ) → AreStateBytes xs → AreStateBytes ys → AreStateBytes (xs ++ ys)
 joined_bytes [] ys p q = q
 joined_bytes (x ∷ xs) ys p q = (p.0, joined_bytes xs ys p.1 q)
 
@@ -31,38 +31,38 @@ one_byte : (i n : ℕ) → byte_at i n < 256
 one_byte zero n = mod-lt n (omega arith)
 one_byte (suc i) n = mod-lt _ (omega arith)
 
-high_bytes : (k n : ℕ) → AreBytes (bytes_high_first k n)
+high_bytes : (k n : ℕ) → AreStateBytes (bytes_high_first k n)
 high_bytes zero n = tt
 high_bytes (suc k) n = (one_byte k n, high_bytes k n)
 
-two_bytes : (n : ℕ) → AreBytes (two n)
+two_bytes : (n : ℕ) → AreStateBytes (two n)
 unfolding two
 two_bytes n = high_bytes 2 n
 
-four_bytes : (n : ℕ) → AreBytes (four n)
+four_bytes : (n : ℕ) → AreStateBytes (four n)
 unfolding four
 four_bytes n = high_bytes 4 n
 
-signed_bytes : (n : ℤ) → AreBytes (signed n)
+signed_bytes : (n : ℤ) → AreStateBytes (signed n)
 unfolding signed
 signed_bytes n = high_bytes 4 (cast_unsigned w32 n)
 
 -- ---- instructions
 
-run_bytes : (kind size : ℕ) → AreBytes (run_size kind size)
+run_bytes : (kind size : ℕ) → AreStateBytes (run_size kind size)
 run_bytes kind size = by_kind (kind == 0x24)
   where
-    by_kind : (b : Bool) → AreBytes (if b then two size else [])
+    by_kind : (b : Bool) → AreStateBytes (if b then two size else [])
     by_kind true = two_bytes size
     by_kind false = tt
 
-lit_bytes : (lit : PlainLit) → LitFits lit → AreBytes (lit_spelling lit)
+lit_bytes : (lit : PlainLit) → LitFits lit → AreStateBytes (lit_spelling lit)
 lit_bytes (Int n) fits = (omega arith, signed_bytes n)
 lit_bytes (Float bytes) fits = (omega arith, recursion_from_All _ bytes fits.1)
 lit_bytes (Text bytes) fits = (omega arith, joined_bytes (two (length bytes)) bytes (two_bytes (length bytes)) (recursion_from_All _ bytes fits))
 lit_bytes (Object n) fits = (omega arith, four_bytes n)
 
-spelled_bytes : (op : PlainOp) → Fits op → AreBytes (spelling op)
+spelled_bytes : (op : PlainOp) → Fits op → AreStateBytes (spelling op)
 spelled_bytes (CpDownSp offset size) fits = (omega arith, (omega arith, joined_bytes (signed offset) (two size) (signed_bytes offset) (two_bytes size)))
 spelled_bytes (RsAdd kind) fits = (omega arith, ((let small = fits in omega (arith, small)), tt))
 spelled_bytes (CpTopSp offset size) fits = (omega arith, (omega arith, joined_bytes (signed offset) (two size) (signed_bytes offset) (two_bytes size)))
@@ -109,7 +109,7 @@ spelled_bytes RestoreBp fits = (omega arith, (omega arith, tt))
 spelled_bytes (StoreState globals locals) fits = (omega arith, (omega arith, joined_bytes (four globals) (four locals) (four_bytes globals) (four_bytes locals)))
 spelled_bytes Nop fits = (omega arith, (omega arith, tt))
 
-all_spelled : (ops : List PlainOp) → AllByRecursion IsOp ops → AreBytes (spellings ops)
+all_spelled : (ops : List PlainOp) → AllByRecursion IsOp ops → AreStateBytes (spellings ops)
 all_spelled [] all = tt
 all_spelled (op ∷ ops) all = joined_bytes (spelling op) (spellings ops) (spelled_bytes op all.0.fits) (all_spelled ops all.1)
 
@@ -119,7 +119,7 @@ file_blob sizes ops code = (
   joined_bytes magic _ magic_bytes (joined_bytes (four (file_length ops)) (spellings ops) (four_bytes (file_length ops)) (all_spelled ops code.each)),
 )
   where
-    magic_bytes : AreBytes magic
+    magic_bytes : AreStateBytes magic
     magic_bytes = (omega arith, (omega arith, (omega arith, (omega arith, (omega arith, (omega arith, (omega arith, (omega arith, (omega arith, tt)))))))))
 
 -- ---- names
@@ -127,7 +127,7 @@ file_blob sizes ops code = (
 name_byte : (b : ℕ) → IsTrue (is_script_byte b) → b < 256
 name_byte b is = grind (arith, nat_tests)
 
-name_bytes : (name : List ℕ) → IsTrue (list_all is_script_byte name) → AreBytes name
+name_bytes : (name : List ℕ) → IsTrue (list_all is_script_byte name) → AreStateBytes name
 name_bytes [] all = tt
 name_bytes (b ∷ name) all = (name_byte b (first_of (is_script_byte b) (list_all is_script_byte name) all), name_bytes name (second_of (is_script_byte b) (list_all is_script_byte name) all))
 

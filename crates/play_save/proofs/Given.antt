@@ -6,7 +6,7 @@ use Rattle.std.specs.List.{AllByRecursion, IsDistinct}
 use Rattle.std.proofs.lemmas.List.{take_all}
 use Rattle.local_variables.specs.Variables.{Variable, same_variable}
 use Rattle.area_rules.specs.Objects.{AreaObject, objects_of}
-use Rattle.area_rules.specs.Area.{PlainArea, changed, changed_at}
+use Rattle.area_rules.specs.Area.{PlainArea, changed, variables_changed_at}
 use Rattle.delay_agenda.specs.declared.entry.Entry.{Entry}
 use Rattle.delay_agenda.specs.Waiting.{Waiting, IsAgenda, turn_count}
 use Rattle.world_rules.specs.declared.data.Things.{Things}
@@ -29,7 +29,7 @@ with_none [] = refl
 with_none (o ∷ os) = refl
 
 given_at : (os : List AreaObject) (ps : List Object) (i : ℕ) (p : Object) (vs : List Variable) → vs ≡ variables_of p → i < length ps → length ps ≡ length os → p ≡ get_or ps i p
-    → changed_at i (λ _. vs) (with_variables os (take i ps)) ≡ with_variables os (take (suc i) ps)
+    → variables_changed_at i (λ _. vs) (with_variables os (take i ps)) ≡ with_variables os (take (suc i) ps)
 given_at [] [] i p vs is h same at = absurd (omega arith)
 given_at [] (q ∷ ps) i p vs is h same at = absurd (omega arith)
 given_at (o ∷ os) [] i p vs is h same at = absurd (omega arith)
@@ -104,7 +104,7 @@ pub given_more : (first before after : PlainArea) (ps : List Object) (i o : ℕ)
     → i < length ps → p ≡ get_or ps i p → after ≡ record first { objects = with_variables first.objects (take (i + 1) ps) }
 given_more first before after ps i o p vs same was now number is h at =
     now ∙ ap (λ (a : PlainArea). changed a o (λ _. vs)) was
-    ∙ ap (λ (k : ℕ). record first { objects = changed_at k (λ _. vs) (with_variables first.objects (take i ps)) }) (omega arith)
+    ∙ ap (λ (k : ℕ). record first { objects = variables_changed_at k (λ _. vs) (with_variables first.objects (take i ps)) }) (omega arith)
     ∙ ap (λ (l : List AreaObject). record first { objects = l }) (given_at first.objects ps i p vs is h same at ∙ ap (λ (k : ℕ). with_variables first.objects (take k ps)) (sym (add-one i)))
 
 -- ---- the loop over the objects

@@ -5,7 +5,7 @@ use Rattle.std.specs.List.{AllByRecursion}
 use Rattle.gff_tree.specs.Whole.{PlainGff}
 use Rattle.gff_read.specs.declared.fault.TreeFault.{TreeFault}
 use Rattle.gff_read.specs.declared.fault.TreeFault.TheVariants as fault
-use Rattle.gff_read.specs.Rows.{Fails}
+use Rattle.gff_read.specs.Rows.{TreeFails}
 use Rattle.gff_read.specs.Stands.{Stands, OneTree}
 use Rattle.area_rules.specs.Area.{PlainArea, area_of}
 use Rattle.area_rules.specs.declared.fault.AreaFault.{AreaFault}
@@ -75,11 +75,11 @@ entries_hold scripts tables w area parts law same fit =
 -- ---- areas
 
 -- bytes that aren't read stand for no tree
-pub no_tree : (bytes seen : List ℕ) (f : TreeFault) → seen ≡ bytes → ((gff : PlainGff) → Stands seen gff → Fails f (Ok gff)) → (f ≡ fault.NoMemory → ⊥)
+pub no_tree : (bytes seen : List ℕ) (f : TreeFault) → seen ≡ bytes → ((gff : PlainGff) → Stands seen gff → TreeFails f (Ok gff)) → (f ≡ fault.NoMemory → ⊥)
     → ((tree : PlainGff) × IsAreaOf tree bytes) → ⊥
 no_tree bytes seen f same only other has = refused f (only has.0 (subst (λ (l : List ℕ). Stands l has.0) (sym same) has.1.stands)) other
   where
-    refused : (g : TreeFault) → Fails g (Ok has.0) → (g ≡ fault.NoMemory → ⊥) → ⊥
+    refused : (g : TreeFault) → TreeFails g (Ok has.0) → (g ≡ fault.NoMemory → ⊥) → ⊥
     refused (fault.Range range) is other = absurd cc
     refused (fault.Kind n) is other = absurd cc
     refused (fault.Shared n) is other = absurd cc

@@ -30,8 +30,8 @@ use Rattle.state_format.specs.declared.parts.Standing.{Standing}
 use Rattle.state_format.specs.declared.parts.Item.{Item as ItemPart}
 use Rattle.state_format.specs.declared.parts.Item.TheVariants as item
 use Rattle.state_format.specs.declared.parts.Object.{Object}
-use Rattle.state_format.specs.declared.parts.Kind.{Kind as KindPart}
-use Rattle.state_format.specs.declared.parts.Kind.TheVariants as kind
+use Rattle.state_format.specs.declared.parts.KindPart.{KindPart}
+use Rattle.state_format.specs.declared.parts.KindPart.TheVariants as kind
 use Rattle.state_format.specs.declared.parts.Entry.{Entry as EntryPart}
 use Rattle.state_format.specs.Parts.{IsBlob, IsCaptured, IsCell, IsEntry, IsItem, IsKind, IsNumber, IsStanding, IsVariable}
 use Rattle.play_save.specs.World.{cell_of, saved_of, variable_of, stood_of, item_of, kind_of, entry_of}

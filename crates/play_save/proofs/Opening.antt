@@ -23,8 +23,8 @@ use Rattle.gff_tree.specs.Whole.{PlainGff}
 use Rattle.state_format.specs.declared.parts.Captured.{Captured}
 use Rattle.state_format.specs.declared.parts.Item.{Item as ItemPart}
 use Rattle.state_format.specs.declared.parts.Item.TheVariants as item
-use Rattle.state_format.specs.declared.parts.Kind.TheVariants as kind
-use Rattle.state_format.specs.declared.parts.Kind.{Kind}
+use Rattle.state_format.specs.declared.parts.KindPart.TheVariants as kind
+use Rattle.state_format.specs.declared.parts.KindPart.{KindPart}
 use Rattle.state_format.specs.declared.parts.Object.{Object}
 use Rattle.state_format.specs.declared.parts.Entry.{Entry}
 use Rattle.state_format.specs.declared.parts.Script.{Script}
@@ -101,7 +101,7 @@ objects_fit ls (o ∷ os) all = (items_fit ls o.items all.0, objects_fit ls os a
 kind_fits : (ls : List Loaded) (e : Entry) → KindHolds (IsFitting ls) e.kind → EntryFits (scripts_of ls) (tables_of ls) (entry_of e)
 kind_fits ls e is = by_kind e.kind is
   where
-    by_kind : (k : Kind) → KindHolds (IsFitting ls) k → EntryFits (scripts_of ls) (tables_of ls) (entry_of (record e { kind = k }))
+    by_kind : (k : KindPart) → KindHolds (IsFitting ls) k → EntryFits (scripts_of ls) (tables_of ls) (entry_of (record e { kind = k }))
     by_kind (kind.Event o script user) is = tt
     by_kind (kind.Stored o c) is = one_fits ls c is
     by_kind (kind.Turn o) is = tt

@@ -28,8 +28,8 @@ use Rattle.world_rules.specs.World.{World, queue_of, queue_in}
 use Rattle.state_format.specs.declared.parts.Captured.{Captured}
 use Rattle.state_format.specs.declared.parts.Item.{Item}
 use Rattle.state_format.specs.declared.parts.Item.TheVariants as item
-use Rattle.state_format.specs.declared.parts.Kind.{Kind}
-use Rattle.state_format.specs.declared.parts.Kind.TheVariants as kind
+use Rattle.state_format.specs.declared.parts.KindPart.{KindPart}
+use Rattle.state_format.specs.declared.parts.KindPart.TheVariants as kind
 use Rattle.state_format.specs.declared.parts.Object.{Object}
 use Rattle.state_format.specs.declared.parts.Entry.{Entry as Part}
 use Rattle.state_format.specs.declared.parts.Script.{Script as ScriptPart}
@@ -120,7 +120,7 @@ module _ (s : Parts) (header : EngineTable) (scripts : List Script) (f : (c : Ca
   objects_in [] all = tt
   objects_in (o ∷ os) all = (items_in o.items (λ tables meet. (all tables meet).0), objects_in os (λ tables meet. (all tables meet).1))
 
-  kind_in : (k : Kind) → ((tables : Tables) → AllMeet header scripts tables → KindFits scripts tables (kind_of k)) → KindHolds (IsCapturedIn s) k
+  kind_in : (k : KindPart) → ((tables : Tables) → AllMeet header scripts tables → KindFits scripts tables (kind_of k)) → KindHolds (IsCapturedIn s) k
   kind_in (kind.Event o script user) all = tt
   kind_in (kind.Stored o c) all = f c all
   kind_in (kind.Turn o) all = tt

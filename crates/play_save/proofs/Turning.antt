@@ -12,8 +12,8 @@ use Rattle.saved_state.specs.declared.saved.Saved.{Saved}
 use Rattle.world_rules.specs.Kept.{IsPlaced}
 use Rattle.state_format.specs.declared.parts.Captured.{Captured}
 use Rattle.state_format.specs.declared.parts.Entry.{Entry as Part}
-use Rattle.state_format.specs.declared.parts.Kind.{Kind as PartKind}
-use Rattle.state_format.specs.declared.parts.Kind.TheVariants as kind
+use Rattle.state_format.specs.declared.parts.KindPart.{KindPart}
+use Rattle.state_format.specs.declared.parts.KindPart.TheVariants as kind
 use Rattle.state_format.specs.declared.parts.Object.{Object}
 use Rattle.play_save.specs.World.{entry_of, kind_of}
 use Rattle.state_format.specs.declared.parts.Parts.{Parts}
@@ -46,20 +46,20 @@ zero_apart : (i : ℕ) → nat_eq 0 (suc i) ≡ false
 zero_apart i = grind (arith, nat_tests)
 
 pub only_turn : (e : Part) (object : ℕ) → e.kind ≡ kind.Turn object → IsTurnOnlyOf object e
-only_turn e object is i = ap (λ (k : PartKind). is_turn_kind (suc i) (kind_of k)) is
+only_turn e object is i = ap (λ (k : KindPart). is_turn_kind (suc i) (kind_of k)) is
 
 pub no_event : (e : Part) (o : ℕ) (script : List ℕ) (user : ℤ) → e.kind ≡ kind.Event o script user → IsTurnOnlyOf 0 e
-no_event e o script user is i = ap (λ (k : PartKind). is_turn_kind (suc i) (kind_of k)) is ∙ sym (zero_apart i)
+no_event e o script user is i = ap (λ (k : KindPart). is_turn_kind (suc i) (kind_of k)) is ∙ sym (zero_apart i)
 
 pub no_stored : (e : Part) (o : ℕ) (c : Captured) → e.kind ≡ kind.Stored o c → IsTurnOnlyOf 0 e
-no_stored e o c is i = ap (λ (k : PartKind). is_turn_kind (suc i) (kind_of k)) is ∙ sym (zero_apart i)
+no_stored e o c is i = ap (λ (k : KindPart). is_turn_kind (suc i) (kind_of k)) is ∙ sym (zero_apart i)
 
 pub no_unapply : (e : Part) (o : ℕ) → e.kind ≡ kind.Unapply o → IsTurnOnlyOf 0 e
-no_unapply e o is i = ap (λ (k : PartKind). is_turn_kind (suc i) (kind_of k)) is ∙ sym (zero_apart i)
+no_unapply e o is i = ap (λ (k : KindPart). is_turn_kind (suc i) (kind_of k)) is ∙ sym (zero_apart i)
 
 pub turn_placed : (most : ℕ) (e : Part) (object : ℕ) → e.kind ≡ kind.Turn object → IsPlaced most (kind_of e.kind) → object ≤ most
 turn_placed most e object is placed =
-    let both : (1 ≤ object) × (object ≤ most) = subst (λ (k : PartKind). IsPlaced most (kind_of k)) is placed in
+    let both : (1 ≤ object) × (object ≤ most) = subst (λ (k : KindPart). IsPlaced most (kind_of k)) is placed in
     both.1
 
 -- ---- all entries so far

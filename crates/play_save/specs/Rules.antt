@@ -27,8 +27,8 @@ use Rattle.state_format.specs.declared.parts.Captured.{Captured}
 use Rattle.state_format.specs.declared.parts.Item.{Item}
 use Rattle.state_format.specs.declared.parts.Item.TheVariants as item
 use Rattle.state_format.specs.declared.parts.Object.{Object}
-use Rattle.state_format.specs.declared.parts.Kind.{Kind}
-use Rattle.state_format.specs.declared.parts.Kind.TheVariants as kind
+use Rattle.state_format.specs.declared.parts.KindPart.{KindPart}
+use Rattle.state_format.specs.declared.parts.KindPart.TheVariants as kind
 use Rattle.state_format.specs.declared.parts.Entry.{Entry}
 use Rattle.state_format.specs.declared.parts.Script.{Script}
 use Rattle.state_format.specs.declared.parts.Parts.{Parts}
@@ -83,7 +83,7 @@ ItemHolds Is (item.Do c) = Is c
 ItemHolds Is (item.Wait ms) = Unit {0}
 ItemHolds Is (item.Speak text) = Unit {0}
 
-abbrev pub KindHolds : (Captured → Type 0) → Kind → Type 0
+abbrev pub KindHolds : (Captured → Type 0) → KindPart → Type 0
 KindHolds Is (kind.Event o script user) = Unit {0}
 KindHolds Is (kind.Stored o c) = Is c
 KindHolds Is (kind.Turn o) = Unit {0}
@@ -117,7 +117,7 @@ are_short_items items = list_all is_short_item items
 abbrev pub has_short_items : Object → Bool
 has_short_items o = are_short_items o.items
 
-abbrev pub is_short_kind : Kind → Bool
+abbrev pub is_short_kind : KindPart → Bool
 is_short_kind (kind.Event o script user) = is_short script
 is_short_kind (kind.Stored o c) = has_short_cells c
 is_short_kind (kind.Turn o) = true

@@ -21,7 +21,7 @@ use Rattle.ncs_machine.specs.Host.{scripts_of, tables_of}
 use Rattle.ncs_machine.specs.Stored.{StatesFit}
 use Rattle.state_format.specs.declared.parts.Script.{Script}
 use Rattle.state_format.specs.declared.parts.Parts.{Parts}
-use Rattle.state_format.specs.Place.{StateOf, StopsAt}
+use Rattle.state_format.specs.Place.{StateOf, StateStopsAt}
 use Rattle.play_save.specs.declared.fault.StateFault.{StateFault}
 use Rattle.play_save.specs.declared.fault.StateFault.TheVariants as fault
 use Rattle.play_save.specs.World.{world_of}
@@ -105,6 +105,6 @@ pub record HasCome (s : Parts) (entries instructions : ℕ) : Type 0 where
 -- Why bytes are refused: they are no state's from a place on, or they are a state's, and this is
 -- the first rule that it breaks.
 abbrev pub Refuses : List ℕ → StateFault → Type 0
-Refuses bytes (fault.Place at) = StopsAt bytes at
+Refuses bytes (fault.Place at) = StateStopsAt bytes at
 Refuses bytes (fault.Unfit n) = (s : Parts) × StateOf bytes s × IsUnfit n s
 Refuses bytes fault.NoMemory = Unit {0}

@@ -33,7 +33,7 @@ use Rattle.world_rules.specs.World.{World}
 use Rattle.world_rules.specs.Settled.{IsBetween}
 use Rattle.state_format.specs.declared.parts.Script.{Script as ScriptPart}
 use Rattle.state_format.specs.declared.parts.Parts.{Parts}
-use Rattle.state_format.specs.Parts.{AreBytes, IsBlob, IsList, IsMaybe, IsNumber, IsSigned, HasForm}
+use Rattle.state_format.specs.Parts.{AreStateBytes, IsBlob, IsList, IsMaybe, IsNumber, IsSigned, HasForm}
 use Rattle.play_save.specs.Rules.{IsHeaderOf, IsAreaOf, IsAccepted, count_limit}
 use Rattle.play_save.specs.States.{resting, MayLimit, MayCount, IsPlayOf, HasCome, IsWorldOf}
 
@@ -41,7 +41,7 @@ use Rattle.play_save.specs.States.{resting, MayLimit, MayCount, IsPlayOf, HasCom
 
 -- bytes of a string
 abbrev pub IsText : List ℕ → Type 0
-IsText text = (length text ≤ text_limit) × AreBytes text
+IsText text = (length text ≤ text_limit) × AreStateBytes text
 
 abbrev pub EffectHasRoom : Effect → Type 0
 EffectHasRoom e = IsNumber 2 e.routine × IsList IsSigned e.ints
@@ -110,7 +110,7 @@ pub record HasRoom (w : World Saved) : Type 0 where
 
 -- the file of code is bytes
 abbrev pub CodeIsBytes : Type 0
-CodeIsBytes = (ops : List PlainOp) → IsCode ops → AreBytes (file_bytes ops)
+CodeIsBytes = (ops : List PlainOp) → IsCode ops → AreStateBytes (file_bytes ops)
 
 -- ---- plays
 

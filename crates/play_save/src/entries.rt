@@ -9,7 +9,7 @@ use crate::values::{saved, text};
 use delay_agenda::{Agenda, Entry, Kind};
 use nwq_value::NoMemory;
 use saved_state::Saved;
-use state_format::{Entry as EntryPart, Kind as KindPart};
+use state_format::{Entry as EntryPart, KindPart};
 use std::alloc::Global;
 
 /// What an entry does.

@@ -8,7 +8,7 @@ ghost use Rattle.play_save.specs.Breaking.{IsFitting};
 use crate::values::saved;
 use ncs_machine::Scripts;
 use nwq_value::NoMemory;
-use state_format::{Captured, Entry, Item, Kind, Object};
+use state_format::{Captured, Entry, Item, KindPart, Object};
 use std::alloc::Global;
 
 /// Whether a captured state is one of a script that is there, and fits the table kept for it.
@@ -74,8 +74,8 @@ fn entry_fits(alloc: Global, scripts: &Scripts, entry: &Entry) -> Result<bool, N
         ↔ KindHolds (IsFitting scripts.now) entry.now.kind) }
 {
     match &entry.kind {
-        Kind::Stored { state, .. } => is_fitting(alloc, scripts, state),
-        Kind::Event { .. } | Kind::Turn { .. } | Kind::Unapply { .. } => Ok(true),
+        KindPart::Stored { state, .. } => is_fitting(alloc, scripts, state),
+        KindPart::Event { .. } | KindPart::Turn { .. } | KindPart::Unapply { .. } => Ok(true),
     }
 }
 

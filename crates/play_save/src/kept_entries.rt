@@ -14,7 +14,7 @@ use ncs_file::store;
 use ncs_machine::{Loaded, Scripts};
 use nwq_value::{Items, NoMemory};
 use saved_state::Saved;
-use state_format::{Entry as EntryPart, Kind as KindPart, Script};
+use state_format::{Entry as EntryPart, KindPart, Script};
 use std::alloc::Global;
 
 fn kind(alloc: Global, kind: &Kind<Saved>) -> Result<KindPart, NoMemory>

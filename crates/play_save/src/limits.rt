@@ -16,7 +16,7 @@ use crate::things::variables;
 use nwq_text::is_script_name;
 use nwq_value::text::TEXT_BYTES;
 use nwq_value::{Items, NoMemory};
-use state_format::{Captured, Cell, Entry, Item, Kind, Object, Parts, Script};
+use state_format::{Captured, Cell, Entry, Item, KindPart, Object, Parts, Script};
 use std::alloc::Global;
 
 /// Numbers below this one leave room to go on counting.
@@ -73,9 +73,9 @@ fn is_short_entry(entry: &Entry) -> bool
     ensures test { result ≡ is_short_entry entry.now }
 {
     match &entry.kind {
-        Kind::Event { script, .. } => is_short(script),
-        Kind::Stored { state, .. } => has_short_cells(state),
-        Kind::Turn { .. } | Kind::Unapply { .. } => true,
+        KindPart::Event { script, .. } => is_short(script),
+        KindPart::Stored { state, .. } => has_short_cells(state),
+        KindPart::Turn { .. } | KindPart::Unapply { .. } => true,
     }
 }
 

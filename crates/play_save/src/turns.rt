@@ -9,7 +9,7 @@ ghost use Rattle.play_save.specs.Rules.{IsSettledBy, AreSettled};
 ghost use Rattle.play_save.specs.Breaking.{CountsOne, CountsTurns, IsTurnOnlyOf};
 
 use nwq_value::{Items, NoMemory};
-use state_format::{Entry, Kind, Object};
+use state_format::{Entry, KindPart, Object};
 use std::alloc::Global;
 
 /// No Turns, for each of so many objects.
@@ -32,10 +32,10 @@ fn turn_object(objects: usize, entry: &Entry) -> usize
     ensures placed { result ≤ objects }
 {
     match &entry.kind {
-        Kind::Turn { object } => *object as usize,
-        Kind::Event { .. } => 0,
-        Kind::Stored { .. } => 0,
-        Kind::Unapply { .. } => 0,
+        KindPart::Turn { object } => *object as usize,
+        KindPart::Event { .. } => 0,
+        KindPart::Stored { .. } => 0,
+        KindPart::Unapply { .. } => 0,
     }
 }
 

@@ -8,19 +8,19 @@ ghost use Rattle.world_rules.specs.Kept.{IsPlaced};
 
 use crate::fault::StateFault;
 use nwq_value::NoMemory;
-use state_format::{Entry, Kind};
+use state_format::{Entry, KindPart};
 use std::alloc::Global;
 use std::collections::BTreeSet;
 
 /// Whether an entry's object is one of so many.
-fn is_placed(objects: usize, kind: &Kind) -> bool
+fn is_placed(objects: usize, kind: &KindPart) -> bool
     ensures test { IsTrue result ↔ IsPlaced objects (kind_of kind.now) }
 {
     match kind {
-        Kind::Event { object, .. } => *object as usize <= objects,
-        Kind::Stored { object, .. } => *object as usize <= objects,
-        Kind::Turn { object } => 1 <= *object && *object as usize <= objects,
-        Kind::Unapply { object } => 1 <= *object && *object as usize <= objects,
+        KindPart::Event { object, .. } => *object as usize <= objects,
+        KindPart::Stored { object, .. } => *object as usize <= objects,
+        KindPart::Turn { object } => 1 <= *object && *object as usize <= objects,
+        KindPart::Unapply { object } => 1 <= *object && *object as usize <= objects,
     }
 }
 

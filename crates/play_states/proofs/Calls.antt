@@ -10,7 +10,7 @@ use Rattle.nwq_value.specs.declared.engine.Routine.{Routine}
 use Rattle.local_variables.specs.Variables.{Variable, IntVar, TextVar, same_variable, put, is_int, is_text}
 use Rattle.local_variables.specs.Laws.{PutKeepsDistinct, FilterKeepsDistinct}
 use Rattle.area_rules.specs.Objects.{AreaObject}
-use Rattle.area_rules.specs.Area.{PlainArea, HaveDistinct, bare, changed, changed_at}
+use Rattle.area_rules.specs.Area.{PlainArea, HaveDistinct, bare, changed, variables_changed_at}
 use Rattle.play_save.specs.Written.{KeepsObjects}
 use Rattle.action_queue.specs.declared.queue.Item.{Item}
 use Rattle.saved_state.specs.declared.saved.Saved.{Saved}
@@ -36,7 +36,7 @@ same_leaves w = record { area = λ is. is; posts = omega arith }
 
 -- ---- variables
 
-bare_stays : (i : ℕ) (change : List Variable → List Variable) (os : List AreaObject) → map bare (changed_at i change os) ≡ map bare os
+bare_stays : (i : ℕ) (change : List Variable → List Variable) (os : List AreaObject) → map bare (variables_changed_at i change os) ≡ map bare os
 bare_stays i change [] = refl
 bare_stays zero change (o ∷ os) = refl
 bare_stays (suc i) change (o ∷ os) = ap (λ (l : List AreaObject). bare o ∷ l) (bare_stays i change os)
@@ -44,7 +44,7 @@ bare_stays (suc i) change (o ∷ os) = ap (λ (l : List AreaObject). bare o ∷ 
 abbrev KeepsDistinct : (List Variable → List Variable) → Type 0
 KeepsDistinct change = (vars : List Variable) → IsDistinct same_variable vars → IsDistinct same_variable (change vars)
 
-distinct_stay : (i : ℕ) (change : List Variable → List Variable) → KeepsDistinct change → (os : List AreaObject) → HaveDistinct os → HaveDistinct (changed_at i change os)
+distinct_stay : (i : ℕ) (change : List Variable → List Variable) → KeepsDistinct change → (os : List AreaObject) → HaveDistinct os → HaveDistinct (variables_changed_at i change os)
 distinct_stay i change keeps [] all = tt
 distinct_stay zero change keeps (o ∷ os) all = (keeps o.vars all.0, all.1)
 distinct_stay (suc i) change keeps (o ∷ os) all = (all.0, distinct_stay i change keeps os all.1)

@@ -12,7 +12,7 @@ use Rattle.delay_agenda.specs.declared.entry.Kind.TheVariants.{Event, Stored, Tu
 use Rattle.saved_state.specs.declared.saved.Saved.{Saved}
 use Rattle.machine_rules.specs.Frames.{Frame, started, continued}
 use Rattle.machine_rules.specs.Act.{Act, Moves, Asks, Executes, Returns, Divides, act}
-use Rattle.machine_rules.specs.Machine.{Script, State, Next, Goes, Ends, Divided, depth_limit, begun, executed, followed, next_op, over, script_named, step}
+use Rattle.machine_rules.specs.Machine.{Script, State, Next, Goes, Ends, Divided, waiting_limit, script_begun, executed, followed, next_op, over, script_named, step}
 use Rattle.machine_rules.specs.Runs.{Ran, after_step, run, run_script, run_stored, entry}
 use Rattle.world_rules.specs.declared.data.Stood.{Stood}
 use Rattle.world_rules.specs.World.{World, queue_of, effects_of}
@@ -22,7 +22,7 @@ use Rattle.world_rules.specs.Engine.{may_run}
 use Rattle.world_rules.specs.Turns as turning
 use Rattle.world_rules.specs.Turns.{Begun, begin, turn, turned, turn_done, next_turn, unapply, expired, fault, drained}
 use Rattle.world_rules.specs.Plays as plays
-use Rattle.world_rules.specs.Plays.{Ending, Over, Stopped, Bounds, Progress, Played, Run, Entered, entered, entered_as, event_entry, turn_entry, named_entry, finished_as, further, after_entry, next_entry, full}
+use Rattle.world_rules.specs.Plays.{Ending, Over, Stopped, Bounds, Progress, Played, Run, Entered, entry_entered, entered_as, event_entry, turn_entry, named_entry, finished_as, further, after_entry, next_entry, full}
 use Rattle.ncs_machine.specs.Host.{EngineView, host}
 use Rattle.module_player.specs.CodePlays.{code_runner, run_of, played_before}
 use Rattle.play_states.specs.Resting.{PlaysCountFew}
@@ -43,10 +43,10 @@ StepPosts s None = Unit {0}
 StepPosts s (Some next) = NextPosts s next
 
 module _ (puts : PutKeepsDistinct) (filters : FilterKeepsDistinct) (scripts : List Script) (e : EngineView) where
-  begun_posts : (number : Option ℕ) (name : List ℕ) (target : ℕ) (f : Frame) (s : State (World Saved)) → PostsOne s.world (begun (host scripts e) number name target f s).world
+  begun_posts : (number : Option ℕ) (name : List ℕ) (target : ℕ) (f : Frame) (s : State (World Saved)) → PostsOne s.world (script_begun (host scripts e) number name target f s).world
   unfolding host
   begun_posts None name target f s = omega arith
-  begun_posts (Some script) name target f s = on (nat_lt (length s.waiting) depth_limit)
+  begun_posts (Some script) name target f s = on (nat_lt (length s.waiting) waiting_limit)
     where
       on : (b : Bool) → PostsOne s.world (if b then record s { running = started script target; waiting = f ∷ s.waiting } else record s { running = f; world = (host scripts e).too_deep target name s.world }).world
       on true = omega arith
@@ -57,7 +57,7 @@ module _ (puts : PutKeepsDistinct) (filters : FilterKeepsDistinct) (scripts : Li
   executed_posts [] target f s = omega arith
   executed_posts (b ∷ name) target f s = on (may_run f.self target s.world)
     where
-      on : (c : Bool) → PostsOne s.world (if c then begun (host scripts e) (script_named scripts (b ∷ name)) (b ∷ name) target f s else record s { running = f }).world
+      on : (c : Bool) → PostsOne s.world (if c then script_begun (host scripts e) (script_named scripts (b ∷ name)) (b ∷ name) target f s else record s { running = f }).world
       on true = begun_posts (script_named scripts (b ∷ name)) (b ∷ name) target f s
       on false = omega arith
 
@@ -183,7 +183,7 @@ module _ (puts : PutKeepsDistinct) (filters : FilterKeepsDistinct) (scripts : Li
     begun_by w true x same = same
     begun_by w false x same = tt
 
-    begun_same : (until : ℕ) (es : List (Entry Saved)) (w : World Saved) → BegunPosts w (turning.begun until es w)
+    begun_same : (until : ℕ) (es : List (Entry Saved)) (w : World Saved) → BegunPosts w (turning.entry_begun until es w)
     begun_same until [] w = tt
     begun_same until (x ∷ rest) w = begun_by w (nat_le x.due until) _ refl
 
@@ -215,7 +215,7 @@ module _ (puts : PutKeepsDistinct) (filters : FilterKeepsDistinct) (scripts : Li
         → IsFewPlayed (suc left) p (next_entry (code_runner (host scripts e) limit) b p on)
     next_few left on rest None p same = stays_few (suc left) p plays.Done
     next_few left on rest (Some b) p same =
-        let x = entered (code_runner (host scripts e) limit) b in
+        let x = entry_entered (code_runner (host scripts e) limit) b in
         let few = kind_few b.entry.kind b.entry.number b.world in
         let c = few.count in
         let d = few.posts in

@@ -29,9 +29,9 @@ use Rattle.world_rules.specs.declared.data.Stood.{Stood}
 use Rattle.world_rules.specs.World.{World, queue_of, effects_of}
 use Rattle.world_rules.specs.Changes.{is_numbered}
 use Rattle.world_rules.specs.AlikeLaws.{call}
-use Rattle.world_rules.specs.Turns.{Begun, begin, begun, turn, turned, turn_done, next_turn, expired, fault}
+use Rattle.world_rules.specs.Turns.{Begun, begin, entry_begun, turn, turned, turn_done, next_turn, expired, fault}
 use Rattle.world_rules.specs.Plays as plays
-use Rattle.world_rules.specs.Plays.{Ending, Over, Divided, Stopped, Bounds, Progress, Played, Run, Entered, entered, entered_as, event_entry, turn_entry, named_entry, finished_as, further, after_entry, next_entry, full}
+use Rattle.world_rules.specs.Plays.{Ending, Over, Divided, Stopped, Bounds, Progress, Played, Run, Entered, entry_entered, entered_as, event_entry, turn_entry, named_entry, finished_as, further, after_entry, next_entry, full}
 use Rattle.world_core.specs.Answers.{AnswersHaveTypes, IsOfType}
 use Rattle.ncs_machine.specs.Host.{EngineView, engine_answer, host}
 use Rattle.ncs_machine.specs.Stored.{StatesFit, KindFits, BegunFits, EngineKeepsFits, LinesKeepFits, BeginKeepsFits, TurnKeepsFits, TurnDoneKeepsFits, UnapplyKeepsFits}
@@ -101,7 +101,7 @@ begun_by : (w : World Saved) (b : Bool) (x : Begun Saved) → SameArea w x.world
 begun_by w true x same = same
 begun_by w false x same = tt
 
-begun_same : (until : ℕ) (es : List (Entry Saved)) (w : World Saved) → BegunSame w (begun until es w)
+begun_same : (until : ℕ) (es : List (Entry Saved)) (w : World Saved) → BegunSame w (entry_begun until es w)
 begun_same until [] w = tt
 begun_same until (e ∷ rest) w = begun_by w (nat_le e.due until) _ (λ is. is)
 
@@ -219,7 +219,7 @@ module _ (puts : PutKeepsDistinct) (filters : FilterKeepsDistinct)
         → IsKept (next_entry (code_runner (host scripts e) limit) b p on).last.world
     next_kept on rest None p fits same k = k
     next_kept on rest (Some b) p fits same k =
-        let x = entered (code_runner (host scripts e) limit) b in
+        let x = entry_entered (code_runner (host scripts e) limit) b in
         after_kept on rest x (kind_kept b.entry.kind b.entry.number b.world fits.0 (record { fits = fits.1; area = same k.area })) p x.stopped
 
     due_kept : (on : Progress Saved → Played Saved) → AllKept on → (is_full : Bool) (b : Option (Begun Saved)) (p : Progress Saved) → BegunFits scripts tables b → BegunSame p.world b

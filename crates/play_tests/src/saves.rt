@@ -71,7 +71,7 @@ fn small_entry(alloc: Global) -> Result<Entry, NoMemory> {
     Ok(Entry {
         due: 1000,
         number: 0,
-        kind: Kind::Stored { object: 1, state },
+        kind: KindPart::Stored { object: 1, state },
     })
 }
 

@@ -227,19 +227,19 @@ fn put_objects(alloc: Global, sketch: &Sketch, out: &mut Items<Object>) -> Resul
     Ok(())
 }
 
-fn kind(alloc: Global, kind: sketch::Kind) -> Result<Kind, NoMemory> {
+fn kind(alloc: Global, kind: sketch::Kind) -> Result<KindPart, NoMemory> {
     match kind {
-        sketch::Kind::Event(object, script, user) => Ok(Kind::Event {
+        sketch::Kind::Event(object, script, user) => Ok(KindPart::Event {
             object,
             script: text(alloc, script)?,
             user,
         }),
-        sketch::Kind::Stored(object, state) => Ok(Kind::Stored {
+        sketch::Kind::Stored(object, state) => Ok(KindPart::Stored {
             object,
             state: captured(alloc, state)?,
         }),
-        sketch::Kind::Turn(object) => Ok(Kind::Turn { object }),
-        sketch::Kind::Unapply(object) => Ok(Kind::Unapply { object }),
+        sketch::Kind::Turn(object) => Ok(KindPart::Turn { object }),
+        sketch::Kind::Unapply(object) => Ok(KindPart::Unapply { object }),
     }
 }
 

@@ -1,10 +1,10 @@
-use nss_lexer::{Kind, Lexed, literal, next};
+use nss_lexer::{Lexed, TokenKind, literal, next};
 use nwq_value::{FILE_BYTES, NoMemory, Text};
 use std::alloc::Global;
 use std::test::Fail;
 
 /// The first token's kind and span, or the bad place.
-fn seen(bytes: &[u8]) -> (Option<Kind>, u32, u32) {
+fn seen(bytes: &[u8]) -> (Option<TokenKind>, u32, u32) {
     if bytes.len() > FILE_BYTES {
         return (None, 0, 0);
     }
@@ -18,22 +18,22 @@ fn seen(bytes: &[u8]) -> (Option<Kind>, u32, u32) {
 #[test]
 fn the_longest_token_counts(rt: HostRuntime) {
     for (text, kind, start, end) in [
-        (b"0x".as_slice(), Kind::Int(0), 0, 1),
-        (b"0XfFg", Kind::Int(255), 0, 4),
-        (b"0x.5", Kind::Int(0), 0, 1),
-        (b"4294967295;", Kind::Int(4294967295), 0, 10),
-        (b"4294967296f", Kind::Float, 0, 11),
-        (b"5f", Kind::Float, 0, 2),
-        (b"1.f+", Kind::Float, 0, 3),
-        (b"1..2", Kind::Float, 0, 2),
-        (b".5f", Kind::Float, 0, 3),
-        (b".x", Kind::Sign, 0, 1),
-        (b">>>=1", Kind::Sign, 0, 4),
-        (b">>>>", Kind::Sign, 0, 3),
-        (b" \t// a\n/* b **/ /=", Kind::Sign, 16, 18),
-        (b"while1", Kind::Name, 0, 6),
-        (b"OBJECT_SELF.", Kind::Word, 0, 11),
-        (b"\"\\\"//\\\\\" \"", Kind::Text, 0, 8),
+        (b"0x".as_slice(), TokenKind::Int(0), 0, 1),
+        (b"0XfFg", TokenKind::Int(255), 0, 4),
+        (b"0x.5", TokenKind::Int(0), 0, 1),
+        (b"4294967295;", TokenKind::Int(4294967295), 0, 10),
+        (b"4294967296f", TokenKind::Float, 0, 11),
+        (b"5f", TokenKind::Float, 0, 2),
+        (b"1.f+", TokenKind::Float, 0, 3),
+        (b"1..2", TokenKind::Float, 0, 2),
+        (b".5f", TokenKind::Float, 0, 3),
+        (b".x", TokenKind::Sign, 0, 1),
+        (b">>>=1", TokenKind::Sign, 0, 4),
+        (b">>>>", TokenKind::Sign, 0, 3),
+        (b" \t// a\n/* b **/ /=", TokenKind::Sign, 16, 18),
+        (b"while1", TokenKind::Name, 0, 6),
+        (b"OBJECT_SELF.", TokenKind::Word, 0, 11),
+        (b"\"\\\"//\\\\\" \"", TokenKind::Text, 0, 8),
     ] {
         assert_eq!(rt; seen(text), (Some(kind), start, end), "{start}..{end}");
     }
@@ -65,7 +65,7 @@ fn value(alloc: Global, bytes: &[u8]) -> Result<Text, NoMemory> {
     }
     match next(bytes, 0, 0) {
         Lexed::Token(token) => match token.kind {
-            Kind::Text => literal(alloc, token.text),
+            TokenKind::Text => literal(alloc, token.text),
             _ => Text::empty(alloc),
         },
         _ => Text::empty(alloc),

@@ -10,7 +10,7 @@ use Rattle.nwq_value.specs.Values.{type_of as type_of_value}
 use Rattle.std.proofs.lemmas.List.{length-map}
 use Rattle.ncs_code.specs.Plain as ops
 use Rattle.ncs_emit.specs.declared.jump.Jump.TheVariants.{Jsr}
-use Rattle.ncs_emit.specs.Labelled.{Instruction, JumpTo, place_of, program}
+use Rattle.ncs_emit.specs.Labelled.{Instruction, JumpTo, place_of_label, program}
 use Rattle.ncs_emit.specs.Standing.{LinesStand}
 use Rattle.typing_rules.specs.declared.places.EntryPoint.{EntryPoint}
 use Rattle.typing_rules.specs.declared.places.EntryPoint.TheVariants.{Main, Conditional}
@@ -140,7 +140,7 @@ bare_mains tested stand s host start script self waiting l p w same is listed en
     let none : x.globals ≡ [] = ap (map number_of) names in
     let bottom : x.bp ≡ 0 = no_cells (layout_of u).structs u.items bare in
     let code = program (unit_code u).lines in
-    let places = place_of (unit_code u).lines in
+    let places = place_of_label (unit_code u).lines in
     let next = body_count u.items + start_labels (has_globals u.items) u.items in
     let front = both_stand code places 13 (emit_start (layout_of u) (body_count u.items) (has_globals u.items) u.items u.entry) (emit_functions (layout_of u) next 0 u.items) (stand u) in
     let lines : LinesStand code places 13 (JumpTo Jsr f ∷ Instruction ops.Retn ∷ []) =
@@ -205,7 +205,7 @@ bare_conditions tested stand s host start script self waiting l p w same is list
     let none : x.globals ≡ [] = ap (map number_of) names in
     let bottom : x.bp ≡ 0 = no_cells (layout_of u).structs u.items bare in
     let code = program (unit_code u).lines in
-    let places = place_of (unit_code u).lines in
+    let places = place_of_label (unit_code u).lines in
     let next = body_count u.items + start_labels (has_globals u.items) u.items in
     let front = both_stand code places 13 (emit_start (layout_of u) (body_count u.items) (has_globals u.items) u.items u.entry) (emit_functions (layout_of u) next 0 u.items) (stand u) in
     let lines : LinesStand code places 13 (Instruction (ops.RsAdd (cell_kind Int)) ∷ JumpTo Jsr f ∷ Instruction (ops.MovSp (beneath 1)) ∷ Instruction ops.Retn ∷ []) =

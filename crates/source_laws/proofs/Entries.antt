@@ -4,7 +4,7 @@ use Rattle.nwq_value.specs.declared.value.Value.{Value}
 use Rattle.saved_state.specs.declared.saved.Saved.{Saved}
 use Rattle.world_rules.specs.Alike.{Alike}
 use Rattle.machine_rules.specs.Frames.{started as begun_frame, continued}
-use Rattle.machine_rules.specs.Machine.{Ends, Divided, depth_limit, step}
+use Rattle.machine_rules.specs.Machine.{Ends, Divided, waiting_limit, step}
 use Rattle.machine_rules.specs.Runs.{Ending, Over, ZeroDivisor, run, after_step, entry}
 use Rattle.source_meaning.specs.Evaluation.{Deferred, Progress, Outcome, Gives, Divides, OutOfSteps}
 use Rattle.source_meaning.specs.Scripts.{first_starter, call_resumed, with_steps, run_script, run_deferred}
@@ -59,11 +59,11 @@ entries_do s host of starts resumes = record {
   listed = λ name script is. named_listed s.scripts name script is;
   starts = λ n script self l w v is alike. entry_runs host (Carries s) n (entry (begun_frame script self) w) (run_script s n script self v)
       (subst (Sim host (Carries s) (IsAtLast host (Carries s) []) (last_state host (Carries s) []) n 0 (start_state script self [] w) (λ v. 1))
-      (sym (started_is s depth_limit script self l (with_steps n v) is))
-      (starts script l is (first_starter s) self [] (with_steps n v) w (scripts_execute s host of starts depth_limit self [] refl) alike));
+      (sym (started_is s waiting_limit script self l (with_steps n v) is))
+      (starts script l is (first_starter s) self [] (with_steps n v) w (scripts_execute s host of starts waiting_limit self [] refl) alike));
   resumes = λ n self c d w v carries alike. entry_runs host (Carries s) n (entry (continued c self) w) (run_deferred s n d self v)
       (subst (λ o. Sim host (Carries s) (IsAtLast host (Carries s) []) (last_state host (Carries s) []) n 0 (entry (continued c self) w) (λ v. 1) (call_resumed s d self o (with_steps n v)))
       (sym carries.is)
       (resumes c d carries.listed self (with_steps n v) w carries carries.is
-      (scripts_execute s host of starts depth_limit self [] refl) alike));
+      (scripts_execute s host of starts waiting_limit self [] refl) alike));
 }

@@ -14,10 +14,10 @@ use Rattle.world_rules.specs.World.{World}
 use Rattle.world_rules.specs.Engine.{may_run, no_script, too_deep}
 use Rattle.world_rules.specs.Alike.{Alike}
 use Rattle.machine_rules.specs.Frames.{Frame}
-use Rattle.machine_rules.specs.Machine.{Script, Goes, depth_limit, step}
+use Rattle.machine_rules.specs.Machine.{Script, Goes, waiting_limit, step}
 use Rattle.machine_rules.specs.Machine as machine
 use Rattle.source_meaning.specs.Evaluation.{Deferred, Progress, Outcome, Gives, Divides, OutOfSteps, bind, spend}
-use Rattle.source_meaning.specs.Scripts.{Listed, Setting, Starter, script_named, resumed, begun, executing, started, next_starter, listed_started}
+use Rattle.source_meaning.specs.Scripts.{Listed, Setting, Starter, script_named, resumed, starter_begun, executing, started, next_starter, listed_started}
 use Rattle.source_laws.specs.Ledger.{Machine, MachineHost, Took, Sim}
 use Rattle.source_laws.specs.Kept.{Site, Kept, spot_at}
 use Rattle.source_laws.specs.Carries.{Carries}
@@ -74,9 +74,9 @@ sim_spare host R B place n k s (OutOfSteps p) h = (h.0, took_spare host n k 0 0 
 -- Of how scripts are started that a script at this site runs: there is such a way where fewer wait
 -- than may, and it does what a start means.
 abbrev Fits : Setting → MachineHost → Site → Option Starter → Type 0
-Fits s host x None = nat_lt (length x.waiting) depth_limit ≡ false
+Fits s host x None = nat_lt (length x.waiting) waiting_limit ≡ false
 Fits s host x (Some begin) =
-    (nat_lt (length x.waiting) depth_limit ≡ true)
+    (nat_lt (length x.waiting) waiting_limit ≡ true)
     × ((script : ℕ) (l : Listed) → slice_get s.scripts script ≡ Some l → (target : ℕ) (f : Frame) (p : Progress) (w : World Saved) → Alike (Carries s) w p.world
     → Sim host (Carries s) (IsAtLast host (Carries s) (f ∷ x.waiting)) (last_state host (Carries s) (f ∷ x.waiting))
     p.left 0 (start_state script target (f ∷ x.waiting) w) (λ v. 1) (begin script target p))
@@ -145,18 +145,18 @@ module _ (s : Setting) (host : MachineHost) (of : IsHostOf host s) (x : Site) (s
   -- ---- the cases, in the order in which machine and meaning test them
 
   begun_case : (start : Option Starter) → Fits s host x start → (o : Option ℕ) (name : List ℕ) (target : ℕ) → script_named s.scripts name ≡ o
-      → step host m ≡ Some (Goes (machine.begun host o name target behind m))
-      → Sim host (Carries s) Holds there p.left c m (value_credits c) (begun start o name target p)
+      → step host m ≡ Some (Goes (machine.script_begun host o name target behind m))
+      → Sim host (Carries s) Holds there p.left c m (value_credits c) (starter_begun start o name target p)
   begun_case start fits None name target is goes =
       stays (no_script target name) (host.no_script target name m.world) goes
       (subst (λ w. Alike (Carries s) w (no_script target name p.world)) (sym (of.unlisted target name m.world)) (no_script_keeps_alike (Carries s) target name m.world p.world alike_now))
   begun_case None fits (Some script) name target is goes =
-      let full : nat_lt (length m.waiting) depth_limit ≡ false = ap (λ (ws : List Frame). nat_lt (length ws) depth_limit) waiting_is ∙ fits in
+      let full : nat_lt (length m.waiting) waiting_limit ≡ false = ap (λ (ws : List Frame). nat_lt (length ws) waiting_limit) waiting_is ∙ fits in
       stays (too_deep target name) (host.too_deep target name m.world)
       (goes ∙ ap (λ (b : Bool). Some (Goes (if b then start_state script target (behind ∷ m.waiting) m.world else record m { running = behind; world = host.too_deep target name m.world }))) full)
       (subst (λ w. Alike (Carries s) w (too_deep target name p.world)) (sym (of.deep target name m.world)) (too_deep_keeps_alike (Carries s) target name m.world p.world alike_now))
   begun_case (Some begin) fits (Some script) name target is goes =
-      let room : nat_lt (length m.waiting) depth_limit ≡ true = ap (λ (ws : List Frame). nat_lt (length ws) depth_limit) waiting_is ∙ fits.0 in
+      let room : nat_lt (length m.waiting) waiting_limit ≡ true = ap (λ (ws : List Frame). nat_lt (length ws) waiting_limit) waiting_is ∙ fits.0 in
       let l = named_listed s.scripts name script is in
       runs begin script target
       (goes ∙ ap (λ (b : Bool). Some (Goes (if b then start_state script target (behind ∷ m.waiting) m.world else record m { running = behind; world = host.too_deep target name m.world }))) room)
@@ -170,12 +170,12 @@ module _ (s : Setting) (host : MachineHost) (of : IsHostOf host s) (x : Site) (s
       of.tests x.self target m.world ∙ may_run_alike (Carries s) x.self target m.world p.world alike_now in
       let found = script_named s.scripts (b ∷ name) in
       let told : (t : Bool) → may_run x.self target p.world ≡ t
-      → step host m ≡ Some (Goes (if t then machine.begun host (machine.script_named host.scripts (b ∷ name)) (b ∷ name) target behind m else record m { running = behind })) =
-      λ t is. goes ∙ ap (λ (d : Bool). Some (Goes (if d then machine.begun host (machine.script_named host.scripts (b ∷ name)) (b ∷ name) target behind m else record m { running = behind }))) (test ∙ is) in
+      → step host m ≡ Some (Goes (if t then machine.script_begun host (machine.script_named host.scripts (b ∷ name)) (b ∷ name) target behind m else record m { running = behind })) =
+      λ t is. goes ∙ ap (λ (d : Bool). Some (Goes (if d then machine.script_begun host (machine.script_named host.scripts (b ∷ name)) (b ∷ name) target behind m else record m { running = behind }))) (test ∙ is) in
       sim_chosen host (Carries s) Holds there p.left c m (value_credits c) (may_run x.self target p.world)
-      (λ q. begun start found (b ∷ name) target q) (λ q. spend q (λ r. Gives [] r)) p
+      (λ q. starter_begun start found (b ∷ name) target q) (λ q. spend q (λ r. Gives [] r)) p
       (λ yes. begun_case start fits found (b ∷ name) target refl
-      (told true yes ∙ ap (λ o. Some (Goes (machine.begun host o (b ∷ name) target behind m))) (same_named (b ∷ name) host.scripts s.scripts of.scripts)))
+      (told true yes ∙ ap (λ o. Some (Goes (machine.script_begun host o (b ∷ name) target behind m))) (same_named (b ∷ name) host.scripts s.scripts of.scripts)))
       (λ no. stays (λ w. w) m.world (told false no) alike_now)
 
 -- ---- by how many more may wait
@@ -185,17 +185,17 @@ pub started_is : (s : Setting) (room script self : ℕ) (l : Listed) (p : Progre
 started_is s zero script self l p is = ap (λ o. listed_started s (executing s None) script self o p) is
 started_is s (suc room) script self l p is = ap (λ o. listed_started s (executing s (Some (started s room))) script self o p) is
 
-none_more : (n : ℕ) → n + 0 ≡ depth_limit → nat_lt n depth_limit ≡ false
+none_more : (n : ℕ) → n + 0 ≡ waiting_limit → nat_lt n waiting_limit ≡ false
 none_more n h = grind (arith, nat_tests, h)
 
-one_more : (n room : ℕ) → n + suc room ≡ depth_limit → nat_lt n depth_limit ≡ true
+one_more : (n room : ℕ) → n + suc room ≡ waiting_limit → nat_lt n waiting_limit ≡ true
 one_more n room h = grind (arith, nat_tests, h)
 
-more_waiting : (a b room : ℕ) → a ≡ suc b → b + suc room ≡ depth_limit → a + room ≡ depth_limit
+more_waiting : (a b room : ℕ) → a ≡ suc b → b + suc room ≡ waiting_limit → a + room ≡ waiting_limit
 more_waiting a b room h deep = omega (arith, h, deep)
 
 module _ (s : Setting) (host : MachineHost) (of : IsHostOf host s) (starts : StartsDo s host) where
-  executes : (room : ℕ) (x : Site) → length x.waiting + room ≡ depth_limit → (most : ℕ) → ExecutesRun host (Carries s) x (executing s (next_starter s room) x.self) most
+  executes : (room : ℕ) (x : Site) → length x.waiting + room ≡ waiting_limit → (most : ℕ) → ExecutesRun host (Carries s) x (executing s (next_starter s room) x.self) most
   executes zero x deep most name target scope size next c p kept temps between calls pending m le credit world_is waiting_is held goes =
       executing_runs s host of x scope size next c p kept temps between calls pending m credit world_is waiting_is None (none_more (length x.waiting) deep) name target goes
   executes (suc room) x deep most name target scope size next c p kept temps between calls pending m le credit world_is waiting_is held goes =

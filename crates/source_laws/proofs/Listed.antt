@@ -7,7 +7,7 @@ use Rattle.nwq_value.specs.declared.value.Value.{Value}
 use Rattle.nwq_value.specs.Engine.{EngineTable}
 use Rattle.ncs_code.specs.Plain as ops
 use Rattle.ncs_code.specs.File.{op_at}
-use Rattle.ncs_emit.specs.Labelled.{place_of, program}
+use Rattle.ncs_emit.specs.Labelled.{place_of_label, program}
 use Rattle.ncs_emit.specs.Standing.{LinesStand}
 use Rattle.typing_rules.specs.declared.places.EntryPoint.{EntryPoint}
 use Rattle.typing_rules.specs.declared.places.EntryPoint.TheVariants.{Main, Conditional}
@@ -99,7 +99,7 @@ last_place (Conditional f) = condition_return
 
 -- the lines with which the code of a unit begins
 abbrev BeginsSo : TypedUnit → Bool → EntryPoint → Type 0
-BeginsSo u b e = LinesStand (program (unit_code u).lines) (place_of (unit_code u).lines) 13 (emit_start (layout_of u) (body_count u.items) b u.items e)
+BeginsSo u b e = LinesStand (program (unit_code u).lines) (place_of_label (unit_code u).lines) 13 (emit_start (layout_of u) (body_count u.items) b u.items e)
 
 -- in the code of each unit a RETN stands there
 returns_stand : CodeStands → (u : TypedUnit) → op_at (program (unit_code u).lines) (return_place (has_globals u.items) (last_place u.entry)) ≡ Some ops.Retn
@@ -109,7 +109,7 @@ returns_stand stand u = by_cases (has_globals u.items) refl u.entry refl
     all b some e is =
         subst (λ (f : EntryPoint). BeginsSo u b f) is
         (subst (λ (c : Bool). BeginsSo u c u.entry) some
-        (both_stand (program (unit_code u).lines) (place_of (unit_code u).lines) 13 (emit_start (layout_of u) (body_count u.items) (has_globals u.items) u.items u.entry)
+        (both_stand (program (unit_code u).lines) (place_of_label (unit_code u).lines) 13 (emit_start (layout_of u) (body_count u.items) (has_globals u.items) u.items u.entry)
         (emit_functions (layout_of u) (body_count u.items + start_labels (has_globals u.items) u.items) 0 u.items) (stand u)).0)
 
     by_cases : (b : Bool) → has_globals u.items ≡ b → (e : EntryPoint) → u.entry ≡ e → op_at (program (unit_code u).lines) (return_place b (last_place e)) ≡ Some ops.Retn

@@ -3,7 +3,7 @@ use Rattle.std.proofs.Common.{arith, ◌≡◌, ◌+◌, ℕ, zero, suc, List, [
 use Rattle.std.specs.Prelude.{slice_get}
 use Rattle.nss_tree.specs.Units.{structure, constant, global, function}
 use Rattle.ncs_code.specs.Plain.{PlainOp}
-use Rattle.ncs_emit.specs.Labelled.{lines_size, place_of, program}
+use Rattle.ncs_emit.specs.Labelled.{lines_size, place_of_label, program}
 use Rattle.ncs_emit.specs.Standing.{LinesStand}
 use Rattle.typing_rules.specs.Typed.{TypedItem}
 use Rattle.emission_rules.specs.Laws.{CodeStands}
@@ -47,7 +47,7 @@ pub functions_stand : CodeStands → FunctionsStand
 functions_stand stand u f fn found =
     let l = layout_of u in
     let ops = program (unit_code u).lines in
-    let places = place_of (unit_code u).lines in
+    let places = place_of_label (unit_code u).lines in
     let start = emit_start l (body_count u.items) (has_globals u.items) u.items u.entry in
     let next = body_count u.items + start_labels (has_globals u.items) u.items in
     let b = both_stand ops places 13 start (emit_functions l next 0 u.items) (stand u) in

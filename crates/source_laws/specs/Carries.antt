@@ -7,7 +7,7 @@ use Rattle.nwq_value.specs.declared.value.Ty.TheVariants.{Void}
 use Rattle.typing_rules.specs.Typed.{TypedName, TypedStmt, TypedStmts, TypedParameter, TypedItem, TypedUnit}
 use Rattle.typing_rules.specs.Numbers.{number_of}
 use Rattle.ncs_code.specs.Plain as ops
-use Rattle.ncs_emit.specs.Labelled.{Instruction, place_of, program}
+use Rattle.ncs_emit.specs.Labelled.{Instruction, place_of_label, program}
 use Rattle.ncs_emit.specs.Standing.{LinesStand}
 use Rattle.saved_state.specs.declared.saved.Saved.{Saved}
 use Rattle.emission_rules.specs.Layout.{layout_of}
@@ -74,7 +74,7 @@ abbrev pub unit_site : ℕ → TypedUnit → ℕ → List Frame → Site
 unit_site script u self waiting = record {
   script = script;
   code = program (unit_code u).lines;
-  places = place_of (unit_code u).lines;
+  places = place_of_label (unit_code u).lines;
   self = self;
   waiting = waiting;
   layout = layout_of u;
@@ -92,7 +92,7 @@ pub record Carries (s : Setting) (c : Saved) (d : Deferred) : Type 0 where
   pub listed : Listed
   pub is : slice_get s.scripts d.script ≡ Some listed
   pub label : ℕ
-  pub stands : LinesStand (program (unit_code listed.unit).lines) (place_of (unit_code listed.unit).lines) c.place
+  pub stands : LinesStand (program (unit_code listed.unit).lines) (place_of_label (unit_code listed.unit).lines) c.place
       (emit (layout_of listed.unit) label (length c.locals) d.call ++ Instruction ops.Retn ∷ [])
   pub fine : (self : ℕ) (waiting : List Frame) → IsFine s.table (functions listed.unit.items) (unit_site d.script listed.unit self waiting) d.sight d.call
   pub locals : (self : ℕ) (waiting : List Frame) → Vars (unit_site d.script listed.unit self waiting) d.sight (reverse c.locals) d.locals

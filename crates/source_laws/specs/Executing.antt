@@ -10,7 +10,7 @@ use Rattle.world_rules.specs.Engine.{may_run, no_script, too_deep}
 use Rattle.world_rules.specs.Alike.{Alike}
 use Rattle.machine_rules.specs.Frames.{Frame}
 use Rattle.machine_rules.specs.Frames as frames
-use Rattle.machine_rules.specs.Machine.{Script, depth_limit, step, over}
+use Rattle.machine_rules.specs.Machine.{Script, waiting_limit, step, over}
 use Rattle.source_meaning.specs.Evaluation.{Deferred, Progress}
 use Rattle.source_meaning.specs.Scripts.{Listed, Setting, Starter, executing, next_starter, listed_started}
 use Rattle.source_laws.specs.Ledger.{Machine, MachineHost, Sim}
@@ -78,5 +78,5 @@ StartsDo s host = (script : ℕ) (l : Listed) → slice_get s.scripts script ≡
 -- meaning allows.
 abbrev pub ScriptsExecute : Type 0
 ScriptsExecute =
-    (s : Setting) (host : MachineHost) → IsHostOf host s → StartsDo s host → (room self : ℕ) (waiting : List Frame) → length waiting + room ≡ depth_limit
+    (s : Setting) (host : MachineHost) → IsHostOf host s → StartsDo s host → (room self : ℕ) (waiting : List Frame) → length waiting + room ≡ waiting_limit
     → ExecutesIn s host (next_starter s room) self waiting

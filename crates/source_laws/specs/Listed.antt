@@ -15,13 +15,13 @@ use Rattle.source_laws.specs.Entries.{ResumesDo}
 
 -- A unit begins with one of the two entry functions, its globals are fine, and its functions are
 -- placed: as a script of this number, whatever object it runs as and whatever waits for it.
-abbrev pub IsReady : EngineTable → ℕ → TypedUnit → Type 0
-IsReady table script u = (self : ℕ) (waiting : List Frame)
+abbrev pub UnitIsReady : EngineTable → ℕ → TypedUnit → Type 0
+UnitIsReady table script u = (self : ℕ) (waiting : List Frame)
     → BeginsWith Main Void table u (unit_site script u self waiting) ⊎ BeginsWith Conditional Int table u (unit_site script u self waiting)
 
 -- so each listed script
 abbrev pub AreReady : Setting → Type 0
-AreReady s = (script : ℕ) (l : Listed) → slice_get s.scripts script ≡ Some l → IsReady s.table script l.unit
+AreReady s = (script : ℕ) (l : Listed) → slice_get s.scripts script ≡ Some l → UnitIsReady s.table script l.unit
 
 -- what the listed scripts of a setting do in a machine
 pub record ScriptsDo (s : Setting) (host : MachineHost) : Type 0 where

@@ -23,9 +23,9 @@ use Rattle.world_rules.specs.Engine.{engine, may_run, no_script, too_deep}
 use Rattle.source_meaning.specs.Values.{constant_value, is_true, divides_by_zero, operate, parts_of, test_value, start_part, one_int, prefixed, postfixed, applied}
 use Rattle.source_meaning.specs.Evaluation.{Deferred, Progress, Outcome, Gives, Divides, OutOfSteps, bind, spend, spend_of, chosen, with_variable}
 use Rattle.source_meaning.specs.Spots.{Spot, OfLocal, OfGlobal, spot, read_at, written_at}
-use Rattle.source_meaning.specs.Expressions.{Running, Caller, Arguments, with_argument, all_parts, answered, deferred, runs_script, executed, asked, engine_called, made, unit_called, defaults, called, named, member_of, stepped, is_step, before_operand, operated, unwritten, combined, write_there, read_there, assigned, argument, eval, evals}
+use Rattle.source_meaning.specs.Expressions.{Running, Caller, Arguments, with_argument, all_parts, answered, deferred, runs_script, executed, asked, engine_called, made, unit_called, defaults, callee_called, named, member_of, stepped, is_step, before_operand, operated, unwritten, combined, write_there, read_there, assigned, argument, eval, evals}
 use Rattle.source_meaning.specs.Statements.{Flow, Next, Broke, Continued, Returned, on_next, on_body, on_switch, turns, looped, maybe, tested, initial, declared, after_stmt, exec, execs, selected, from_default}
-use Rattle.source_meaning.specs.Scripts.{Listed, Setting, Function, functions, bound, parameter_names, result_of, depth_limit, body_run, calls, calling, global_names, no_functions, globals_made, without_variables, entry_called, unit_started, running, listed_started, script_named, Starter, resumed, begun, executing, started, first_starter, call_resumed, with_steps, run_script, run_deferred}
+use Rattle.source_meaning.specs.Scripts.{Listed, Setting, Function, functions, bound, parameter_names, result_of, waiting_limit, body_run, calls, calling, global_names, no_functions, globals_made, without_variables, entry_called, unit_started, running, listed_started, script_named, Starter, resumed, starter_begun, executing, started, first_starter, call_resumed, with_steps, run_script, run_deferred}
 use Rattle.source_meaning.specs.Laws.{with_more, SpendsSteps, EntriesSpendSteps}
 
 -- ---- two evaluations, of which the second one may take m steps more
@@ -236,7 +236,7 @@ module _ (m : ℕ) (c : Running) (executes : ExecuteKeeps m c.execute) where
     ArgumentsKeep f g = (p : Progress) → p.left ≤ most → Keeps m p.left (f p) (g (with_more m p))
 
     called_keeps : (f : Callee) (ts : List Ty) (g h : Progress → Outcome Arguments) → ArgumentsKeep g h → (p : Progress) → p.left ≤ most
-        → Keeps m p.left (called c caller f ts g p) (called c other f ts h (with_more m p))
+        → Keeps m p.left (callee_called c caller f ts g p) (callee_called c other f ts h (with_more m p))
     called_keeps (InUnit f) ts g h keep p le =
         keeps_bind m p.left (made ts p) (made ts (with_more m p)) (λ parts q. bind (g q) (λ a r. unit_called caller f a r)) (λ parts q. bind (h q) (λ a r. unit_called other f a r)) (made_keeps m ts p)
         (λ parts q less. keeps_bind m q.left (g q) (h (with_more m q)) (λ a r. unit_called caller f a r) (λ a r. unit_called other f a r) (keep q (omega (arith, less, le)))
@@ -469,7 +469,7 @@ module _ (m : ℕ) (s : Setting) where
   StartKeeps (Some start) = (script self : ℕ) (p : Progress) → Keeps m p.left (start script self p) (start script self (with_more m p))
 
   begun_keeps : (start : Option Starter) → StartKeeps start → (script : Option ℕ) (script_name : List ℕ) (target : ℕ) (p : Progress)
-      → Keeps m p.left (begun start script script_name target p) (begun start script script_name target (with_more m p))
+      → Keeps m p.left (starter_begun start script script_name target p) (starter_begun start script script_name target (with_more m p))
   unfolding StartKeeps
   begun_keeps start h None script_name target p =
       let go = λ (q : Progress). Gives [] (record q { world = no_script target script_name q.world }) in
@@ -485,7 +485,7 @@ module _ (m : ℕ) (s : Setting) where
   executing_keeps : (start : Option Starter) → StartKeeps start → (self : ℕ) → ExecuteKeeps m (executing s start self)
   executing_keeps start h self [] target p = keeps_one m p (λ q. Gives [] q) (λ q. Gives [] q) (λ q. given m q [])
   executing_keeps start h self (b ∷ script_name) target p =
-      let go = λ (q : Progress). begun start (script_named s.scripts (b ∷ script_name)) (b ∷ script_name) target q in
+      let go = λ (q : Progress). starter_begun start (script_named s.scripts (b ∷ script_name)) (b ∷ script_name) target q in
       let stays = λ (q : Progress). spend q (λ r. Gives [] r) in
       keeps_chosen m p.left (may_run self target p.world) go stays go stays p (with_more m p) (begun_keeps start h (script_named s.scripts (b ∷ script_name)) (b ∷ script_name) target p)
       (keeps_one m p (λ q. Gives [] q) (λ q. Gives [] q) (λ q. given m q []))
@@ -517,6 +517,6 @@ spends run keeps = record {
 
 pub entries_spend_steps : EntriesSpendSteps
 entries_spend_steps s self world = (
-  λ script. spends (λ n. run_script s n script self world) (λ m n. started_keeps m s depth_limit script self (with_steps n world)),
+  λ script. spends (λ n. run_script s n script self world) (λ m n. started_keeps m s waiting_limit script self (with_steps n world)),
   λ d. spends (λ n. run_deferred s n d self world) (λ m n. resumed_keeps m s d self (slice_get s.scripts d.script) (with_steps n world)),
 )

@@ -79,7 +79,7 @@ runs_script table routine = runs_script_in (slice_get table.routines routine)
 
 -- a name and a target
 abbrev pub executed : Running → List Value → Progress → Outcome (List Value)
-executed c (Text called ∷ Object target ∷ []) p = c.execute called target p
+executed c (Text callee_called ∷ Object target ∷ []) p = c.execute callee_called target p
 executed c _ p = spend p (λ q. Gives [] q)
 
 abbrev pub asked : Running → ℕ → Arguments → Progress → Outcome (List Value)
@@ -109,9 +109,9 @@ defaults self [] p = Gives [] p
 defaults self (k ∷ ks) p = bind (defaults self ks p) (λ values q. spend q (λ r. Gives ((constant_value self k ∷ []) ∷ values) r))
 
 -- The result is made before the arguments have their values.
-abbrev pub called : Running → Caller → Callee → List Ty → (Progress → Outcome Arguments) → Progress → Outcome (List Value)
-called c caller (InUnit f) result arguments p = bind (made result p) (λ parts q. bind (arguments q) (λ a r. unit_called caller f a r))
-called c caller (Engine routine) result arguments p = bind (arguments p) (λ a q. engine_called c routine a q)
+abbrev pub callee_called : Running → Caller → Callee → List Ty → (Progress → Outcome Arguments) → Progress → Outcome (List Value)
+callee_called c caller (InUnit f) result arguments p = bind (made result p) (λ parts q. bind (arguments q) (λ a r. unit_called caller f a r))
+callee_called c caller (Engine routine) result arguments p = bind (arguments p) (λ a q. engine_called c routine a q)
 
 abbrev pub named : ℕ → Place → Progress → Outcome (List Value)
 named self (Local n) p = spend p (λ q. Gives (q.locals n) q)
@@ -182,7 +182,7 @@ module _ (c : Running) (caller : Caller) (sight : List ℕ) where
     pub eval : TypedExpr → Progress → Outcome (List Value)
     eval (literal k) p = spend p (λ q. Gives (constant_value c.self k ∷ []) q)
     eval (name t place) p = named c.self place p
-    eval (call t f xs ks) p = called c caller f (cell_types c.structs t)
+    eval (call t f xs ks) p = callee_called c caller f (cell_types c.structs t)
         (λ q. bind (defaults c.self ks q) (λ values r. evals xs (record { values = values; action = None }) r)) p
     eval (member t x before) p = member_of (spot x) before (cells c.structs t) (λ q. eval x q) p
     eval (prefix t o x) p = before_operand o (is_step o) (spot x) (λ q. eval x q) p

@@ -133,10 +133,10 @@ Starter = ℕ → ℕ → Progress → Outcome (List Value)
 abbrev pub resumed : Progress → Progress → Progress
 resumed p q = record q { globals = p.globals; locals = p.locals }
 
-abbrev pub begun : Option Starter → Option ℕ → List ℕ → ℕ → Progress → Outcome (List Value)
-begun start None name target p = spend p (λ q. Gives [] (record q { world = no_script target name q.world }))
-begun None (Some script) name target p = spend p (λ q. Gives [] (record q { world = too_deep target name q.world }))
-begun (Some start) (Some script) name target p = bind (start script target p) (λ parts q. spend (resumed p q) (λ r. Gives [] r))
+abbrev pub starter_begun : Option Starter → Option ℕ → List ℕ → ℕ → Progress → Outcome (List Value)
+starter_begun start None name target p = spend p (λ q. Gives [] (record q { world = no_script target name q.world }))
+starter_begun None (Some script) name target p = spend p (λ q. Gives [] (record q { world = too_deep target name q.world }))
+starter_begun (Some start) (Some script) name target p = bind (start script target p) (λ parts q. spend (resumed p q) (λ r. Gives [] r))
 
 -- What comes of running the script of a name as a target, in a script of an object: nothing of an
 -- empty name, nor of a target that it may not run a script on; a line where the script isn't
@@ -145,7 +145,7 @@ begun (Some start) (Some script) name target p = bind (start script target p) (�
 abbrev pub executing : Setting → Option Starter → ℕ → List ℕ → ℕ → Progress → Outcome (List Value)
 executing s start self [] target p = spend p (λ q. Gives [] q)
 executing s start self (b ∷ name) target p =
-    chosen (may_run self target p.world) (λ q. begun start (script_named s.scripts (b ∷ name)) (b ∷ name) target q) (λ q. spend q (λ r. Gives [] r)) p
+    chosen (may_run self target p.world) (λ q. starter_begun start (script_named s.scripts (b ∷ name)) (b ∷ name) target q) (λ q. spend q (λ r. Gives [] r)) p
 
 -- a script from its start, as an object, where so many scripts more may wait
 abbrev pub started : Setting → ℕ → Starter
@@ -153,8 +153,8 @@ started s zero script self p = listed_started s (executing s None) script self (
 started s (suc room) script self p = listed_started s (executing s (Some (started s room))) script self (slice_get s.scripts script) p
 
 -- how many scripts at most wait for one that they execute
-abbrev pub depth_limit : ℕ
-depth_limit = 8
+abbrev pub waiting_limit : ℕ
+waiting_limit = 8
 
 abbrev pub next_starter : Setting → ℕ → Option Starter
 next_starter s zero = None
@@ -164,7 +164,7 @@ next_starter s (suc room) = Some (started s room)
 
 -- how scripts start that an entry's own script runs
 abbrev pub first_starter : Setting → Option Starter
-first_starter s = next_starter s depth_limit
+first_starter s = next_starter s waiting_limit
 
 -- A deferred call is evaluated in its script, with the names in sight and the variables as they
 -- were captured.
@@ -181,7 +181,7 @@ with_steps n world = record { left = n; globals = no_variables; locals = no_vari
 
 -- an entry that starts a script, as an object, with at most n steps
 abbrev pub run_script : Setting → ℕ → ℕ → ℕ → World Deferred → Outcome (List Value)
-run_script s n script self world = started s depth_limit script self (with_steps n world)
+run_script s n script self world = started s waiting_limit script self (with_steps n world)
 
 -- an entry that runs a deferred call
 abbrev pub run_deferred : Setting → ℕ → Deferred → ℕ → World Deferred → Outcome (List Value)

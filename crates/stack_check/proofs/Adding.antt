@@ -10,11 +10,11 @@ use Rattle.stack_shape.specs.declared.shape.Entry.TheVariants.{Start, Called, St
 use Rattle.stack_lists.specs.declared.held.Heap.{Heap}
 use Rattle.stack_check.specs.declared.facts.Trial.{Trial}
 use Rattle.stack_check.specs.declared.facts.Facts.{Facts}
-use Rattle.stack_lists.specs.declared.rows.Row.{Row}
+use Rattle.stack_lists.specs.declared.rows.ShapeRow.{ShapeRow}
 use Rattle.stack_lists.specs.Rows.{PutAt, RowAdded, row_in}
 use Rattle.stack_check.proofs.Left.{more_set, more_trial}
 use Rattle.stack_check.specs.Facts.{current, FindsMore, number_in, first_place, first_held, given_found, given_open, open_of, seen_of}
-use Rattle.stack_check.specs.Inference.{Formed, TrialAdded, CurrentSet, Keeps, Begins, GivenOwed}
+use Rattle.stack_check.specs.Inference.{Formed, TrialAdded, CurrentSet, Keeps, TrialBegins, GivenOwed}
 use Rattle.stack_check.proofs.Keeping.{keeps_given}
 
 some_is : {A : Type 0} (a b : A) → Some a ≡ Some b → a ≡ b
@@ -70,7 +70,7 @@ pub no_row : (facts : Facts) (number place : ℕ) → Formed facts → number �
 no_row facts number place formed e =
     none_or (row_in facts.rows number place) (λ h r. absurd (let l = formed.owned number place h r in omega (arith, l, e)))
 
-pub trial_added : (before after : Facts) (rows : List Row) (trial : Trial) (number : ℕ) → Formed before → number ≡ length before.trials
+pub trial_added : (before after : Facts) (rows : List ShapeRow) (trial : Trial) (number : ℕ) → Formed before → number ≡ length before.trials
     → RowAdded before.rows rows number (first_place trial.entry) (first_held trial)
     → CurrentSet (record before { trials = before.trials ++ trial ∷ []; rows = rows }) after trial.entry number → TrialAdded before after trial
 trial_added before after rows trial number formed e a s = record {
@@ -85,11 +85,11 @@ trial_added before after rows trial number formed e a s = record {
     | inl old ↦ inl (sym (same_current before rows trial entry) ∙ old)
     | inr is ↦ inr (is.0, is.1 ∙ e)
   ];
-  more = ap (λ (rs : List Row). length rs) s.rows ∙ a.more;
+  more = ap (λ (rs : List ShapeRow). length rs) s.rows ∙ a.more;
   room = a.room;
 }
   where
-    same_current : (before : Facts) (rows : List Row) (trial : Trial) (entry : Entry)
+    same_current : (before : Facts) (rows : List ShapeRow) (trial : Trial) (entry : Entry)
         → current (record before { trials = before.trials ++ trial ∷ []; rows = rows }) entry ≡ current before entry
     same_current before rows trial Start = refl
     same_current before rows trial (Called t) = refl
@@ -98,7 +98,7 @@ trial_added before after rows trial number formed e a s = record {
 pub ruleset adding = (no_row, trial_added)
 
 pub trial_left : (header : EngineTable) (code : List PlainOp) (heap : Heap) (before after : Facts) (trial : Trial) → TrialAdded before after trial
-    → Begins header code heap trial → FindsMore before after
+    → TrialBegins header code heap trial → FindsMore before after
 trial_left header code heap before after trial a b = more_trial before after trial a.more a.room a.trials b.given b.few.0 b.few.1
 
 pub given_left : (header : EngineTable) (code : List PlainOp) (heap : Heap) (facts after : Facts) (n given : ℕ) (trial now : Trial)

@@ -21,7 +21,7 @@ use Rattle.stack_shape.specs.TopFirst.{types_on}
 use Rattle.stack_shape.specs.Stored.{TopShape, found_types, stored_shape, stored_types}
 use Rattle.machine_rules.specs.Outlines.{slot, slots}
 use Rattle.stack_rules.specs.Tables.{ShapeTable}
-use Rattle.stack_rules.specs.Rules.{AsksFurther, GoesOn, Leads, MayStore, MeetsRules, Obeys, Returns}
+use Rattle.stack_rules.specs.Rules.{AsksFurther, GoesOnBehindCall, Leads, MayStore, MeetsRules, Obeys, Returns}
 use Rattle.stack_check.specs.Checked.{FittingStandsBehind}
 
 some_is : {A : Type 0} (a b : A) → Some a ≡ Some b → a ≡ b
@@ -146,7 +146,7 @@ further_still code table place (ops.StoreState globals locals) shape stands h = 
 further_still code table place op shape stands h = h
 
 goes_still : (code : List PlainOp) (table : ShapeTable) (entry : Entry) (next : ℕ) (shape : TopShape) (rest : List Slot) (given : Option (List Slot))
-    → Same code table entry → GoesOn table entry next shape rest given → GoesOn (stored_only code table) entry next shape rest given
+    → Same code table entry → GoesOnBehindCall table entry next shape rest given → GoesOnBehindCall (stored_only code table) entry next shape rest given
 goes_still code table entry next shape rest None s h = tt
 goes_still code table entry next shape rest (Some given) s h = s.by next ∙ h
 

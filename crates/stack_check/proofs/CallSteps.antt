@@ -20,7 +20,7 @@ use Rattle.stack_check.specs.declared.facts.Unseen.{Unseen}
 use Rattle.stack_lists.specs.Held.{HeapGrows, Holds, IsIn, shape_of}
 use Rattle.stack_lists.specs.Rows.{row_in}
 use Rattle.stack_check.specs.Facts.{FindsMore, current}
-use Rattle.stack_check.specs.Inference.{BeginsAlike, Formed, TrialIn, RowIs, Keeps, LooksOwed, Visited, WhereQuiet, Takes, Owed, Begins, Sound, Sees, Calls, Within, window}
+use Rattle.stack_check.specs.Inference.{BeginsAlike, Formed, TrialIn, RowIs, Keeps, LooksOwed, Visited, WhereQuiet, Takes, Owed, TrialBegins, Sound, Sees, Calls, Within, window}
 use Rattle.stack_lists.specs.Growth.{heap_same, still_shape, same_shape}
 use Rattle.stack_check.proofs.Keeping.{keeps_grows}
 use Rattle.stack_check.proofs.Calling.{behind, call_begins, call_looks, call_owed, call_sound, call_sound_none, call_there, never_begins}

@@ -13,7 +13,7 @@ use Rattle.stack_shape.specs.Stored.{TopShape}
 use Rattle.stack_shape.specs.Laws.{deeper, deeper_saved, beneath_under}
 use Rattle.machine_rules.specs.Act.{next_place}
 use Rattle.stack_rules.specs.Tables.{Callee, ShapeTable, first_shape}
-use Rattle.stack_rules.specs.Rules.{GoesOn, MayCall, MayReturn, Returns, Obeys, MeetsRules, WellStacked}
+use Rattle.stack_rules.specs.Rules.{GoesOnBehindCall, MayCall, MayReturn, Returns, Obeys, MeetsRules, WellStacked}
 use Rattle.stack_lists.specs.declared.held.Held.{Held}
 use Rattle.stack_lists.specs.declared.held.Heap.{Heap}
 use Rattle.stack_check.specs.declared.facts.Trial.{Trial}
@@ -22,8 +22,8 @@ use Rattle.stack_lists.specs.Shared.{read}
 use Rattle.stack_lists.specs.Held.{HeapGrows, shape_of}
 use Rattle.stack_lists.specs.Rows.{row_in}
 use Rattle.stack_check.specs.declared.facts.Unseen.{Unseen}
-use Rattle.stack_check.specs.Facts.{current, callee_of, callee_at, first_held, kept_callee, lowest, table_of, unseen_cells, unseen_under, without}
-use Rattle.stack_check.specs.Inference.{BeginsAlike, GivenFits, GivenOver, IsLonger, IsOver, IsThere, LooksOwed, TrialIn, Within, Beyond, RowFits, TrialFits, Keeps, Owed, RowIs, FirstFits, Begins, GivenOwed, Sound, window}
+use Rattle.stack_check.specs.Facts.{current, callee_of, callee_at, first_held, kept_callee, lowest, trial_table, unseen_cells, unseen_under, without}
+use Rattle.stack_check.specs.Inference.{BeginsAlike, GivenFits, GivenOver, IsLonger, IsOver, IsThere, LooksOwed, TrialIn, Within, Beyond, RowFits, TrialFits, Keeps, Owed, RowIs, FirstFits, TrialBegins, GivenOwed, Sound, window}
 use Rattle.stack_lists.specs.Growth.{same_shape, read_empty}
 use Rattle.stack_check.proofs.Steps.{row_trial}
 use Rattle.stack_check.proofs.Tables.{entry_is, led_at, own_is}
@@ -49,7 +49,7 @@ pub record CallFits (table : ShapeTable) (entry : Entry) (target next : ℕ) (sh
   pub beneath : List Slot
   pub cells : shape.cells ≡ callee.taken ++ (rest ++ x)
   pub under : shape.under ≡ callee.under ++ beneath
-  pub goes_on : GoesOn table entry next own rest callee.given
+  pub goes_on : GoesOnBehindCall table entry next own rest callee.given
 
 call_fits : (header : EngineTable) (code : List PlainOp) (table : ShapeTable) (entry : Entry) (place : ℕ) (offset : ℤ) (shape : TopShape)
     (x y : List Slot) → MeetsRules header code table → op_at code place ≡ Some (ops.Jsr offset) → RowFits table entry place shape x y
@@ -112,7 +112,7 @@ first_over heap target taken under unseen uc uu = record {
 pub call_begins : (header : EngineTable) (code : List PlainOp) (heap : Heap) (facts : Facts) (n p : ℕ) (offset : ℤ) (held : Held) (unseen : Unseen)
     → Keeps header code heap facts → row_in facts.rows n p ≡ Some held → op_at code p ≡ Some (ops.Jsr offset)
     → unseen.cells ≡ length (read heap.slots held.cells) → unseen.under ≡ length (read heap.slots held.under) → unseen.cells ≤ 33554432 → unseen.under ≤ 33554432
-    → Begins header code heap (new_trial heap (jump_place p offset) held.cells held.under unseen)
+    → TrialBegins header code heap (new_trial heap (jump_place p offset) held.cells held.under unseen)
 call_begins header code heap facts n p offset held unseen k r stands uc uu fc fu = record {
   by = λ table meets.
       let i = row_trial header code heap facts n p held k r in
@@ -221,8 +221,8 @@ given_here None given x f = absurd f
 given_here (Some o) given x f = (o, refl, f)
 
 goes_on_given : (table : ShapeTable) (entry : Entry) (next : ℕ) (own : TopShape) (rest : List Slot) (given : Option (List Slot)) (o : List Slot) → given ≡ Some o
-    → GoesOn table entry next own rest given → table.at entry next ≡ Some (record own { cells = o ++ rest })
-goes_on_given table entry next own rest given o e h = subst (λ g. GoesOn table entry next own rest g) e h
+    → GoesOnBehindCall table entry next own rest given → table.at entry next ≡ Some (record own { cells = o ++ rest })
+goes_on_given table entry next own rest given o e h = subst (λ g. GoesOnBehindCall table entry next own rest g) e h
 
 -- so many slots of what was found to be given, over what lies beneath what was looked at
 abbrev pub behind : Heap → Held → Trial → ℕ → List Slot
@@ -374,7 +374,7 @@ call_sound_none header code heap facts n p offset held m trial k stands c has no
           cells = parts.cells;
           deeper = parts.deeper;
           under = parts.under;
-          goes_on = subst (λ g. GoesOn (table_of heap facts) entry (next_place p (ops.Jsr offset)) over.own (drop (window heap trial).cells over.own.cells) (CutGiven heap trial g))
+          goes_on = subst (λ g. GoesOnBehindCall (trial_table heap facts) entry (next_place p (ops.Jsr offset)) over.own (drop (window heap trial).cells over.own.cells) (CutGiven heap trial g))
               (sym none) tt;
         };
       };
@@ -403,8 +403,8 @@ call_sound header code heap heap' facts n p offset held m trial given next shape
           cells = parts.1.cells;
           deeper = parts.1.deeper;
           under = parts.1.under;
-          goes_on = subst (λ g. GoesOn (table_of heap facts) entry (next_place p (ops.Jsr offset)) over.own rest (CutGiven heap trial g)) (sym gives)
-              (subst (λ q. (table_of heap facts).at entry q ≡ Some (record over.own { cells = without (unseen_cells heap trial) (read heap.slots given) ++ rest })) at
+          goes_on = subst (λ g. GoesOnBehindCall (trial_table heap facts) entry (next_place p (ops.Jsr offset)) over.own rest (CutGiven heap trial g)) (sym gives)
+              (subst (λ q. (trial_table heap facts).at entry q ≡ Some (record over.own { cells = without (unseen_cells heap trial) (read heap.slots given) ++ rest })) at
               (led_at header code heap heap' facts entry n next shape _ caller k g cur h row
               (is ∙ behind_over heap held caller trial given over.own over.is parts.0.cells)
               ∙ ap (λ z. Some (record over.own { cells = z ++ rest })) (sym (given_cut heap trial given i))));
@@ -520,7 +520,7 @@ return_sound header code heap facts n p target held trial given k stands has e g
       record {
         op = ops.Retn;
         stands = stands;
-        obeys = subst (λ e. Returns (table_of heap facts) e over.own) is (record {
+        obeys = subst (λ e. Returns (trial_table heap facts) e over.own) is (record {
           callee = kept_callee heap caller;
           known = callee_known heap facts target n caller (ap (current facts) is ∙ c) h;
           given = ap (λ (t : Trial). option_map (λ g. without (unseen_cells heap caller) (read heap.slots g)) t.given) (sym me)
@@ -542,6 +542,6 @@ end_sound header code heap facts n p held trial k stands has ends = record {
   by = λ entry c caller h over. record {
     op = ops.Retn;
     stands = stands;
-    obeys = subst (λ e. Returns (table_of heap facts) e over.own) (entry_is facts n trial entry k.formed has c) (ends (table_of heap facts) over.own);
+    obeys = subst (λ e. Returns (trial_table heap facts) e over.own) (entry_is facts n trial entry k.formed has c) (ends (trial_table heap facts) over.own);
   };
 }

@@ -10,7 +10,7 @@ use Rattle.stack_rules.specs.Tables.{ShapeTable, empty_shape}
 use Rattle.stack_rules.specs.Rules.{MeetsRules, WellStacked}
 use Rattle.stack_lists.specs.declared.held.Held.{Held}
 use Rattle.stack_lists.specs.declared.held.Heap.{Heap}
-use Rattle.stack_lists.specs.declared.rows.Row.{Row}
+use Rattle.stack_lists.specs.declared.rows.ShapeRow.{ShapeRow}
 use Rattle.stack_check.specs.declared.facts.Trial.{Trial}
 use Rattle.stack_check.specs.declared.facts.Facts.{Facts}
 use Rattle.stack_check.specs.declared.seen.Seen.{Seen}
@@ -18,7 +18,7 @@ use Rattle.stack_check.specs.declared.seen.Seen.TheVariants.{Quiet, Changed, Bad
 use Rattle.stack_lists.specs.Shared.{read}
 use Rattle.stack_lists.specs.Held.{AllAtMost, HeapGrows, IsIn, shape_of}
 use Rattle.stack_lists.specs.Rows.{RowAdded, row_in}
-use Rattle.stack_check.specs.Facts.{FindsMore, current, found, left, seen_of, number_in, first_place, first_held, callee_of, table_of}
+use Rattle.stack_check.specs.Facts.{FindsMore, current, found, left, seen_of, number_in, first_place, first_held, callee_of, trial_table}
 use Rattle.stack_check.specs.Checked.{CheckedCode, StoredStand, found_of, kept_table, most_turns}
 use Rattle.stack_lists.specs.declared.todo.Spot.{Spot}
 use Rattle.stack_lists.specs.Worklist.{Worklist, waiting}
@@ -121,11 +121,11 @@ pass_turn header code first heap heap' before facts facts' drained seen d e s = 
     same : facts ≡ before
     same = subst (λ s. WhereQuiet s (facts ≡ before)) e d.same
 
-    quiet : (seen : Seen) → WhereQuiet seen ((facts' ≡ facts) × MeetsRules header code (table_of heap facts))
-        → WhereQuiet seen ((facts' ≡ before) × MeetsRules header code (table_of heap' facts'))
+    quiet : (seen : Seen) → WhereQuiet seen ((facts' ≡ facts) × MeetsRules header code (trial_table heap facts))
+        → WhereQuiet seen ((facts' ≡ before) × MeetsRules header code (trial_table heap' facts'))
     quiet Quiet q = (
       q.0 ∙ same,
-      subst (λ f. MeetsRules header code (table_of heap' f)) (sym q.0)
+      subst (λ f. MeetsRules header code (trial_table heap' f)) (sym q.0)
           (subst (λ t. MeetsRules header code t) (sym (table_same header code heap heap' facts k s.grows)) q.1),
     )
     quiet Changed q = tt
@@ -156,7 +156,7 @@ one_trial (suc n) trial h = none_some ((suc n ≡ 0) × (trial ≡ first_trial))
 first_shape_is : (heap : Heap) → shape_of heap nothing_held ≡ empty_shape
 first_shape_is heap = same_shape _ _ _ _ _ _ _ _ (read_empty heap.slots) (read_empty heap.slots) (ap (map (read heap.slots)) (read_empty heap.saved)) refl
 
-first_row : (rows : List Row) (t p : ℕ) (h : Held) → RowAdded [] rows 0 13 nothing_held → row_in rows t p ≡ Some h
+first_row : (rows : List ShapeRow) (t p : ℕ) (h : Held) → RowAdded [] rows 0 13 nothing_held → row_in rows t p ≡ Some h
     → (t ≡ 0) × (p ≡ 13) × (h ≡ nothing_held)
 first_row rows t p h a r = elim (a.only t p h r) [
   | inl old ↦ absurd (no_row t p h old)
@@ -171,7 +171,7 @@ start_in heap = record {
   each = subst (λ ns. AllAtMost (length heap.slots) ns) (sym (read_empty heap.saved)) tt;
 }
 
-start_current : (rows : List Row) (e : Entry) (n : ℕ) → current (record { trials = first_trial ∷ []; called = []; stored = []; rows = rows }) e ≡ Some n
+start_current : (rows : List ShapeRow) (e : Entry) (n : ℕ) → current (record { trials = first_trial ∷ []; called = []; stored = []; rows = rows }) e ≡ Some n
     → IsTrialOf (record { trials = first_trial ∷ []; called = []; stored = []; rows = rows }) n e
 start_current rows Start n c = subst (λ n. IsTrialOf (record { trials = first_trial ∷ []; called = []; stored = []; rows = rows }) n Start) (some_is 0 n c)
     (record { trial = first_trial; has = refl; of = refl })
@@ -180,7 +180,7 @@ start_current rows (Called t) n c =
 start_current rows (Stored t) n c =
     none_some (IsTrialOf (record { trials = first_trial ∷ []; called = []; stored = []; rows = rows }) n (Stored t)) n (ap number_in (sym (none_there t)) ∙ c)
 
-start_fits : (header : EngineTable) (code : List PlainOp) (heap : Heap) (rows : List Row) (table : ShapeTable) → RowAdded [] rows 0 13 nothing_held
+start_fits : (header : EngineTable) (code : List PlainOp) (heap : Heap) (rows : List ShapeRow) (table : ShapeTable) → RowAdded [] rows 0 13 nothing_held
     → MeetsRules header code table → TrialFits table heap (record { trials = first_trial ∷ []; called = []; stored = []; rows = rows }) 0 first_trial
 start_fits header code heap rows table a meets = record {
   x = [];
@@ -195,7 +195,7 @@ start_fits header code heap rows table a meets = record {
   under = omega arith;
 }
 
-start_keeps : (header : EngineTable) (code : List PlainOp) (heap : Heap) (rows : List Row) → RowAdded [] rows 0 13 nothing_held
+start_keeps : (header : EngineTable) (code : List PlainOp) (heap : Heap) (rows : List ShapeRow) → RowAdded [] rows 0 13 nothing_held
     → Keeps header code heap (record { trials = first_trial ∷ []; called = []; stored = []; rows = rows })
 start_keeps header code heap rows a = record {
   formed = record {
@@ -229,7 +229,7 @@ start_keeps header code heap rows a = record {
   };
 }
 
-pub starts : (header : EngineTable) (code : List PlainOp) (heap : Heap) (empty rows : List Row) (trials : List Trial) (called stored : List ℕ)
+pub starts : (header : EngineTable) (code : List PlainOp) (heap : Heap) (empty rows : List ShapeRow) (trials : List Trial) (called stored : List ℕ)
     → empty ≡ [] → RowAdded empty rows 0 13 nothing_held → trials ≡ [] ++ first_trial ∷ [] → called ≡ [] → stored ≡ []
     → Keeps header code heap (record { trials = trials; called = called; stored = stored; rows = rows })
 starts header code heap empty rows trials called stored e a t c s =
@@ -245,7 +245,7 @@ pub ruleset starting = (starts)
 pub ends_found : (header : EngineTable) (code : List PlainOp) (heap : Heap) (before facts : Facts) (seen : Seen) → SeesTurn header code heap before facts seen
     → seen ≡ Quiet → IsFound header code heap facts
 ends_found header code heap before facts seen s e =
-    record { keeps = subst (λ s. Visited header code heap facts s) e s.keeps; meets = (subst (λ s. WhereQuiet s ((facts ≡ before) × MeetsRules header code (table_of heap facts))) e s.quiet).1 }
+    record { keeps = subst (λ s. Visited header code heap facts s) e s.keeps; meets = (subst (λ s. WhereQuiet s ((facts ≡ before) × MeetsRules header code (trial_table heap facts))) e s.quiet).1 }
 
 pub ends_none : (header : EngineTable) (code : List PlainOp) (heap : Heap) (before facts : Facts) (seen : Seen) → SeesTurn header code heap before facts seen
     → seen ≡ Bad → WellStacked header code → ⊥
@@ -262,7 +262,7 @@ goes_down header code heap before facts seen s e = subst (λ s. Takes before fac
 pub ends_same : (header : EngineTable) (code : List PlainOp) (heap : Heap) (before facts : Facts) (seen : Seen) → SeesTurn header code heap before facts seen
     → seen ≡ Quiet → facts ≡ before
 ends_same header code heap before facts seen s e =
-    (subst (λ s. WhereQuiet s ((facts ≡ before) × MeetsRules header code (table_of heap facts))) e s.quiet).0
+    (subst (λ s. WhereQuiet s ((facts ≡ before) × MeetsRules header code (trial_table heap facts))) e s.quiet).0
 
 pub ruleset ending = (ends_found, ends_none, goes_on, goes_down)
 
@@ -289,16 +289,16 @@ turn_last begun first turns next facts after s e same = let f = ap found same in
 
 -- ---- what was found at first
 
-pub start_found : (rows : List Row) → length rows ≡ 1
+pub start_found : (rows : List ShapeRow) → length rows ≡ 1
     → (let f : Facts = record { trials = first_trial ∷ []; called = []; stored = []; rows = rows } in (found f ≡ 1) × (left f < 2 ^ 62))
 unfolding found left
 start_found rows e = (omega (arith, e), omega (arith, e))
 
-pub starts_found : (empty rows : List Row) (trials : List Trial) (called stored : List ℕ) → empty ≡ [] → RowAdded empty rows 0 13 nothing_held
+pub starts_found : (empty rows : List ShapeRow) (trials : List Trial) (called stored : List ℕ) → empty ≡ [] → RowAdded empty rows 0 13 nothing_held
     → trials ≡ [] ++ first_trial ∷ [] → called ≡ [] → stored ≡ []
     → (let f : Facts = record { trials = trials; called = called; stored = stored; rows = rows } in (found f ≡ 1) × (left f < 2 ^ 62))
 starts_found empty rows trials called stored e a t c s =
-    let one : length rows ≡ 1 = (let l = ap (λ (rs : List Row). length rs) e in let m = a.more in omega (arith, l, m)) in
+    let one : length rows ≡ 1 = (let l = ap (λ (rs : List ShapeRow). length rs) e in let m = a.more in omega (arith, l, m)) in
     subst (λ (f : Facts). (found f ≡ 1) × (left f < 2 ^ 62)) (sym (
     ap (λ ts. record { trials = ts; called = called; stored = stored; rows = rows }) t
     ∙ ap (λ ns. record { trials = first_trial ∷ []; called = ns; stored = stored; rows = rows }) c
@@ -318,7 +318,7 @@ turns_under header code c turns f h =
 -- ---- what is kept
 
 stored_stands : (header : EngineTable) (code : List PlainOp) (heap : Heap) (facts : Facts) (other : ShapeTable) → Keeps header code heap facts
-    → MeetsRules header code other → StoredStand (table_of heap facts) other
+    → MeetsRules header code other → StoredStand (trial_table heap facts) other
 stored_stands header code heap facts other k meets = record {
   by = λ site place shape h.
       let r = found_in heap facts (Stored site) place shape h in
@@ -345,6 +345,6 @@ kept_meets header code c f = f.meets
 
 pub ruleset checking = (kept_stands, kept_meets)
 
-pub empty_row : (rows : List Row) (t p : ℕ) → rows ≡ [] → row_in rows t p ≡ None
+pub empty_row : (rows : List ShapeRow) (t p : ℕ) → rows ≡ [] → row_in rows t p ≡ None
 unfolding row_in
 empty_row rows t p e = ap (λ rs. row_in rs t p) e

@@ -20,7 +20,7 @@ use Rattle.stack_lists.specs.declared.held.Heap.{Heap}
 use Rattle.stack_check.specs.declared.facts.Facts.{Facts}
 use Rattle.stack_lists.specs.Shared.{read}
 use Rattle.stack_lists.specs.Held.{shape_of}
-use Rattle.stack_check.specs.Facts.{table_of}
+use Rattle.stack_check.specs.Facts.{trial_table}
 use Rattle.stack_check.specs.Fitting.{IsValueOf, BeginsWith, BeginsOtherwise, IsFrame, Resumes, IsResumedAt, stored_at}
 use Rattle.stack_lists.specs.Growth.{same_shape}
 
@@ -248,10 +248,10 @@ mapped_none : {A B : Type 0} (P : Type 0) (f : A → B) (b : B) (o : Option A) �
 mapped_none P f b o e h = none_some P b (ap (option_map f) e ∙ h)
 
 pub fits_if : (heap : Heap) (facts : Facts) (saved : Saved) (held : Held) → IsResumedAt facts saved.place (Some held) → Resumes (shape_of heap held) saved
-    → Fits (table_of heap facts) saved
+    → Fits (trial_table heap facts) saved
 fits_if heap facts saved held r h = on (site_is saved.place r.after)
   where
-    on : (site : ℕ) × (saved.place ≡ resume_place site) → Fits (table_of heap facts) saved
+    on : (site : ℕ) × (saved.place ≡ resume_place site) → Fits (trial_table heap facts) saved
     on found = record {
       site = found.0;
       place = found.1;
@@ -261,7 +261,7 @@ fits_if heap facts saved held r h = on (site_is saved.place r.after)
       locals = h.locals;
     }
 
-pub fits_then : (heap : Heap) (facts : Facts) (saved : Saved) (held : Held) → IsResumedAt facts saved.place (Some held) → Fits (table_of heap facts) saved
+pub fits_then : (heap : Heap) (facts : Facts) (saved : Saved) (held : Held) → IsResumedAt facts saved.place (Some held) → Fits (trial_table heap facts) saved
     → Resumes (shape_of heap held) saved
 fits_then heap facts saved held r f = record {
   types = f.types;
@@ -270,7 +270,7 @@ fits_then heap facts saved held r f = record {
   locals = f.locals;
 }
 
-pub fits_not : (heap : Heap) (facts : Facts) (saved : Saved) → IsResumedAt facts saved.place None → Fits (table_of heap facts) saved → ⊥
+pub fits_not : (heap : Heap) (facts : Facts) (saved : Saved) → IsResumedAt facts saved.place None → Fits (trial_table heap facts) saved → ⊥
 fits_not heap facts saved r f =
     mapped_none ⊥ (shape_of heap) (stored_shape f.types) (stored_at facts f.site saved.place) (r.by f.site f.place) f.known
 

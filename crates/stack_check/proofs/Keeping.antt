@@ -23,9 +23,9 @@ use Rattle.stack_check.specs.declared.facts.Facts.{Facts}
 use Rattle.stack_lists.specs.Shared.{read}
 use Rattle.stack_lists.specs.Held.{IsIn, HeapGrows, shape_of}
 use Rattle.stack_lists.specs.Rows.{RowAdded, row_in}
-use Rattle.stack_lists.specs.declared.rows.Row.{Row}
+use Rattle.stack_lists.specs.declared.rows.ShapeRow.{ShapeRow}
 use Rattle.stack_check.specs.Facts.{current, first_place, first_held, callee_of, lowest, unseen_cells, unseen_under, with_unseen}
-use Rattle.stack_check.specs.Inference.{IsTrialOf, IsWhole, Formed, TrialIn, AllIn, IsOver, GivenOver, AllOver, Beyond, RowFits, TrialFits, Compares, Keeps, Owed, RowIs, TrialAdded, FirstFits, Begins, GivenOwed, SeesMore, UnseenOwed}
+use Rattle.stack_check.specs.Inference.{IsTrialOf, IsWhole, Formed, TrialIn, AllIn, IsOver, GivenOver, AllOver, Beyond, RowFits, TrialFits, Compares, Keeps, Owed, RowIs, TrialAdded, FirstFits, TrialBegins, GivenOwed, SeesMore, UnseenOwed}
 use Rattle.stack_lists.specs.Growth.{still_in, still_shape, read_empty}
 use Rattle.stack_check.proofs.Windows.{deeper_then, lowest_fewer}
 
@@ -146,7 +146,7 @@ row_over header code heap facts n p held o m h trial i j e =
     subst (λ h. IsOver heap trial (shape_of heap h)) (sym j)
     (subst (λ t. IsOver heap t (shape_of heap held)) (some_is o.trial trial (sym o.has ∙ ap (slice_get facts.trials) (sym i) ∙ e)) o.over)
 
-row_kept : (header : EngineTable) (code : List PlainOp) (heap : Heap) (before : Facts) (rows : List Row) (n p : ℕ) (held : Held)
+row_kept : (header : EngineTable) (code : List PlainOp) (heap : Heap) (before : Facts) (rows : List ShapeRow) (n p : ℕ) (held : Held)
     → Keeps header code heap before → RowAdded before.rows rows n p held → IsIn heap held → Owed header code heap before n p held
     → Keeps header code heap (record before { rows = rows })
 row_kept header code heap before rows n p held k a i o = record {
@@ -322,7 +322,7 @@ one_longer : (before : Facts) (added : Trial) → length (before.trials ++ added
 one_longer before added = length-append before.trials (added ∷ [])
 
 pub keeps_trial : (header : EngineTable) (code : List PlainOp) (heap : Heap) (before after : Facts) (added : Trial) → Keeps header code heap before
-    → TrialAdded before after added → TrialIn heap added → (added.entry ≡ Start → (added.taken ≡ 0) × (added.under ≡ 0)) → Begins header code heap added
+    → TrialAdded before after added → TrialIn heap added → (added.entry ≡ Start → (added.taken ≡ 0) × (added.under ≡ 0)) → TrialBegins header code heap added
     → Keeps header code heap after
 keeps_trial header code heap before after added k a i s b = record {
   formed = record {

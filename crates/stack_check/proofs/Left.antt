@@ -1,6 +1,6 @@
 -- How much was found, and how much is left to be.
 use Rattle.std.proofs.Common.{arith, ◌≡◌, ◌≤◌, ◌<◌, ◌+◌, ◌-◌, ◌*◌, ◌^◌, ℕ, zero, suc, List, [], ◌∷◌, ◌++◌, length, None, Some, slice_get, slice_set, sym, subst, ◌∙◌, ap, refl}
-use Rattle.stack_lists.specs.declared.rows.Row.{Row}
+use Rattle.stack_lists.specs.declared.rows.ShapeRow.{ShapeRow}
 use Rattle.stack_check.specs.declared.facts.Trial.{Trial}
 use Rattle.stack_check.specs.declared.facts.Facts.{Facts}
 use Rattle.stack_check.specs.Facts.{FindsMore, found, given_open, left, open_of, seen_of, total}
@@ -55,7 +55,7 @@ unfolding left found
 more_set before after n old new h t r o s =
     let f = ap (total open_of) t in
     let k = ap (total seen_of) t in
-    let g : length after.rows ≡ length before.rows = ap (λ (rs : List Row). length rs) r in
+    let g : length after.rows ≡ length before.rows = ap (λ (rs : List ShapeRow). length rs) r in
     record {
       left = let e = total_set open_of before.trials n old new h in omega (arith, e, f, g, o);
       found = let e = total_set seen_of before.trials n old new h in omega (arith, e, k, g, s);

@@ -12,7 +12,7 @@ use Rattle.stack_rules.specs.Tables.{Callee, first_shape}
 use Rattle.stack_rules.specs.Rules.{IsSound, MeetsRules}
 use Rattle.stack_lists.specs.declared.held.Held.{Held}
 use Rattle.stack_lists.specs.declared.held.Heap.{Heap}
-use Rattle.stack_lists.specs.declared.rows.Row.{Row}
+use Rattle.stack_lists.specs.declared.rows.ShapeRow.{ShapeRow}
 use Rattle.stack_check.specs.declared.facts.Trial.{Trial}
 use Rattle.stack_check.specs.declared.facts.Facts.{Facts}
 use Rattle.stack_check.specs.declared.seen.Seen.{Seen}
@@ -20,7 +20,7 @@ use Rattle.stack_check.specs.declared.seen.Seen.TheVariants.{Quiet, Changed, Bad
 use Rattle.stack_lists.specs.Shared.{read}
 use Rattle.stack_lists.specs.Held.{HeapGrows, shape_of}
 use Rattle.stack_lists.specs.Rows.{RowsAreNumbered, row_in}
-use Rattle.stack_check.specs.Facts.{FindsMore, current, first_place, first_held, kept_callee, table_of, unseen_cells, unseen_under}
+use Rattle.stack_check.specs.Facts.{FindsMore, current, first_place, first_held, kept_callee, trial_table, unseen_cells, unseen_under}
 use Rattle.stack_check.specs.Inference.{IsWhole, IsOver, TrialIn, Keeps, Visited, WhereQuiet, Takes, Sound, Sees, RowSound, SeesRow, SeesAll}
 use Rattle.stack_lists.specs.Growth.{heap_same, heap_then, same_shape, read_empty}
 use Rattle.stack_check.proofs.Calling.{taken_is, under_is}
@@ -64,7 +64,7 @@ row_before header code a b facts n p k g s = record { by = λ held r. sound_befo
 
 -- the row of a number
 pub record NumberSound (header : EngineTable) (code : List PlainOp) (heap : Heap) (facts : Facts) (number : ℕ) : Type 0 where
-  pub by : (row : Row) → slice_get facts.rows number ≡ Some row → RowSound header code heap facts row.trial row.place
+  pub by : (row : ShapeRow) → slice_get facts.rows number ≡ Some row → RowSound header code heap facts row.trial row.place
 
 pub record AllSoFar (header : EngineTable) (code : List PlainOp) (first now : Heap) (before facts : Facts) (number : ℕ) : Type 0 where
   pub grows : HeapGrows first now
@@ -78,7 +78,7 @@ pub all_begin : (header : EngineTable) (code : List PlainOp) (heap : Heap) (fact
 all_begin header code heap facts k =
     record { grows = heap_same heap; same = refl; keeps = k; begun = k; sound = λ p l. absurd (omega (arith, l)) }
 
-row_counted : (header : EngineTable) (code : List PlainOp) (first now next : Heap) (before facts after : Facts) (number later : ℕ) (row : Row)
+row_counted : (header : EngineTable) (code : List PlainOp) (first now next : Heap) (before facts after : Facts) (number later : ℕ) (row : ShapeRow)
     → AllSoFar header code first now before facts number → slice_get facts.rows number ≡ Some row
     → SeesRow header code now next facts after row.trial row.place Quiet → later ≡ number + 1 → AllSoFar header code first next before after later
 row_counted header code first now next before facts after number later row s has l e =
@@ -91,14 +91,14 @@ row_counted header code first now next before facts after number later row s has
       begun = s.begun;
       sound = λ k lt. elim (cases_eq k number) [
         | inl i ↦ record {
-          by = λ r h. subst (λ (r : Row). RowSound header code first before r.trial r.place)
+          by = λ r h. subst (λ (r : ShapeRow). RowSound header code first before r.trial r.place)
               (some_is row r (sym has ∙ ap (λ (f : Facts). slice_get f.rows number) s.same ∙ ap (slice_get before.rows) (sym i) ∙ h)) here;
         }
         | inr ne ↦ s.sound k (omega (arith, lt, e, ne))
       ];
     }
 
-pub all_step : (header : EngineTable) (code : List PlainOp) (first now next : Heap) (before facts after : Facts) (number later : ℕ) (row : Row) (seen : Seen)
+pub all_step : (header : EngineTable) (code : List PlainOp) (first now next : Heap) (before facts after : Facts) (number later : ℕ) (row : ShapeRow) (seen : Seen)
     → AllSoFar header code first now before facts number → slice_get facts.rows number ≡ Some row
     → SeesRow header code now next facts after row.trial row.place seen → seen ≡ Quiet → later ≡ number + 1 → AllSoFar header code first next before after later
 all_step header code first now next before facts after number later row seen s has l q e =
@@ -121,12 +121,12 @@ pub all_bad : (header : EngineTable) (code : List PlainOp) (first now next : Hea
 all_bad header code first now next before facts after number t p seen s l e =
     record { grows = heap_then first now next s.grows l.grows; keeps = subst (λ s. Visited header code next after s) e l.keeps; quiet = tt; takes = tt }
 
-number_fits : (rows : List Row) (k : ℕ) (row : Row) → slice_get rows k ≡ Some row → k < length rows
+number_fits : (rows : List ShapeRow) (k : ℕ) (row : ShapeRow) → slice_get rows k ≡ Some row → k < length rows
 number_fits [] k row h = absurd cc
 number_fits (r ∷ rows) zero row h = omega arith
 number_fits (r ∷ rows) (suc k) row h = omega (arith, number_fits rows k row h)
 
-none_past : (rows : List Row) (k : ℕ) → None ≡ slice_get rows k → length rows ≤ k
+none_past : (rows : List ShapeRow) (k : ℕ) → None ≡ slice_get rows k → length rows ≤ k
 none_past [] k h = omega arith
 none_past (r ∷ rows) zero h = absurd cc
 none_past (r ∷ rows) (suc k) h = omega (arith, none_past rows k h)
@@ -144,20 +144,20 @@ all_sound law header code heap facts end e s n p = record {
 }
 
 each_sound : (header : EngineTable) (code : List PlainOp) (heap : Heap) (facts : Facts) → Keeps header code heap facts → ((n p : ℕ) → RowSound header code heap facts n p)
-    → (entry : Entry) (place : ℕ) (shape : TopShape) → (table_of heap facts).at entry place ≡ Some shape
-    → IsSound header code (table_of heap facts) entry place shape
+    → (entry : Entry) (place : ℕ) (shape : TopShape) → (trial_table heap facts).at entry place ≡ Some shape
+    → IsSound header code (trial_table heap facts) entry place shape
 each_sound header code heap facts k s entry place shape h =
     let f = found_in heap facts entry place shape h in
     let t = k.formed.currents entry f.number f.counts in
     let o = k.over.rows f.number place f.held t.trial f.row t.has in
-    subst (λ shape. IsSound header code (table_of heap facts) entry place shape)
+    subst (λ shape. IsSound header code (trial_table heap facts) entry place shape)
     (some_is o.own shape (sym (at_of heap facts entry f.number place f.held t.trial k.formed f.counts t.has f.row o) ∙ h))
     (((s f.number place).by f.held f.row).by entry f.counts t.trial t.has o)
 
 -- an entry begins with its trial's first shape
 begins_at : (header : EngineTable) (code : List PlainOp) (heap : Heap) (facts : Facts) (entry : Entry) (n : ℕ) (trial : Trial) → Keeps header code heap facts
     → current facts entry ≡ Some n → slice_get facts.trials n ≡ Some trial → (o : IsOver heap trial (shape_of heap (first_held trial)))
-    → (table_of heap facts).at entry (first_place entry) ≡ Some o.own
+    → (trial_table heap facts).at entry (first_place entry) ≡ Some o.own
 begins_at header code heap facts entry n trial k c has o =
     at_of heap facts entry n (first_place entry) (first_held trial) trial k.formed c has
     (ap (λ e. row_in facts.rows n (first_place e)) (sym (entry_is facts n trial entry k.formed has c)) ∙ k.formed.firsts n trial has) o
@@ -185,7 +185,7 @@ callee_there heap facts (Some n) callee h = trial_there (slice_get facts.trials 
     trial_there (Some trial) e h = (n, trial, refl, e, some_is (kept_callee heap trial) callee h)
 
 meets : (header : EngineTable) (code : List PlainOp) (heap : Heap) (facts : Facts) → Keeps header code heap facts → ((n p : ℕ) → RowSound header code heap facts n p)
-    → MeetsRules header code (table_of heap facts)
+    → MeetsRules header code (trial_table heap facts)
 meets header code heap facts k s = record {
   start =
       let t = k.formed.currents Start 0 refl in
@@ -214,7 +214,7 @@ all_done law header code first now before facts number s e = record {
   takes = tt;
 }
 
-pub all_less : (header : EngineTable) (code : List PlainOp) (first now : Heap) (before facts : Facts) (number : ℕ) (row : Row)
+pub all_less : (header : EngineTable) (code : List PlainOp) (first now : Heap) (before facts : Facts) (number : ℕ) (row : ShapeRow)
     → AllSoFar header code first now before facts number → Some row ≡ slice_get facts.rows number → length before.rows - (number + 1) < length before.rows - number
 all_less header code first now before facts number row s h =
     let l = number_fits facts.rows number row (sym h) in

@@ -20,7 +20,7 @@ use Rattle.stack_check.specs.declared.facts.Facts.{Facts}
 use Rattle.stack_check.specs.declared.leads.Lead.{Lead}
 use Rattle.stack_lists.specs.Held.{HeapGrows, IsIn, shape_of}
 use Rattle.stack_lists.specs.Rows.{row_in}
-use Rattle.stack_check.specs.Facts.{table_of, unseen_cells, unseen_under}
+use Rattle.stack_check.specs.Facts.{trial_table, unseen_cells, unseen_under}
 use Rattle.stack_check.specs.Inference.{RowFits, Keeps, Owed, IsLed, AllLed, RowsKept, IsOver, IsStep, IsThere, LooksOwed, Within, Sound, AsksFurtherOf, leads_of}
 use Rattle.stack_lists.specs.Growth.{still_shape}
 use Rattle.stack_check.proofs.Keeping.{over_still}
@@ -241,10 +241,10 @@ step_sound law deep header code a b facts n p held op after lead k r g stands on
       record {
         op = op;
         stands = stands;
-        obeys = obeys_of header (table_of a facts) entry p op over.own one (record {
+        obeys = obeys_of header (trial_table a facts) entry p op over.own one (record {
           after = o.next;
           has_rule = o.has_rule;
-          leads = leads_from (table_of a facts) entry p op o.next (λ t l.
+          leads = leads_from (trial_table a facts) entry p op o.next (λ t l.
               led_at header code a b facts entry n t (shape_of b after) o.next trial k g c h (led.by t (subst (λ x. IsLed x t) (sym e) l)) o.is);
           further = further trial h over o.next o.has_rule;
         });

@@ -29,8 +29,8 @@ use Rattle.machine_rules.specs.Act.{next_place}
 use Rattle.stack_lists.specs.Shared.{read, Grows}
 use Rattle.stack_lists.specs.Held.{AllAtMost, HeapGrows, Holds, IsIn, shape_of}
 use Rattle.stack_lists.specs.Rows.{row_in}
-use Rattle.stack_check.specs.Facts.{FindsMore, current, number_in, table_of, first_held, callee_of}
-use Rattle.stack_check.specs.Inference.{IsWhole, TrialIn, Takes, Beyond, RowIs, Keeps, Visited, WhereQuiet, Owed, Begins, Sound, Sees, SeesStep, Resumes, IsStored, Stores, IsPlain, IsCall, after_change, kind_of}
+use Rattle.stack_check.specs.Facts.{FindsMore, current, number_in, trial_table, first_held, callee_of}
+use Rattle.stack_check.specs.Inference.{IsWhole, TrialIn, Takes, Beyond, RowIs, Keeps, Visited, WhereQuiet, Owed, TrialBegins, Sound, Sees, SeesStep, Resumes, IsStored, Stores, IsPlain, IsCall, after_change, kind_of}
 use Rattle.stack_lists.specs.Growth.{heap_then, heap_same, same_shape, read_empty, grows_then, grows_none}
 use Rattle.stack_check.proofs.Windows.{deeper_none}
 use Rattle.stack_check.proofs.Tables.{led_at, whole_over}
@@ -85,7 +85,7 @@ first_is heap held site z = same_shape _ _ _ _ _ _ _ _ refl refl (ap (λ n. map 
 
 pub stored_begins : (header : EngineTable) (code : List PlainOp) (heap : Heap) (site : ℕ) (held : Held) → Resumes header code site (shape_of heap held)
     → (held.saved ≡ 0) × (held.pending ≡ 0)
-    → Begins header code heap (record { entry = Stored site; taken = held.cells; under = held.under; given = None; unseen = record { cells = 0; under = 0 }; at_first = record { cells = 0; under = 0 } })
+    → TrialBegins header code heap (record { entry = Stored site; taken = held.cells; under = held.under; given = None; unseen = record { cells = 0; under = 0 }; at_first = record { cells = 0; under = 0 } })
 stored_begins header code heap site held r z = record {
   by = λ table meets. record {
     x = [];
@@ -195,7 +195,7 @@ further_stored law header op shape own after x y types table site s is has e = a
 
 -- the shape with which it resumes is the table's
 resumes_at : (header : EngineTable) (code : List PlainOp) (a b : Heap) (facts : Facts) (site n : ℕ) (shape : TopShape) → Keeps header code a facts → HeapGrows a b
-    → current facts (Stored site) ≡ Some n → RowIs b facts n (resume_place site) shape → (table_of a facts).at (Stored site) (resume_place site) ≡ Some shape
+    → current facts (Stored site) ≡ Some n → RowIs b facts n (resume_place site) shape → (trial_table a facts).at (Stored site) (resume_place site) ≡ Some shape
 resumes_at header code a b facts site n shape k g c r =
     let t = k.formed.currents (Stored site) n c in
     let w = whole_over a t.trial shape (subst (λ e. IsWhole e t.trial.unseen) t.of (k.formed.whole n t.trial t.has)) in
@@ -216,7 +216,7 @@ store_quiet law header code a b c facts mid facts' n p held op types seen k s fi
     quiet Quiet q =
         let i : IsStored c facts p (stored_shape types) = subst (λ f. IsStored c f p (stored_shape types)) first.quiet.0 q.1 in (
           q.0 ∙ first.quiet.0,
-          first.quiet.1 (λ trial h over after has. further_stored law header op (shape_of a held) over.own after _ _ types (table_of a facts) p s over.is has
+          first.quiet.1 (λ trial h over after has. further_stored law header op (shape_of a held) over.own after _ _ types (trial_table a facts) p s over.is has
               (resumes_at header code a c facts p i.number (stored_shape types) k (heap_then a b c first.grows g) i.counts i.row)),
         )
     quiet Changed q = tt

@@ -18,7 +18,7 @@ use Rattle.stack_check.specs.declared.facts.Facts.{Facts}
 use Rattle.stack_lists.specs.Shared.{read}
 use Rattle.stack_lists.specs.Held.{HeapGrows, shape_of}
 use Rattle.stack_lists.specs.Rows.{row_in}
-use Rattle.stack_check.specs.Facts.{current, lowest, unseen_cells, unseen_under, without, cut, cut_for, kept_callee, callee_at, shape_at, table_of}
+use Rattle.stack_check.specs.Facts.{current, lowest, unseen_cells, unseen_under, without, cut, cut_for, kept_callee, callee_at, shape_at, trial_table}
 use Rattle.stack_check.specs.Inference.{Formed, TrialIn, IsWhole, IsOver, Keeps, RowIs, Sound}
 use Rattle.stack_lists.specs.Growth.{still_shape}
 use Rattle.stack_check.proofs.Keeping.{cells_still, under_still, over_still}
@@ -91,7 +91,7 @@ at_entry heap facts (Stored site) n p held trial w c has r o =
 
 pub at_of : (heap : Heap) (facts : Facts) (entry : Entry) (n p : ℕ) (held : Held) (trial : Trial) → Formed facts → current facts entry ≡ Some n
     → slice_get facts.trials n ≡ Some trial → row_in facts.rows n p ≡ Some held → (o : IsOver heap trial (shape_of heap held))
-    → (table_of heap facts).at entry p ≡ Some o.own
+    → (trial_table heap facts).at entry p ≡ Some o.own
 at_of heap facts entry n p held trial formed c has r o =
     at_entry heap facts entry n p held trial
     (subst (λ e. IsWhole e trial.unseen) (entry_is facts n trial entry formed has c) (formed.whole n trial has)) c has r o
@@ -130,7 +130,7 @@ found_cut heap facts entry p shape (Some n) e h = trial (slice_get facts.trials 
     trial None h = none_some (Found heap facts entry p shape) shape h
     trial (Some t) h = row t (row_in facts.rows n p) refl h
 
-pub found_in : (heap : Heap) (facts : Facts) (entry : Entry) (p : ℕ) (shape : TopShape) → (table_of heap facts).at entry p ≡ Some shape → Found heap facts entry p shape
+pub found_in : (heap : Heap) (facts : Facts) (entry : Entry) (p : ℕ) (shape : TopShape) → (trial_table heap facts).at entry p ≡ Some shape → Found heap facts entry p shape
 found_in heap facts Start p shape h = found_number heap facts Start p shape (current facts Start) refl h
 found_in heap facts (Called target) p shape h = found_cut heap facts (Called target) p shape (current facts (Called target)) refl h
 found_in heap facts (Stored site) p shape h = found_number heap facts (Stored site) p shape (current facts (Stored site)) refl h
@@ -218,7 +218,7 @@ called_same header code a b facts k g = fun_ext (λ target.
     callee_same a b (option_and_then (slice_get facts.trials) (current facts (Called target)))
     (λ trial e. let t = trial_has facts (current facts (Called target)) trial e in kept_same a b trial g (k.inside.trials t.0 trial t.1)))
 
-pub table_same : (header : EngineTable) (code : List PlainOp) (a b : Heap) (facts : Facts) → Keeps header code a facts → HeapGrows a b → table_of b facts ≡ table_of a facts
+pub table_same : (header : EngineTable) (code : List PlainOp) (a b : Heap) (facts : Facts) → Keeps header code a facts → HeapGrows a b → trial_table b facts ≡ trial_table a facts
 table_same header code a b facts k g =
     ap (λ (at : Entry → ℕ → Option TopShape). let t : ShapeTable = record { at = at; called = callee_at b facts } in t) (at_same header code a b facts k g)
     ∙ ap (λ (called : ℕ → Option Callee). let t : ShapeTable = record { at = shape_at a facts; called = called } in t) (called_same header code a b facts k g)
@@ -235,7 +235,7 @@ sound_before header code a b facts n p held k g r s = record {
 -- a shape that was found in a larger heap is one of the table before
 pub led_at : (header : EngineTable) (code : List PlainOp) (a b : Heap) (facts : Facts) (entry : Entry) (n p : ℕ) (shape own : TopShape) (trial : Trial)
     → Keeps header code a facts → HeapGrows a b → current facts entry ≡ Some n → slice_get facts.trials n ≡ Some trial → RowIs b facts n p shape
-    → shape ≡ deeper (unseen_cells a trial) (unseen_under a trial) own → (table_of a facts).at entry p ≡ Some own
+    → shape ≡ deeper (unseen_cells a trial) (unseen_under a trial) own → (trial_table a facts).at entry p ≡ Some own
 led_at header code a b facts entry n p shape own trial k g c has r e =
     at_of a facts entry n p r.held trial k.formed c has r.row
     (record { own = own; is = sym (still_shape a b r.held g (k.inside.rows n p r.held r.row)) ∙ r.is ∙ e })

@@ -19,7 +19,7 @@ use Rattle.stack_check.specs.declared.seen.Seen.TheVariants.{Quiet, Changed, Bad
 use Rattle.stack_check.specs.declared.leads.Lead.{Lead}
 use Rattle.stack_lists.specs.Held.{AfterStep, shape_of}
 use Rattle.stack_lists.specs.Rows.{row_in}
-use Rattle.stack_check.specs.Facts.{FindsMore, table_of}
+use Rattle.stack_check.specs.Facts.{FindsMore, trial_table}
 use Rattle.stack_check.specs.Inference.{AllLed, Keeps, Visited, WhereQuiet, IsStep, IsThere, Within, AsksFurtherOf, Takes, Sound, Sees, SeesStep, RowsKept, IsPlain, leads_of}
 use Rattle.stack_lists.specs.Growth.{still_shape}
 use Rattle.stack_check.proofs.Keeping.{keeps_grows}
@@ -80,7 +80,7 @@ plain_sees header code a b facts facts' n p held op seen plain s = record { grow
   where
     quiet : (seen : Seen) → WhereQuiet seen ((facts' ≡ facts) × (AsksFurtherOf header a facts n p op held → Sound header code a facts n p held))
         → WhereQuiet seen ((facts' ≡ facts) × Sound header code a facts n p held)
-    quiet Quiet q = (q.0, q.1 (λ trial h over after r. further_plain (table_of a facts) p op over.own plain))
+    quiet Quiet q = (q.0, q.1 (λ trial h over after r. further_plain (trial_table a facts) p op over.own plain))
     quiet Changed q = tt
     quiet Bad q = tt
 

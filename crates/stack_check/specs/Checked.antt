@@ -14,7 +14,7 @@ use Rattle.stack_lists.specs.declared.held.Heap.{Heap}
 use Rattle.stack_check.specs.declared.facts.Trial.{Trial}
 use Rattle.stack_check.specs.declared.facts.Facts.{Facts}
 use Rattle.stack_lists.specs.Budget.{most}
-use Rattle.stack_check.specs.Facts.{given_found, table_of, total}
+use Rattle.stack_check.specs.Facts.{given_found, trial_table, total}
 use Rattle.stack_check.specs.Inference.{window}
 
 -- the code, and what gives its table of shapes
@@ -27,7 +27,7 @@ pub record CheckedCode : Type 0 where
 
 -- the table that checked code keeps
 unfoldable pub kept_table : CheckedCode → ShapeTable
-kept_table c = table_of c.heap c.facts
+kept_table c = trial_table c.heap c.facts
 
 -- ---- its budget, and its turns
 

@@ -102,8 +102,8 @@ abbrev pub callee_at : Heap → Facts → ℕ → Option Callee
 callee_at heap facts target = option_map (kept_callee heap) (option_and_then (slice_get facts.trials) (current facts (Called target)))
 
 -- the table of the trials, each without what it didn't look at
-abbrev pub table_of : Heap → Facts → ShapeTable
-table_of heap facts = record { at = shape_at heap facts; called = callee_at heap facts }
+abbrev pub trial_table : Heap → Facts → ShapeTable
+trial_table heap facts = record { at = shape_at heap facts; called = callee_at heap facts }
 
 -- ---- how much was found, and how much may still be
 

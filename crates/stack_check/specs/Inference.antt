@@ -30,7 +30,7 @@ use Rattle.stack_lists.specs.Shared.{read}
 use Rattle.stack_lists.specs.Held.{HeapGrows, IsIn, shape_of}
 use Rattle.stack_lists.specs.Rows.{RowAdded, row_in}
 use Rattle.stack_lists.specs.Worklist.{CallersAdded, Worklist, waiting}
-use Rattle.stack_check.specs.Facts.{FindsMore, current, first_place, first_held, callee_of, table_of, unseen_cells, unseen_under}
+use Rattle.stack_check.specs.Facts.{FindsMore, current, first_place, first_held, callee_of, trial_table, unseen_cells, unseen_under}
 
 -- ---- the facts hang together
 
@@ -202,7 +202,7 @@ pub record FirstFits (table : ShapeTable) (heap : Heap) (trial : Trial) : Type 0
   pub cells : length x ≤ trial.unseen.cells
   pub under : length y ≤ trial.unseen.under
 
-pub record Begins (header : EngineTable) (code : List PlainOp) (heap : Heap) (trial : Trial) : Type 0 where
+pub record TrialBegins (header : EngineTable) (code : List PlainOp) (heap : Heap) (trial : Trial) : Type 0 where
   pub by : (table : ShapeTable) → MeetsRules header code table → FirstFits table heap trial
   pub over : IsOver heap trial (shape_of heap (first_held trial))
   pub whole : IsWhole trial.entry trial.unseen
@@ -250,7 +250,7 @@ pub record IsStep (header : EngineTable) (code : List PlainOp) (heap : Heap) (fa
 -- looked at.
 pub record Sound (header : EngineTable) (code : List PlainOp) (heap : Heap) (facts : Facts) (number place : ℕ) (held : Held) : Type 0 where
   pub by : (entry : Entry) → current facts entry ≡ Some number → (trial : Trial) → slice_get facts.trials number ≡ Some trial
-      → (over : IsOver heap trial (shape_of heap held)) → IsSound header code (table_of heap facts) entry place over.own
+      → (over : IsOver heap trial (shape_of heap held)) → IsSound header code (trial_table heap facts) entry place over.own
 
 -- What a visit of a place leaves.
 pub record Sees (header : EngineTable) (code : List PlainOp) (heap heap' : Heap) (facts facts' : Facts) (number place : ℕ) (held : Held) (seen : Seen) : Type 0 where
@@ -359,7 +359,7 @@ IsPlain op = Unit {0}
 abbrev pub AsksFurtherOf : EngineTable → Heap → Facts → ℕ → ℕ → PlainOp → Held → Type 0
 AsksFurtherOf header heap facts number place op held = (trial : Trial) → slice_get facts.trials number ≡ Some trial
     → (over : IsOver heap trial (shape_of heap held)) → (after : TopShape) → rule header op over.own ≡ Some after
-    → AsksFurther (table_of heap facts) place op over.own
+    → AsksFurther (trial_table heap facts) place op over.own
 
 -- What the visit of an instruction with a rule of one shape leaves, but for what it stores.
 pub record SeesStep (header : EngineTable) (code : List PlainOp) (heap heap' : Heap) (facts facts' : Facts) (number place : ℕ) (held : Held) (op : PlainOp) (seen : Seen) : Type 0 where
@@ -416,7 +416,7 @@ pub record SeesRow (header : EngineTable) (code : List PlainOp) (heap heap' : He
 pub record SeesAll (header : EngineTable) (code : List PlainOp) (heap heap' : Heap) (facts facts' : Facts) (seen : Seen) : Type 0 where
   pub grows : HeapGrows heap heap'
   pub keeps : Visited header code heap' facts' seen
-  pub quiet : WhereQuiet seen ((facts' ≡ facts) × MeetsRules header code (table_of heap facts))
+  pub quiet : WhereQuiet seen ((facts' ≡ facts) × MeetsRules header code (trial_table heap facts))
   pub takes : Takes facts facts' seen
 
 -- what is left where all that was handed in was looked at
@@ -429,10 +429,10 @@ pub record SeesDrained (header : EngineTable) (code : List PlainOp) (heap heap' 
 -- what one turn of the inference leaves
 pub record SeesTurn (header : EngineTable) (code : List PlainOp) (heap : Heap) (before facts : Facts) (seen : Seen) : Type 0 where
   pub keeps : Visited header code heap facts seen
-  pub quiet : WhereQuiet seen ((facts ≡ before) × MeetsRules header code (table_of heap facts))
+  pub quiet : WhereQuiet seen ((facts ≡ before) × MeetsRules header code (trial_table heap facts))
   pub takes : Takes before facts seen
 
 -- A table was found, and compares with every other.
 pub record IsFound (header : EngineTable) (code : List PlainOp) (heap : Heap) (facts : Facts) : Type 0 where
   pub keeps : Keeps header code heap facts
-  pub meets : MeetsRules header code (table_of heap facts)
+  pub meets : MeetsRules header code (trial_table heap facts)

@@ -1,7 +1,7 @@
 ghost use Rattle.std.specs.Prelude.{◌≡◌, ◌≢◌, ◌<◌, ◌≤◌, ◌^◌, Some, IfOk, OnOk, length, slice_get};
 ghost use Rattle.stack_shape.specs.declared.shape.Entry.TheVariants.{Start};
 ghost use Rattle.stack_check.specs.Facts.{FindsMore, first_place, first_held};
-ghost use Rattle.stack_check.specs.Inference.{Begins, Formed, GivenOwed, Keeps, SeesMore};
+ghost use Rattle.stack_check.specs.Inference.{TrialBegins, Formed, GivenOwed, Keeps, SeesMore};
 ghost use Rattle.stack_check.specs.Inference.{TrialAdded, TrialIn, UnseenOwed};
 ghost use Rattle.stack_check.specs.Inference.{CurrentSet};
 
@@ -111,7 +111,7 @@ pub fn begin(
     requires keeps { Keeps table.now code.now heap.now facts.old }
     requires entry { trial.entry ≢ Start }
     requires place { first_place trial.entry < 2 ^ 32 }
-    requires begins { Begins table.now code.now heap.now trial }
+    requires begins { TrialBegins table.now code.now heap.now trial }
     requires inside { TrialIn heap.now trial }
     ensures keeps { IfOk result (λ _. Keeps table.now code.now heap.now facts.new) }
     ensures takes { IfOk result (λ _. FindsMore facts.old facts.new) }

@@ -1,7 +1,7 @@
 ghost use Rattle.std.specs.Prelude.{◌≡◌, ◌↔◌, [], IsTrue, MatchOption, reverse};
 ghost use Rattle.stack_lists.specs.Shared.{read};
 ghost use Rattle.stack_lists.specs.Held.{shape_of};
-ghost use Rattle.stack_check.specs.Facts.{table_of};
+ghost use Rattle.stack_check.specs.Facts.{trial_table};
 ghost use Rattle.stack_check.specs.Fitting.{BeginsWith, IsFrame, IsResumedAt, IsValueOf, Resumes};
 ghost use Rattle.stack_check.specs.Fitting.{BeginsOtherwise, stored_at};
 ghost use Rattle.stack_rules.specs.Fits.{Fits};
@@ -110,7 +110,7 @@ fn resumed_at(facts: &Facts, place: u32) -> Option<Held>
 /// Whether a captured state fits the table that was found.
 #[tactic(auto, using(crate::proofs::Fitting::fitting))]
 pub fn fits(heap: &Heap, facts: &Facts, saved: &Saved) -> bool
-    ensures { IsTrue result ↔ Fits (table_of heap.now facts.now) saved.now }
+    ensures { IsTrue result ↔ Fits (trial_table heap.now facts.now) saved.now }
 {
     match resumed_at(facts, saved.place) {
         None => false,

@@ -9,7 +9,7 @@ use Rattle.stack_shape.specs.declared.store.StoredTypes.{StoredTypes}
 use Rattle.nwq_value.specs.declared.value.Ty.{Ty}
 use Rattle.stack_shape.specs.Stored.{TopShape, stored_types}
 use Rattle.nwq_value.specs.declared.engine.Routine.{Routine}
-use Rattle.stack_shape.specs.Rule.{affected, called, based, restored, rule, stored}
+use Rattle.stack_shape.specs.Rule.{affected, called_shape, based, restored, rule, stored}
 use Rattle.nwq_value.specs.Engine.{EngineTable}
 use Rattle.ncs_code.specs.Plain.{PlainOp}
 use Rattle.ncs_code.specs.Plain as ops
@@ -168,8 +168,8 @@ pub ruleset storing = (store_none, store_some)
 
 -- ---- ACTION
 
-pub called_none : (a : Heap) (o : Option Routine) (count : ℕ) (s : TopShape) → o ≡ None → AfterStep a a None (called o count s)
-called_none a o count s e = (heap_same a, ap (λ o. called o count s) e)
+pub called_none : (a : Heap) (o : Option Routine) (count : ℕ) (s : TopShape) → o ≡ None → AfterStep a a None (called_shape o count s)
+called_none a o count s e = (heap_same a, ap (λ o. called_shape o count s) e)
 
 pub ruleset calling = (called_none)
 

@@ -9,7 +9,7 @@ use Rattle.std.proofs.lemmas.Bool.{cases_eq, eq-eqb, ne_eqb}
 use Rattle.std.proofs.lemmas.Bool.Decides.{nat_tests}
 use Rattle.std.proofs.lemmas.List.{length-append}
 use Rattle.stack_lists.specs.declared.held.Held.{Held}
-use Rattle.stack_lists.specs.declared.rows.Row.{Row}
+use Rattle.stack_lists.specs.declared.rows.ShapeRow.{ShapeRow}
 use Rattle.nwq_value.specs.declared.memory.NoMemory.{NoMemory}
 use Rattle.stack_lists.specs.Rows.{AreIndexed, IsIndexed, IsKept, PutAt, RowAdded, SameNumbers, StillKept, held_in, row_in, row_key}
 
@@ -26,17 +26,17 @@ none_or (Some a) h = absurd (h a refl)
 -- ---- a row's key
 
 -- the row is of this trial and place
-record HasKey (row : Row) (t p : ℕ) : Type 0 where
+record HasKey (row : ShapeRow) (t p : ℕ) : Type 0 where
   trial : row.trial ≡ t
   place : row.place ≡ p
 
-abbrev test : Row → ℕ → ℕ → Bool
+abbrev test : ShapeRow → ℕ → ℕ → Bool
 test row trial place = (row.trial == trial) && (row.place == place)
 
-test_same : (row : Row) (t p : ℕ) → HasKey row t p → test row t p ≡ true
+test_same : (row : ShapeRow) (t p : ℕ) → HasKey row t p → test row t p ≡ true
 test_same row t p k = ap (λ b. b && (row.place == p)) (eq-eqb row.trial t k.trial) ∙ eq-eqb row.place p k.place
 
-test_cases : (row : Row) (t p : ℕ) → HasKey row t p ⊎ (test row t p ≡ false)
+test_cases : (row : ShapeRow) (t p : ℕ) → HasKey row t p ⊎ (test row t p ≡ false)
 test_cases row t p = elim (cases_eq row.trial t) [
   | inl i ↦ elim (cases_eq row.place p) [
     | inl j ↦ inl (record { trial = i; place = j })
@@ -49,11 +49,11 @@ test_cases row t p = elim (cases_eq row.trial t) [
     and_false true = refl
     and_false false = refl
 
-first_is : (row : Row) (rows : List Row) (t p : ℕ) → HasKey row t p → row_in (row ∷ rows) t p ≡ Some row.held
+first_is : (row : ShapeRow) (rows : List ShapeRow) (t p : ℕ) → HasKey row t p → row_in (row ∷ rows) t p ≡ Some row.held
 unfolding row_in
 first_is row rows t p k = ap (λ b. if b then Some row.held else row_in rows t p) (test_same row t p k)
 
-later_is : (row : Row) (rows : List Row) (t p : ℕ) → test row t p ≡ false → row_in (row ∷ rows) t p ≡ row_in rows t p
+later_is : (row : ShapeRow) (rows : List ShapeRow) (t p : ℕ) → test row t p ≡ false → row_in (row ∷ rows) t p ≡ row_in rows t p
 unfolding row_in
 later_is row rows t p e = ap (λ b. if b then Some row.held else row_in rows t p) e
 
@@ -63,14 +63,14 @@ none_is t p = refl
 
 -- ---- the row that is found
 
-record Stands (rows : List Row) (t p : ℕ) (h : Held) : Type 0 where
+record Stands (rows : List ShapeRow) (t p : ℕ) (h : Held) : Type 0 where
   number : ℕ
-  row : Row
+  row : ShapeRow
   has : slice_get rows number ≡ Some row
   key : HasKey row t p
   held : row.held ≡ h
 
-found_at : (rows : List Row) (t p : ℕ) (h : Held) → row_in rows t p ≡ Some h → Stands rows t p h
+found_at : (rows : List ShapeRow) (t p : ℕ) (h : Held) → row_in rows t p ≡ Some h → Stands rows t p h
 found_at [] t p h e = absurd (none_some h (sym (none_is t p) ∙ e))
 found_at (row ∷ rows) t p h e = elim (test_cases row t p) [
   | inl k ↦ record { number = 0; row = row; has = refl; key = k; held = some_is row.held h (sym (first_is row rows t p k) ∙ e) }
@@ -78,27 +78,27 @@ found_at (row ∷ rows) t p h e = elim (test_cases row t p) [
       record { number = suc s.number; row = s.row; has = s.has; key = s.key; held = s.held }
 ]
 
-pub row_number : (rows : List Row) (t p : ℕ) (h : Held) → row_in rows t p ≡ Some h
-    → (number : ℕ) × (row : Row) × (slice_get rows number ≡ Some row) × (row.trial ≡ t) × (row.place ≡ p)
+pub row_number : (rows : List ShapeRow) (t p : ℕ) (h : Held) → row_in rows t p ≡ Some h
+    → (number : ℕ) × (row : ShapeRow) × (slice_get rows number ≡ Some row) × (row.trial ≡ t) × (row.place ≡ p)
 row_number rows t p h e = let s = found_at rows t p h e in (s.number, s.row, s.has, s.key.trial, s.key.place)
 
 -- ---- by its key
 
-held_row : (o : Option Row) (t p : ℕ) (h : Held) → held_in o t p ≡ Some h → (row : Row) × (o ≡ Some row) × HasKey row t p × (row.held ≡ h)
+held_row : (o : Option ShapeRow) (t p : ℕ) (h : Held) → held_in o t p ≡ Some h → (row : ShapeRow) × (o ≡ Some row) × HasKey row t p × (row.held ≡ h)
 held_row None t p h e = absurd (none_some h e)
 held_row (Some row) t p h e = elim (test_cases row t p) [
   | inl k ↦ (row, refl, k, some_is row.held h (sym (ap (λ b. if b then Some row.held else None) (test_same row t p k)) ∙ e))
   | inr ne ↦ absurd (none_some h (sym (ap (λ b. if b then Some row.held else None) ne) ∙ e))
 ]
 
-held_other : (o : Option Row) (row : Row) (t p : ℕ) → o ≡ Some row → HasKey row t p → None ≡ held_in o t p → ⊥
+held_other : (o : Option ShapeRow) (row : ShapeRow) (t p : ℕ) → o ≡ Some row → HasKey row t p → None ≡ held_in o t p → ⊥
 held_other o row t p e k n =
     none_some row.held (n ∙ ap (λ o. held_in o t p) e ∙ ap (λ b. if b then Some row.held else None) (test_same row t p k))
 
-pub held_is : (row : Row) (t p : ℕ) → row.trial ≡ t → row.place ≡ p → Some row.held ≡ held_in (Some row) t p
+pub held_is : (row : ShapeRow) (t p : ℕ) → row.trial ≡ t → row.place ≡ p → Some row.held ≡ held_in (Some row) t p
 held_is row t p i j = sym (ap (λ b. if b then Some row.held else None) (test_same row t p (record { trial = i; place = j })))
 
-pub held_isnt : (row : Row) (t p : ℕ) → ((row.trial ≡ t) × (row.place ≡ p) → ⊥) → None ≡ held_in (Some row) t p
+pub held_isnt : (row : ShapeRow) (t p : ℕ) → ((row.trial ≡ t) × (row.place ≡ p) → ⊥) → None ≡ held_in (Some row) t p
 held_isnt row t p ne = elim (test_cases row t p) [
   | inl k ↦ absurd (ne (k.trial, k.place))
   | inr e ↦ sym (ap (λ b. if b then Some row.held else None) e)
@@ -106,26 +106,26 @@ held_isnt row t p ne = elim (test_cases row t p) [
 
 pub ruleset holding = (held_is, held_isnt)
 
-here_some : (rows : List Row) (number : ℕ) (row : Row) (t p : ℕ) → slice_get rows number ≡ Some row → HasKey row t p → (h : Held) × (row_in rows t p ≡ Some h)
+here_some : (rows : List ShapeRow) (number : ℕ) (row : ShapeRow) (t p : ℕ) → slice_get rows number ≡ Some row → HasKey row t p → (h : Held) × (row_in rows t p ≡ Some h)
 here_some [] number row t p e k = absurd cc
 here_some (r ∷ rows) zero row t p e k =
-    (r.held, first_is r rows t p (subst (λ (r : Row). HasKey r t p) (sym (some_is r row e)) k))
+    (r.held, first_is r rows t p (subst (λ (r : ShapeRow). HasKey r t p) (sym (some_is r row e)) k))
 here_some (r ∷ rows) (suc number) row t p e k = elim (test_cases r t p) [
   | inl i ↦ (r.held, first_is r rows t p i)
   | inr ne ↦ let s = here_some rows number row t p e k in (s.0, later_is r rows t p ne ∙ s.1)
 ]
 
 -- a row of the trial and place is the one that is found
-find_row : (rows : List Row) (firsts : List ℕ) (index : BTreeMap ℕ ℕ) (number : ℕ) (row : Row) (t p : ℕ) → AreIndexed rows firsts index
+find_row : (rows : List ShapeRow) (firsts : List ℕ) (index : BTreeMap ℕ ℕ) (number : ℕ) (row : ShapeRow) (t p : ℕ) → AreIndexed rows firsts index
     → slice_get rows number ≡ Some row → HasKey row t p → Some row.held ≡ row_in rows t p
 find_row rows firsts index number row t p all e k =
     let s = here_some rows number row t p e k in
     let f = found_at rows t p s.0 s.1 in
     let m = all.one number f.number row f.row e f.has (k.trial ∙ sym f.key.trial) (k.place ∙ sym f.key.place) in
     let same = some_is row f.row (sym e ∙ ap (slice_get rows) m ∙ f.has) in
-    ap Some (ap (λ (r : Row). r.held) same ∙ f.held) ∙ sym s.1
+    ap Some (ap (λ (r : ShapeRow). r.held) same ∙ f.held) ∙ sym s.1
 
-pub find_held : (rows : List Row) (firsts : List ℕ) (index : BTreeMap ℕ ℕ) (number t p : ℕ) (h : Held) → AreIndexed rows firsts index
+pub find_held : (rows : List ShapeRow) (firsts : List ℕ) (index : BTreeMap ℕ ℕ) (number t p : ℕ) (h : Held) → AreIndexed rows firsts index
     → Some h ≡ held_in (slice_get rows number) t p → Some h ≡ row_in rows t p
 find_held rows firsts index number t p h all e =
     let r = held_row (slice_get rows number) t p h (sym e) in ap Some (sym r.3) ∙ find_row rows firsts index number r.0 t p all r.1 r.2
@@ -133,7 +133,7 @@ find_held rows firsts index number t p h all e =
 zero_suc : (n : ℕ) → 0 ≡ suc n → ⊥
 zero_suc n e = absurd (omega (arith, e))
 
-pub find_none : (rows : List Row) (firsts : List ℕ) (index : BTreeMap ℕ ℕ) (t p first : ℕ) → AreIndexed rows firsts index → first ≡ get_or firsts (p / 2) 0
+pub find_none : (rows : List ShapeRow) (firsts : List ℕ) (index : BTreeMap ℕ ℕ) (t p first : ℕ) → AreIndexed rows firsts index → first ≡ get_or firsts (p / 2) 0
     → first ≡ 0 → None ≡ row_in rows t p
 find_none rows firsts index t p first all e z = sym (none_or (row_in rows t p) (λ h r.
     let s = found_at rows t p h r in
@@ -144,7 +144,7 @@ find_none rows firsts index t p first all e z = sym (none_or (row_in rows t p) (
     ]))
 
 -- a row that isn't the first of its place is in the index
-later_row : (rows : List Row) (firsts : List ℕ) (index : BTreeMap ℕ ℕ) (t p first number : ℕ) (h : Held) → AreIndexed rows firsts index
+later_row : (rows : List ShapeRow) (firsts : List ℕ) (index : BTreeMap ℕ ℕ) (t p first number : ℕ) (h : Held) → AreIndexed rows firsts index
     → first ≡ get_or firsts (p / 2) 0 → number ≡ first - 1 → None ≡ held_in (slice_get rows number) t p → (e : row_in rows t p ≡ Some h)
     → get nat_cmp index (row_key t p) ≡ Some (found_at rows t p h e).number
 later_row rows firsts index t p first number h all f n none e =
@@ -155,16 +155,16 @@ later_row rows firsts index t p first number h all f n none e =
       | inr i ↦ ap (get nat_cmp index) (sym (same_key s.row t p s.key)) ∙ i.1
     ]
   where
-    same_key : (row : Row) (t p : ℕ) → HasKey row t p → row_key row.trial row.place ≡ row_key t p
+    same_key : (row : ShapeRow) (t p : ℕ) → HasKey row t p → row_key row.trial row.place ≡ row_key t p
     same_key row t p k = ap (λ t. row_key t row.place) k.trial ∙ ap (row_key t) k.place
 
-pub find_no_key : (rows : List Row) (firsts : List ℕ) (index : BTreeMap ℕ ℕ) (t p first number : ℕ) → AreIndexed rows firsts index
+pub find_no_key : (rows : List ShapeRow) (firsts : List ℕ) (index : BTreeMap ℕ ℕ) (t p first number : ℕ) → AreIndexed rows firsts index
     → first ≡ get_or firsts (p / 2) 0 → number ≡ first - 1 → None ≡ held_in (slice_get rows number) t p → None ≡ get nat_cmp index (row_key t p)
     → None ≡ row_in rows t p
 find_no_key rows firsts index t p first number all f n none k = sym (none_or (row_in rows t p) (λ h r.
     none_some (found_at rows t p h r).number (k ∙ later_row rows firsts index t p first number h all f n none r)))
 
-pub find_key : (rows : List Row) (firsts : List ℕ) (index : BTreeMap ℕ ℕ) (t p first number other : ℕ) (o : Option Held) → AreIndexed rows firsts index
+pub find_key : (rows : List ShapeRow) (firsts : List ℕ) (index : BTreeMap ℕ ℕ) (t p first number other : ℕ) (o : Option Held) → AreIndexed rows firsts index
     → first ≡ get_or firsts (p / 2) 0 → number ≡ first - 1 → None ≡ held_in (slice_get rows number) t p → Some other ≡ get nat_cmp index (row_key t p)
     → o ≡ held_in (slice_get rows other) t p → o ≡ row_in rows t p
 find_key rows firsts index t p first number other (Some h) all f n none k e = find_held rows firsts index other t p h all e
@@ -173,12 +173,12 @@ find_key rows firsts index t p first number other None all f n none k e = sym (n
     let at = some_is other s.number (k ∙ later_row rows firsts index t p first number h all f n none r) in
     held_other (slice_get rows other) s.row t p (ap (slice_get rows) at ∙ s.has) s.key e))
 
-number_inside : (rows : List Row) (number : ℕ) (row : Row) → slice_get rows number ≡ Some row → number < length rows
+number_inside : (rows : List ShapeRow) (number : ℕ) (row : ShapeRow) → slice_get rows number ≡ Some row → number < length rows
 number_inside [] number row h = absurd cc
 number_inside (r ∷ rows) zero row h = omega arith
 number_inside (r ∷ rows) (suc number) row h = omega (arith, number_inside rows number row h)
 
-pub number_few : (rows : List Row) (firsts : List ℕ) (index : BTreeMap ℕ ℕ) (number : ℕ) (row : Row) → AreIndexed rows firsts index
+pub number_few : (rows : List ShapeRow) (firsts : List ℕ) (index : BTreeMap ℕ ℕ) (number : ℕ) (row : ShapeRow) → AreIndexed rows firsts index
     → Some row ≡ slice_get rows number → number < 33554432
 number_few rows firsts index number row all h = let l = number_inside rows number row (sym h) in omega (arith, l, all.few)
 
@@ -188,7 +188,7 @@ pub ruleset finding = (find_held, find_none, find_no_key, find_key)
 
 -- ---- a row more
 
-row_end : (rows : List Row) (row : Row) (t p : ℕ) (h : Held) → row_in (rows ++ row ∷ []) t p ≡ Some h
+row_end : (rows : List ShapeRow) (row : ShapeRow) (t p : ℕ) (h : Held) → row_in (rows ++ row ∷ []) t p ≡ Some h
     → (row_in rows t p ≡ Some h) ⊎ (HasKey row t p × (h ≡ row.held))
 row_end [] row t p h e = elim (test_cases row t p) [
   | inl k ↦ inr (k, some_is h row.held (sym e ∙ first_is row [] t p k))
@@ -202,24 +202,24 @@ row_end (r ∷ rows) row t p h e = elim (test_cases r t p) [
   ]
 ]
 
-row_stays : (rows : List Row) (row : Row) (t p : ℕ) (h : Held) → row_in rows t p ≡ Some h → row_in (rows ++ row ∷ []) t p ≡ Some h
+row_stays : (rows : List ShapeRow) (row : ShapeRow) (t p : ℕ) (h : Held) → row_in rows t p ≡ Some h → row_in (rows ++ row ∷ []) t p ≡ Some h
 row_stays [] row t p h e = absurd (none_some h (sym (none_is t p) ∙ e))
 row_stays (r ∷ rows) row t p h e = elim (test_cases r t p) [
   | inl k ↦ first_is r (rows ++ row ∷ []) t p k ∙ sym (first_is r rows t p k) ∙ e
   | inr ne ↦ later_is r (rows ++ row ∷ []) t p ne ∙ row_stays rows row t p h (sym (later_is r rows t p ne) ∙ e)
 ]
 
-row_last : (rows : List Row) (row : Row) (t p : ℕ) → row_in rows t p ≡ None → HasKey row t p → row_in (rows ++ row ∷ []) t p ≡ Some row.held
+row_last : (rows : List ShapeRow) (row : ShapeRow) (t p : ℕ) → row_in rows t p ≡ None → HasKey row t p → row_in (rows ++ row ∷ []) t p ≡ Some row.held
 row_last [] row t p e k = first_is row [] t p k
 row_last (r ∷ rows) row t p e k = elim (test_cases r t p) [
   | inl i ↦ absurd (none_some r.held (sym e ∙ first_is r rows t p i))
   | inr ne ↦ later_is r (rows ++ row ∷ []) t p ne ∙ row_last rows row t p (sym (later_is r rows t p ne) ∙ e) k
 ]
 
-pub row_added : (before after : List Row) (trial place : ℕ) (held : Held) → after ≡ before ++ record { trial = trial; place = place; held = held } ∷ []
+pub row_added : (before after : List ShapeRow) (trial place : ℕ) (held : Held) → after ≡ before ++ record { trial = trial; place = place; held = held } ∷ []
     → row_in before trial place ≡ None → length before < 33554432 → RowAdded before after trial place held
 row_added before after trial place held a new room =
-    let row : Row = record { trial = trial; place = place; held = held } in subst (λ rows. RowAdded before rows trial place held) (sym a) (record {
+    let row : ShapeRow = record { trial = trial; place = place; held = held } in subst (λ rows. RowAdded before rows trial place held) (sym a) (record {
       here = row_last before row trial place new (record { trial = refl; place = refl });
       kept = λ t p h e. row_stays before row t p h e;
       only = λ t p h e. elim (row_end before row t p h e) [
@@ -299,7 +299,7 @@ key_still firsts index after t p number key (Err x) h e u f = record {
 pub ruleset noting = (kept_first, first_still, kept_key, key_still)
 
 -- whatever came of the change of the index, the rows that were there are found
-pub index_after : (rows : List Row) (firsts after : List ℕ) (index more : BTreeMap ℕ ℕ) (t p : ℕ) → AreIndexed rows firsts index → row_in rows t p ≡ None
+pub index_after : (rows : List ShapeRow) (firsts after : List ℕ) (index more : BTreeMap ℕ ℕ) (t p : ℕ) → AreIndexed rows firsts index → row_in rows t p ≡ None
     → StillKept firsts index after more t p → AreIndexed rows after more
 index_after rows firsts after index more t p all new still = record {
   by = λ n r e. let i = all.by n r e in record {
@@ -312,7 +312,7 @@ index_after rows firsts after index more t p all new still = record {
   few = all.few;
 }
 
-get_end : (xs : List Row) (x y : Row) (k : ℕ) → slice_get (xs ++ x ∷ []) k ≡ Some y → (slice_get xs k ≡ Some y) ⊎ ((k ≡ length xs) × (y ≡ x))
+get_end : (xs : List ShapeRow) (x y : ShapeRow) (k : ℕ) → slice_get (xs ++ x ∷ []) k ≡ Some y → (slice_get xs k ≡ Some y) ⊎ ((k ≡ length xs) × (y ≡ x))
 get_end [] x y zero h = inr (refl, some_is y x (sym h))
 get_end [] x y (suc k) h = absurd cc
 get_end (z ∷ xs) x y zero h = inl h
@@ -321,35 +321,35 @@ get_end (z ∷ xs) x y (suc k) h = elim (get_end xs x y k h) [
   | inr b ↦ inr (ap (λ n. suc n) b.0, b.1)
 ]
 
-new_key : (rows : List Row) (t p n : ℕ) (row new : Row) → row_in rows t p ≡ None → slice_get rows n ≡ Some row → new.trial ≡ t → new.place ≡ p
+new_key : (rows : List ShapeRow) (t p n : ℕ) (row new : ShapeRow) → row_in rows t p ≡ None → slice_get rows n ≡ Some row → new.trial ≡ t → new.place ≡ p
     → row.trial ≡ new.trial → row.place ≡ new.place → ⊥
 new_key rows t p n row new none e a b i j =
     let s = here_some rows n row t p e (record { trial = i ∙ a; place = j ∙ b }) in none_some s.0 (sym none ∙ s.1)
 
-pub index_added : (rows after : List Row) (firsts : List ℕ) (index : BTreeMap ℕ ℕ) (t p number : ℕ) (held : Held) → AreIndexed rows firsts index
+pub index_added : (rows after : List ShapeRow) (firsts : List ℕ) (index : BTreeMap ℕ ℕ) (t p number : ℕ) (held : Held) → AreIndexed rows firsts index
     → row_in rows t p ≡ None → t < 2 ^ 32 → p < 2 ^ 32 → number ≡ length rows → number < 33554432 → IsKept firsts index number t p
     → after ≡ rows ++ record { trial = t; place = p; held = held } ∷ [] → AreIndexed after firsts index
 index_added rows after firsts index t p number held all new h i n room kept a = subst (λ rows. AreIndexed rows firsts index) (sym a) (record {
   by = λ k r e. elim (get_end rows _ r k e) [
     | inl old ↦ all.by k r old
-    | inr is ↦ subst (λ (r : Row). IsIndexed firsts index k r) (sym is.1)
+    | inr is ↦ subst (λ (r : ShapeRow). IsIndexed firsts index k r) (sym is.1)
         (record { kept = subst (λ n. IsKept firsts index n t p) (n ∙ sym is.0) kept; trial = h; place = i })
   ];
   one = λ j k x y e f s q. elim (get_end rows _ x j e) [
     | inl old ↦ elim (get_end rows _ y k f) [
       | inl other ↦ all.one j k x y old other s q
-      | inr is ↦ absurd (new_key rows t p j x y new old (ap (λ (r : Row). r.trial) is.1) (ap (λ (r : Row). r.place) is.1) s q)
+      | inr is ↦ absurd (new_key rows t p j x y new old (ap (λ (r : ShapeRow). r.trial) is.1) (ap (λ (r : ShapeRow). r.place) is.1) s q)
     ]
     | inr is ↦ elim (get_end rows _ y k f) [
-      | inl other ↦ absurd (new_key rows t p k y x new other (ap (λ (r : Row). r.trial) is.1) (ap (λ (r : Row). r.place) is.1) (sym s) (sym q))
+      | inl other ↦ absurd (new_key rows t p k y x new other (ap (λ (r : ShapeRow). r.trial) is.1) (ap (λ (r : ShapeRow). r.place) is.1) (sym s) (sym q))
       | inr too ↦ is.0 ∙ sym too.0
     ]
   ];
-  few = let l = length-append rows ((let row : Row = record { trial = t; place = p; held = held } in row) ∷ []) in omega (arith, l, n, room);
+  few = let l = length-append rows ((let row : ShapeRow = record { trial = t; place = p; held = held } in row) ∷ []) in omega (arith, l, n, room);
 })
 
 -- the row is added, or there was no memory for it
-pub index_pushed : {E O : Type 0} (rows after : List Row) (firsts : List ℕ) (index : BTreeMap ℕ ℕ) (t p number : ℕ) (held : Held) (r : Result O E)
+pub index_pushed : {E O : Type 0} (rows after : List ShapeRow) (firsts : List ℕ) (index : BTreeMap ℕ ℕ) (t p number : ℕ) (held : Held) (r : Result O E)
     → AreIndexed rows firsts index → row_in rows t p ≡ None → t < 2 ^ 32 → p < 2 ^ 32 → number ≡ length rows → number < 33554432
     → IsKept firsts index number t p → OnOk r (after ≡ rows ++ record { trial = t; place = p; held = held } ∷ []) → OnErr r (after ≡ rows)
     → AreIndexed after firsts index
@@ -357,7 +357,7 @@ index_pushed rows after firsts index t p number held (Ok o) all new h i n room k
     index_added rows after firsts index t p number held all new h i n room kept a
 index_pushed rows after firsts index t p number held (Err x) all new h i n room kept a f = subst (λ rows. AreIndexed rows firsts index) (sym f) all
 
-pub added_ok : {E O : Type 0} (before rows after : List Row) (trial place : ℕ) (held : Held) (r : Result O E) → rows ≡ before → row_in before trial place ≡ None
+pub added_ok : {E O : Type 0} (before rows after : List ShapeRow) (trial place : ℕ) (held : Held) (r : Result O E) → rows ≡ before → row_in before trial place ≡ None
     → length rows < 33554432 → OnOk r (after ≡ rows ++ record { trial = trial; place = place; held = held } ∷ []) → OnOk r (RowAdded before after trial place held)
 added_ok before rows after trial place held (Ok o) v new room a =
     subst (λ b. RowAdded b after trial place held) v (row_added rows after trial place held a (ap (λ b. row_in b trial place) v ∙ new) room)

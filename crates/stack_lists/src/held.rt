@@ -1,7 +1,7 @@
 ghost use Rattle.std.specs.Prelude.{◌≡◌, ◌≤◌, ◌↔◌, ◌+◌, ◌∷◌, ◌++◌, length, map, slice_get, take};
 ghost use Rattle.std.specs.Prelude.{IfOk, IsTrue};
 ghost use Rattle.stack_shape.specs.Rule.{affected, based, called_with, restored, rule, stored};
-ghost use Rattle.stack_shape.specs.Rule.{IsOneStep, called};
+ghost use Rattle.stack_shape.specs.Rule.{IsOneStep, called_shape};
 ghost use Rattle.stack_shape.specs.StackEffects.{after_effect, stack_effect};
 ghost use Rattle.stack_shape.specs.declared.shape.Slot.TheVariants.{Of};
 ghost use Rattle.ncs_code.specs.Plain.{plain, RsAdd};
@@ -287,7 +287,7 @@ fn called(
 ) -> Result<Option<Held>, NoMemory>
     requires inside { IsIn heap.old held }
     ensures { IfOk result (λ after. AfterStep heap.old heap.new after
-        (called (slice_get table.now.routines routine) count (shape_of heap.old held))) }
+        (called_shape (slice_get table.now.routines routine) count (shape_of heap.old held))) }
 {
     match table.routine(routine) {
         None => Ok(None),

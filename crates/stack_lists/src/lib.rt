@@ -23,7 +23,7 @@ pub use held::{Heap, Held, same_shape, step, top, with_cells};
 pub use laws::rows_are_numbered;
 pub use lists::{Lists, Node};
 pub use places::Places;
-pub use rows::{Row, Rows};
+pub use rows::{Rows, ShapeRow};
 pub use slots::{put_types, same};
 pub use stacks::Stacks;
 pub use todo::{Spot, Todo};

@@ -12,7 +12,7 @@ use std::marker::Model;
 
 /// The shape at a place, of a trial.
 #[derive(Clone, Copy)]
-pub struct Row {
+pub struct ShapeRow {
     pub trial: u32,
     pub place: u32,
     pub held: Held,
@@ -21,7 +21,7 @@ pub struct Row {
 /// The rows, each of a trial and a place of its own. The first row of a place is found by the place
 /// alone, so code that control enters at few places needs no index.
 pub struct Rows {
-    rows: Items<Row>,
+    rows: Items<ShapeRow>,
     /// By half of the place, since an instruction takes two bytes at least: one more than the
     /// number of the first row there.
     firsts: Places,
@@ -31,10 +31,10 @@ pub struct Rows {
 
 impl Model for Rows {
     ghost use Rattle.std.specs.Prelude.{List};
-    ghost use Rattle.stack_lists.specs.declared.rows.Row.{Row};
+    ghost use Rattle.stack_lists.specs.declared.rows.ShapeRow.{ShapeRow};
     ghost use Rattle.stack_lists.specs.Rows.{AreIndexed};
 
-    ghost Value = { List Row };
+    ghost Value = { List ShapeRow };
 
     ghost view = { λ r. r.rows };
 
@@ -105,7 +105,7 @@ impl Rows {
 
     /// The row with a number.
     #[tactic(auto, using(crate::proofs::RowLemmas::numbering))]
-    pub fn get(&self, number: usize) -> Option<Row>
+    pub fn get(&self, number: usize) -> Option<ShapeRow>
         ensures row { result ≡ slice_get self.now number }
         ensures inside { IfSome result (λ _. number < 2 ^ 25) }
     {
@@ -165,6 +165,6 @@ impl Rows {
             place,
             number as u32,
         )?;
-        self.rows.push(Row { trial, place, held })
+        self.rows.push(ShapeRow { trial, place, held })
     }
 }

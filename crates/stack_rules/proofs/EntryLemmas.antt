@@ -11,7 +11,7 @@ use Rattle.stack_shape.specs.declared.shape.Slot.TheVariants.{Of, Base as BaseSl
 use Rattle.stack_shape.specs.declared.shape.Entry.TheVariants.{Stored}
 use Rattle.stack_shape.specs.Stored.{stored_shape}
 use Rattle.machine_rules.specs.Outlines.{Outline, Keeps, outline, outlines, slots}
-use Rattle.stack_rules.specs.Safe.{outline_slots, from_base, IsUnder, Carries}
+use Rattle.stack_rules.specs.Safe.{outline_slots, from_base, IsUnder, ShapeLiesOn}
 use Rattle.stack_rules.specs.Laws.{ContinuesSafely}
 use Rattle.stack_rules.proofs.StackLemmas.{slots_are}
 
@@ -31,7 +31,7 @@ one_above : (n m : ℕ) → m ≡ n → suc m - n ≡ suc zero
 one_above n m h = omega (arith, h)
 
 pub resumes : (saved : Saved) (globals locals : List Ty) → slots (reverse saved.globals) ≡ map Of globals → slots (reverse saved.locals) ≡ map Of locals
-    → Carries (stored_shape (record { globals = globals; locals = locals })) (outline_slots (outlines (resumed saved).cells)) (from_base (outlines (resumed saved).cells))
+    → ShapeLiesOn (stored_shape (record { globals = globals; locals = locals })) (outline_slots (outlines (resumed saved).cells)) (from_base (outlines (resumed saved).cells))
     (resumed saved).bp [] (Keeps 0 ∷ outlines (reverse saved.globals)) (length saved.globals)
 resumes saved globals locals gs ls =
     let upper = reverse saved.locals in

@@ -10,7 +10,7 @@ use Rattle.ncs_code.specs.Plain.{PlainOp}
 use Rattle.ncs_code.specs.File.{op_at}
 use Rattle.machine_rules.specs.Frames.{Frame, started, continued}
 use Rattle.machine_rules.specs.Act.{Act, Moves, Asks, Executes, Returns, Divides, act}
-use Rattle.machine_rules.specs.Machine.{Script, Host, State, Next, Goes, Ends, Divided, depth_limit, script_named, begun, executed, over, followed, next_op, step}
+use Rattle.machine_rules.specs.Machine.{Script, Host, State, Next, Goes, Ends, Divided, waiting_limit, script_named, script_begun, executed, over, followed, next_op, step}
 use Rattle.machine_rules.specs.Runs.{Ran, after_step, run, entry}
 use Rattle.stack_rules.specs.Fits.{Tables, IsListed}
 use Rattle.stack_rules.specs.Safe.{IsSafeFrame, AreSafeFrames, IsSafe, GoesSafely}
@@ -29,12 +29,12 @@ named_listed scripts name number h = first_listed scripts (λ s. bytes_eq (map t
 
 begins_safely : {W : Type 0} (host : Host W) (tables : Tables) (first : W) (s : State W) → StartsSafely → IsWellStackedHost host tables first → IsSafe host.scripts tables (IsReached host tables first) s
     → (number : Option ℕ) (name : List ℕ) (target : ℕ) (f : Frame) → ((n : ℕ) → number ≡ Some n → IsListed host.scripts n) → IsSafeFrame host.scripts tables f
-    → IsSafe host.scripts tables (IsReached host tables first) (begun host number name target f s)
+    → IsSafe host.scripts tables (IsReached host tables first) (script_begun host number name target f s)
 begins_safely host tables first s starts well safe None name target f listed here =
     record { running = here; waiting = safe.waiting; world = ByMissing target name s.world safe.world }
-begins_safely {W} host tables first s starts well safe (Some number) name target f listed here = on (nat_lt (length s.waiting) depth_limit) refl
+begins_safely {W} host tables first s starts well safe (Some number) name target f listed here = on (nat_lt (length s.waiting) waiting_limit) refl
   where
-    on : (b : Bool) → nat_lt (length s.waiting) depth_limit ≡ b → IsSafe host.scripts tables (IsReached host tables first) (begun host (Some number) name target f s)
+    on : (b : Bool) → nat_lt (length s.waiting) waiting_limit ≡ b → IsSafe host.scripts tables (IsReached host tables first) (script_begun host (Some number) name target f s)
     on true e = rw e (record {
       running = starts host.table host.scripts tables number target well.scripts (listed number refl);
       waiting = (here, safe.waiting);

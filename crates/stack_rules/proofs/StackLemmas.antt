@@ -15,7 +15,7 @@ use Rattle.stack_shape.specs.StackEffects.{after_effect}
 use Rattle.stack_shape.specs.Stored.{TopShape}
 use Rattle.stack_shape.specs.Rule.{based, restored}
 use Rattle.machine_rules.specs.Outlines.{Outline, Typed, Keeps, outline, outlines, slots, slots_under, outlines_after}
-use Rattle.stack_rules.specs.Safe.{outline_slot, outline_slots, from_base, outlines_beneath, IsUnder, AreSaved, Carries}
+use Rattle.stack_rules.specs.Safe.{outline_slot, outline_slots, from_base, outlines_beneath, IsUnder, AreSaved, ShapeLiesOn}
 
 pub on_map : {A B : Type 0} (f : A → B) (o : Option A) (b : B) → option_map f o ≡ Some b → (a : A) × (o ≡ Some a) × (f a ≡ b)
 on_map f None b h = absurd cc
@@ -92,9 +92,9 @@ base_after : (e : StackEffect) (os : List Outline) (types : List Ty) → types_o
 base_after e os types h = base_push e.pushes (drop e.pops os) ∙ base_drop e.pops os types h
 
 pub carries_on : (e : StackEffect) (shape : TopShape) (os after : List Outline) (bp : ℕ) (below : List Slot) (floor : List Outline) (found_bp : ℕ) (types : List Ty)
-    → Carries shape (outline_slots os) (from_base os) bp below floor found_bp → e.pops ≤ length shape.cells → types_on e.pops (outline_slots os) ≡ Some types
+    → ShapeLiesOn shape (outline_slots os) (from_base os) bp below floor found_bp → e.pops ≤ length shape.cells → types_on e.pops (outline_slots os) ≡ Some types
     → after ≡ outlines_after e os
-    → Carries (record shape { cells = after_effect e shape.cells }) (outline_slots after) (from_base after) bp below floor found_bp
+    → ShapeLiesOn (record shape { cells = after_effect e shape.cells }) (outline_slots after) (from_base after) bp below floor found_bp
 carries_on e shape os after bp below floor found_bp types c fits popped is =
     let bases : from_base os ≡ from_base after = sym (ap from_base is ∙ base_after e os types popped) in
     record {
@@ -109,8 +109,8 @@ all_beneath : (n : ℕ) → suc n - n ≡ suc zero
 all_beneath n = omega arith
 
 pub base_carries : (shape : TopShape) (cells : List Cell) (bp : ℕ) (below : List Slot) (floor : List Outline) (found_bp : ℕ)
-    → Carries shape (outline_slots (outlines cells)) (from_base (outlines cells)) bp below floor found_bp
-    → Carries (based shape) (outline_slots (outlines (Base bp ∷ cells))) (from_base (outlines (Base bp ∷ cells))) (length cells) below floor found_bp
+    → ShapeLiesOn shape (outline_slots (outlines cells)) (from_base (outlines cells)) bp below floor found_bp
+    → ShapeLiesOn (based shape) (outline_slots (outlines (Base bp ∷ cells))) (from_base (outlines (Base bp ∷ cells))) (length cells) below floor found_bp
 base_carries shape cells bp below floor found_bp c = record {
   cells = ap (λ (ss : List Slot). BaseSlot ∷ ss) c.cells;
   under = record {
@@ -126,7 +126,7 @@ pub record Restores (cells : List Cell) (pending : ℕ) (after : TopShape) (belo
   pub kept : ℕ
   pub rest : List Cell
   pub is : cells ≡ Base kept ∷ rest
-  pub carries : Carries after (outline_slots (outlines rest)) (from_base (outlines rest)) kept below floor found_bp
+  pub carries : ShapeLiesOn after (outline_slots (outlines rest)) (from_base (outlines rest)) kept below floor found_bp
   pub same : after.pending ≡ pending
 
 tail_is : (x y : Slot) (xs ys : List Slot) → x ∷ xs ≡ y ∷ ys → xs ≡ ys

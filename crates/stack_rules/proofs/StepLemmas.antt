@@ -26,7 +26,7 @@ use Rattle.stack_shape.specs.declared.store.StoredTypes.{StoredTypes}
 use Rattle.stack_shape.specs.StackEffects.{after_effect, stack_effect, exchange}
 use Rattle.stack_shape.specs.Calls.{action_count, argument_types, result_types, is_callable, fits_call, call_effect}
 use Rattle.stack_shape.specs.Stored.{TopShape, stored_types, stored_shape}
-use Rattle.stack_shape.specs.Rule.{affected, based, called, called_with, rule}
+use Rattle.stack_shape.specs.Rule.{affected, based, called_shape, called_with, rule}
 use Rattle.stack_shape.specs.Rule as rules
 use Rattle.stack_shape.specs.Laws.{AreValues, EffectsPopValues, CallsPopValues, ValuesAreThere, EffectsLookFromTop, CallsLookFromTop, StoresLookFromTop}
 use Rattle.machine_rules.specs.Cells.{value_types, zero_on_top}
@@ -38,10 +38,10 @@ use Rattle.machine_rules.specs.Machine.{Script, with_answer}
 use Rattle.machine_rules.specs.Outlines.{Outline, Typed, Keeps, outline, outlines, slots, slots_under, outlines_after}
 use Rattle.machine_rules.specs.Laws.{EffectsAreFollowed, CallsAreFollowed, CapturesTypes, StoresAreFollowed}
 use Rattle.stack_rules.specs.Tables.{Callee, ShapeTable, first_shape}
-use Rattle.stack_rules.specs.Rules.{GoesOn, MayCall, MayReturn, Leads, MayStore, Follows, Obeys, MeetsRules}
+use Rattle.stack_rules.specs.Rules.{GoesOnBehindCall, MayCall, MayReturn, Leads, MayStore, Follows, Obeys, MeetsRules}
 use Rattle.stack_rules.specs.Rules as owed
 use Rattle.stack_rules.specs.Fits.{Tables, IsListed, FitsOne, FitsAction}
-use Rattle.stack_rules.specs.Safe.{outline_slots, from_base, IsUnder, AreSaved, Carries, Waits, AreWaiting, AllFit, IsSafeFrame}
+use Rattle.stack_rules.specs.Safe.{outline_slots, from_base, IsUnder, AreSaved, ShapeLiesOn, Waits, AreWaiting, AllFit, IsSafeFrame}
 use Rattle.stack_rules.specs.Laws.{TypesExecuteScript, HasType}
 use Rattle.stack_rules.proofs.StackLemmas.{on_map, on_then, some_is, slots_are, deep_is, under_is, carries_on, base_carries, restores}
 
@@ -110,14 +110,14 @@ record OnStack (op : PlainOp) (f : Frame) (shape after : TopShape) (below : List
   cells : List Cell
   are : cells_after op f.self f.stack ≡ Some cells
   same : after.pending ≡ shape.pending
-  carries : Carries after (outline_slots (outlines cells)) (from_base (outlines cells)) f.stack.bp below floor found_bp
+  carries : ShapeLiesOn after (outline_slots (outlines cells)) (from_base (outlines cells)) f.stack.bp below floor found_bp
 
 popped_types : (L : Lower) (n : ℕ) (cells below : List Slot) (os : List Outline) → outline_slots os ≡ cells ++ below → AreValues n cells → AreValues n (cells ++ below)
     → (n ≤ length cells) × AreValues n (outline_slots os)
 popped_types L n cells below os h v w = ((L.there n cells v.0 v.1).1, subst (λ (ss : List Slot). AreValues n ss) (sym h) w)
 
 on_stack : (L : Lower) (op : PlainOp) (f : Frame) (shape after : TopShape) (below : List Slot) (floor : List Outline) (found_bp : ℕ)
-    → Carries shape (outline_slots (outlines f.stack.cells)) (from_base (outlines f.stack.cells)) f.stack.bp below floor found_bp
+    → ShapeLiesOn shape (outline_slots (outlines f.stack.cells)) (from_base (outlines f.stack.cells)) f.stack.bp below floor found_bp
     → affected (stack_effect op shape.under shape.cells) shape ≡ Some after → OnStack op f shape after below floor found_bp
 on_stack L op f shape after below floor found_bp c h =
     let m = on_map (λ (e : StackEffect). record shape { cells = after_effect e shape.cells }) (stack_effect op shape.under shape.cells) after h in
@@ -210,7 +210,7 @@ callee_is o b c h k = some_is b c (sym h ∙ k)
 call_acts : (header : EngineTable) (scripts : List Script) (tables : Tables) (code : List PlainOp) (f : Frame) (s : IsSafeFrame scripts tables f) (offset : ℤ)
     → MeetsRules header code (tables f.script)
     → MayCall (tables f.script) s.entry (jump_place f.place offset) (next_place f.place (ops.Jsr offset)) s.shape
-    → ActsSafely header scripts tables (Some (machine.called offset f))
+    → ActsSafely header scripts tables (Some (machine.subroutine_called offset f))
 call_acts header scripts tables code f s offset meets m = record {
   listed = s.listed;
   entry = Called (jump_place f.place offset);
@@ -236,10 +236,10 @@ call_acts header scripts tables code f s offset meets m = record {
   where
     goes_on : (callee : Callee) (given : List Slot) → callee ≡ m.callee → callee.given ≡ Some given
         → (tables f.script).at s.entry (next_place f.place (ops.Jsr offset)) ≡ Some (record s.shape { cells = given ++ m.rest })
-    goes_on callee given is gives = subst (GoesOn (tables f.script) s.entry (next_place f.place (ops.Jsr offset)) s.shape m.rest)
+    goes_on callee given is gives = subst (GoesOnBehindCall (tables f.script) s.entry (next_place f.place (ops.Jsr offset)) s.shape m.rest)
         (ap (λ (c : Callee). c.given) (sym is) ∙ gives) m.goes_on
 
-    waits : (callee : Callee) (given : List Slot) → (tables f.script).called (jump_place f.place offset) ≡ Some callee → callee.given ≡ Some given
+    waits : (callee : Callee) (given : List Slot) → (tables f.script).called_shape (jump_place f.place offset) ≡ Some callee → callee.given ≡ Some given
         → Waits (tables f.script) (AreWaiting (tables f.script) f.calls) (next_place f.place (ops.Jsr offset)) given (m.rest ++ s.below)
         (from_base (outlines f.stack.cells)) f.stack.bp (length f.pending)
     waits callee given known gives = record {
@@ -464,7 +464,7 @@ asked_acts header scripts tables number count r f t false role listed callable r
     record { routine = r; listed = listed; callable = callable; types = types; fits = fits; answered = safe }
 
 engine_acts : (L : Lower) (header : EngineTable) (scripts : List Script) (tables : Tables) (f : Frame) (s : IsSafeFrame scripts tables f) (number count : ℕ) (after : TopShape)
-    → TypesExecuteScript header → called (slice_get header.routines number) count s.shape ≡ Some after
+    → TypesExecuteScript header → called_shape (slice_get header.routines number) count s.shape ≡ Some after
     → (tables f.script).at s.entry (next_place f.place (ops.Action number count)) ≡ Some after
     → ActsSafely header scripts tables (engine_called header number count f)
 engine_acts L header scripts tables f s number count after runs h leads =

@@ -17,9 +17,9 @@ use Rattle.stack_rules.specs.Tables.{Callee, ShapeTable, empty_shape, first_shap
 
 -- Behind a call the shape is as before, with what the routine gives in the place of what it takes.
 -- A routine that never returns needs no shape there.
-abbrev pub GoesOn : ShapeTable → Entry → ℕ → TopShape → List Slot → Option (List Slot) → Type 0
-GoesOn table entry next shape rest None = Unit {0}
-GoesOn table entry next shape rest (Some given) = table.at entry next ≡ Some (record shape { cells = given ++ rest })
+abbrev pub GoesOnBehindCall : ShapeTable → Entry → ℕ → TopShape → List Slot → Option (List Slot) → Type 0
+GoesOnBehindCall table entry next shape rest None = Unit {0}
+GoesOnBehindCall table entry next shape rest (Some given) = table.at entry next ≡ Some (record shape { cells = given ++ rest })
 
 -- JSR: the table knows the routine, whose cells are on top, and whose slots beneath BP are the
 -- upper ones there.
@@ -30,7 +30,7 @@ pub record MayCall (table : ShapeTable) (entry : Entry) (target next : ℕ) (sha
   pub cells : shape.cells ≡ callee.taken ++ rest
   pub deeper : List Slot
   pub under : shape.under ≡ callee.under ++ deeper
-  pub goes_on : GoesOn table entry next shape rest callee.given
+  pub goes_on : GoesOnBehindCall table entry next shape rest callee.given
 
 -- RETN in a called routine: the cells are those that it gives, each SAVEBP is ended, and no state
 -- is pending.

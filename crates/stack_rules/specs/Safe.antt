@@ -48,7 +48,7 @@ AreSaved (under ∷ saved) (Keeps kept ∷ os) bp floor found_bp = IsUnder (from
 
 -- A shape on a stack with these slots, and with these outlines from the topmost base on: beneath
 -- the shape's cells lie those that the routine can't reach.
-pub record Carries (shape : TopShape) (on_stack : List Slot) (bases : List Outline) (bp : ℕ) (below : List Slot) (floor : List Outline) (found_bp : ℕ) : Type 0 where
+pub record ShapeLiesOn (shape : TopShape) (on_stack : List Slot) (bases : List Outline) (bp : ℕ) (below : List Slot) (floor : List Outline) (found_bp : ℕ) : Type 0 where
   pub cells : on_stack ≡ shape.cells ++ below
   pub under : IsUnder bases bp shape.under
   pub saved : AreSaved shape.saved bases bp floor found_bp
@@ -67,7 +67,7 @@ pub record Waits (table : ShapeTable) (Callers : Entry → List Slot → List Ou
   pub lower_floor : List Outline
   pub lower_bp : ℕ
   pub others : ℕ
-  pub carries : Carries shape (given ++ below) floor found_bp lower lower_floor lower_bp
+  pub carries : ShapeLiesOn shape (given ++ below) floor found_bp lower lower_floor lower_bp
   pub pending : count ≡ shape.pending + others
   pub callers : Callers entry lower lower_floor lower_bp others
 
@@ -100,7 +100,7 @@ pub record IsSafeFrame (scripts : List Script) (tables : Tables) (f : Frame) : T
   pub floor : List Outline
   pub found_bp : ℕ
   pub others : ℕ
-  pub carries : Carries shape (outline_slots (outlines f.stack.cells)) (from_base (outlines f.stack.cells)) f.stack.bp below floor found_bp
+  pub carries : ShapeLiesOn shape (outline_slots (outlines f.stack.cells)) (from_base (outlines f.stack.cells)) f.stack.bp below floor found_bp
   pub count : length f.pending ≡ shape.pending + others
   pub callers : AreWaiting (tables f.script) f.calls entry below floor found_bp others
   pub fit : AllFit scripts tables f.pending

@@ -14,7 +14,7 @@ use Rattle.stack_shape.specs.declared.range.CellRange.{CellRange}
 use Rattle.stack_shape.specs.declared.effect.StackEffect.{StackEffect}
 use Rattle.stack_shape.specs.Ranges.{cell_count, depth_of, range_at}
 use Rattle.stack_shape.specs.TopFirst.{types_on}
-use Rattle.stack_shape.specs.StackEffects.{where_alike, no_effect, exchange, pushed, copied, written, counted, removed, kept_of, kept, runs, one_int, two_ints, two_alike, type_of_one, type_of_both, type_of_lit, compared, added, reckoned, negated, stack_effect}
+use Rattle.stack_shape.specs.StackEffects.{where_alike, no_effect, exchange, pushed, copied, written, range_int_changed, removed, kept_of, kept, runs, one_int, two_ints, two_alike, type_of_one, type_of_both, type_of_lit, compared, added, reckoned, negated, stack_effect}
 use Rattle.stack_shape.specs.Calls.{fits_call, call_effect, argument_types, result_types}
 use Rattle.stack_shape.specs.Stored.{stored_types}
 use Rattle.stack_shape.specs.Laws.{AreValues, EffectsPopValues, CallsPopValues, ValuesAreThere, EffectsLookFromTop, CallsLookFromTop, StoresLookFromTop}
@@ -87,7 +87,7 @@ written_more : (range : Option CellRange) (cells x slots y : List Slot) → Keep
 written_more range cells x slots y =
     keeps_within _ _ range (λ r. keeps_alike _ _ _ _ _ (types_more r.count cells x) (below_more r.count r.above slots y))
 
-counted_more : (range : Option CellRange) (slots x : List Slot) → Keeps (counted range slots) (counted range (slots ++ x))
+counted_more : (range : Option CellRange) (slots x : List Slot) → Keeps (range_int_changed range slots) (range_int_changed range (slots ++ x))
 counted_more range slots x = keeps_within _ _ range (λ r. keeps_alike _ _ _ _ _ (below_more r.count r.above slots x) (keeps_same (Some (Int ∷ []))))
 
 removed_more : (count : Option ℕ) (cells x : List Slot) → Keeps (removed count cells) (removed count (cells ++ x))
@@ -243,7 +243,7 @@ copied_pops range slots cells = pops_then _ range cells (λ r. pops_map _ _ cell
 written_pops : (range : Option CellRange) (slots cells : List Slot) → Pops (written range cells slots) cells
 written_pops range slots cells = pops_then _ range cells (λ r. pops_alike _ _ _ cells (λ ts us h k. no_values cells))
 
-counted_pops : (range : Option CellRange) (slots cells : List Slot) → Pops (counted range slots) cells
+counted_pops : (range : Option CellRange) (slots cells : List Slot) → Pops (range_int_changed range slots) cells
 counted_pops range slots cells = pops_then _ range cells (λ r. pops_alike _ _ _ cells (λ ts us h k. no_values cells))
 
 removed_pops : (count : Option ℕ) (cells : List Slot) → Pops (removed count cells) cells

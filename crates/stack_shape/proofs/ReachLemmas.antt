@@ -16,10 +16,10 @@ use Rattle.stack_shape.specs.declared.effect.StackEffect.{StackEffect}
 use Rattle.stack_shape.specs.declared.store.StoredTypes.{StoredTypes}
 use Rattle.stack_shape.specs.Ranges.{cell_count, depth_of, range_at, range_of}
 use Rattle.stack_shape.specs.TopFirst.{types_on, types_at}
-use Rattle.stack_shape.specs.StackEffects.{where_alike, no_effect, exchange, pushed, copied, written, counted, removed, kept_of, kept, runs, one_int, two_ints, two_alike, type_of_one, type_of_both, type_of_lit, compared, added, reckoned, negated, stack_effect}
+use Rattle.stack_shape.specs.StackEffects.{where_alike, no_effect, exchange, pushed, copied, written, range_int_changed, removed, kept_of, kept, runs, one_int, two_ints, two_alike, type_of_one, type_of_both, type_of_lit, compared, added, reckoned, negated, stack_effect}
 use Rattle.stack_shape.specs.Calls.{fits_call, call_effect, argument_types, result_types, action_count}
 use Rattle.stack_shape.specs.Stored.{TopShape, found_types, stored_types}
-use Rattle.stack_shape.specs.Rule.{affected, based, restored, stored, called, called_with, rule}
+use Rattle.stack_shape.specs.Rule.{affected, based, restored, stored, called_shape, called_with, rule}
 use Rattle.stack_shape.specs.Reach.{reach, counted_cells, range_end, range_count, in_cells, beneath_bp, call_reach, compared_reach}
 use Rattle.stack_shape.specs.Laws.{beneath_under, deeper_saved, deeper, Reaches, RuleReaches, RuleLooksNoDeeper}
 use Rattle.stack_shape.proofs.EffectLemmas.{on_map, values_are_there}
@@ -59,7 +59,7 @@ written_far (Some r) cells x slots y h i =
     ap (λ o. where_alike o (types_on r.count (drop r.above (slots ++ y))) no_effect) (types_far r.count cells x h)
     ∙ ap (λ o. where_alike (types_on r.count cells) o no_effect) (range_far r.above r.count slots y i)
 
-counted_far : (range : Option CellRange) (slots x : List Slot) → range_end range ≤ length slots → counted range (slots ++ x) ≡ counted range slots
+counted_far : (range : Option CellRange) (slots x : List Slot) → range_end range ≤ length slots → range_int_changed range (slots ++ x) ≡ range_int_changed range slots
 counted_far None slots x h = refl
 counted_far (Some r) slots x h = ap (λ o. where_alike o (Some (Int ∷ [])) no_effect) (range_far r.above r.count slots x h)
 
@@ -210,8 +210,8 @@ cells_none : (table : EngineTable) (op : PlainOp) (s : TopShape) (x y : List Slo
     → affected (stack_effect op (deeper x y s).under (deeper x y s).cells) (deeper x y s) ≡ None
 cells_none table op s x y r h = none_map _ _ (stack_effect op s.under s.cells) _ (effect_far table op s.under s.cells x (beneath_under x y s.saved) r.cells r.under) h
 
-called_none : (r : Option Routine) (count : ℕ) (s : TopShape) (x y : List Slot) → (call_reach r).cells ≤ length s.cells → called r count s ≡ None
-    → called r count (deeper x y s) ≡ None
+called_none : (r : Option Routine) (count : ℕ) (s : TopShape) (x y : List Slot) → (call_reach r).cells ≤ length s.cells → called_shape r count s ≡ None
+    → called_shape r count (deeper x y s) ≡ None
 called_none None count s x y h e = refl
 called_none (Some r) count s x y h e = none_map _ _ (call_effect r count s.pending s.cells) _ (call_far r count s.pending s.cells x h) e
 
@@ -288,7 +288,7 @@ copied_there offset size slots e h = range_found offset size slots (range_at off
     let m = on_map _ (types_at a.0 slots) e a.2 in
     let same = some_same a.0 r (sym a.1 ∙ is) in (m.0, ap (λ (r : CellRange). types_at r slots) (sym same) ∙ m.1))
 
-counted_there : (offset : ℤ) (size : ℕ) (slots : List Slot) (e : StackEffect) → counted (range_at offset size) slots ≡ Some e → range_end (range_at offset size) ≤ length slots
+counted_there : (offset : ℤ) (size : ℕ) (slots : List Slot) (e : StackEffect) → range_int_changed (range_at offset size) slots ≡ Some e → range_end (range_at offset size) ≤ length slots
 counted_there offset size slots e h = range_found offset size slots (range_at offset size) refl (λ r is.
     let a = on_then _ (range_at offset size) e h in
     let b = on_both _ _ _ e a.2 in
@@ -429,7 +429,7 @@ cells_there table op s after h =
     let m = on_map _ (stack_effect op s.under s.cells) after h in
     let t = effect_there table op s.under s.cells m.0 m.1 in record { cells = t.0; under = t.1 }
 
-called_there : (r : Option Routine) (count : ℕ) (s after : TopShape) → called r count s ≡ Some after → There (call_reach r).cells (call_reach r).under s.cells s.under
+called_there : (r : Option Routine) (count : ℕ) (s after : TopShape) → called_shape r count s ≡ Some after → There (call_reach r).cells (call_reach r).under s.cells s.under
 unfolding call_effect
 called_there None count s after h = absurd cc
 called_there (Some r) count s after h =

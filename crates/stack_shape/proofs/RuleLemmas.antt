@@ -14,7 +14,7 @@ use Rattle.stack_shape.specs.declared.store.StoredTypes.{StoredTypes}
 use Rattle.stack_shape.specs.StackEffects.{after_effect, stack_effect}
 use Rattle.stack_shape.specs.Calls.{action_count, call_effect}
 use Rattle.stack_shape.specs.Stored.{TopShape, stored_types}
-use Rattle.stack_shape.specs.Rule.{affected, based, restored, stored, called, rule, top_first}
+use Rattle.stack_shape.specs.Rule.{affected, based, restored, stored, called_shape, rule, top_first}
 use Rattle.stack_shape.specs.Laws.{beneath_under, deeper_saved, deeper, RuleLooksFromTop}
 use Rattle.stack_shape.proofs.EffectLemmas.{on_map, effects_look_from_top, effects_pop_values, calls_look_from_top, calls_pop_values, stores_look_from_top, values_are_there}
 
@@ -84,8 +84,8 @@ cells_more : (op : PlainOp) (s after : TopShape) (x y : List Slot) → affected 
 cells_more op s after x y h = affected_more (stack_effect op s.under s.cells) _ s after x y
     (λ e. effects_look_from_top op s.under s.cells x (beneath_under x y s.saved) e) (λ e. effect_fits op s.under s.cells e) h
 
-called_more : (r : Option Routine) (count : ℕ) (s after : TopShape) (x y : List Slot) → called r count s ≡ Some after
-    → called r count (deeper x y s) ≡ Some (deeper x y after)
+called_more : (r : Option Routine) (count : ℕ) (s after : TopShape) (x y : List Slot) → called_shape r count s ≡ Some after
+    → called_shape r count (deeper x y s) ≡ Some (deeper x y after)
 called_more None count s after x y h = absurd cc
 called_more (Some r) count s after x y h = affected_more (call_effect r count s.pending s.cells) (call_effect r count s.pending (s.cells ++ x))
     (record s { pending = s.pending - action_count r.params }) after x y

@@ -41,8 +41,8 @@ abbrev pub called_with : Routine → ℕ → TopShape → Option TopShape
 called_with r count s =
     affected (call_effect r count s.pending s.cells) (record s { pending = s.pending - action_count r.params })
 
-abbrev pub called : Option Routine → ℕ → TopShape → Option TopShape
-called routine count s = option_and_then (λ r. called_with r count s) routine
+abbrev pub called_shape : Option Routine → ℕ → TopShape → Option TopShape
+called_shape routine count s = option_and_then (λ r. called_with r count s) routine
 
 -- JSR and RETN have rules of more than one shape, which stand elsewhere.
 abbrev pub IsOneStep : PlainOp → Type 0
@@ -52,7 +52,7 @@ IsOneStep _ = Unit {0}
 
 -- the shape after an instruction, where it has a rule on the shape before it
 unfoldable pub rule : EngineTable → PlainOp → TopShape → Option TopShape
-rule table (ops.Action routine count) s = called (slice_get table.routines routine) count s
+rule table (ops.Action routine count) s = called_shape (slice_get table.routines routine) count s
 rule table ops.SaveBp s = Some (based s)
 rule table ops.RestoreBp s = restored s.cells s.saved s.pending
 rule table (ops.StoreState globals locals) s = stored globals locals s

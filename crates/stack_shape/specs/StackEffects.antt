@@ -47,8 +47,8 @@ abbrev pub written : Option CellRange → List Slot → List Slot → Option Sta
 written range cells slots = option_and_then (λ r. where_alike (types_on r.count cells) (types_at r slots) no_effect) range
 
 -- the int at a range of one cell changes
-abbrev pub counted : Option CellRange → List Slot → Option StackEffect
-counted range slots = option_and_then (λ r. where_alike (types_at r slots) (Some (Int ∷ [])) no_effect) range
+abbrev pub range_int_changed : Option CellRange → List Slot → Option StackEffect
+range_int_changed range slots = option_and_then (λ r. where_alike (types_at r slots) (Some (Int ∷ [])) no_effect) range
 
 -- so many cells are popped
 abbrev pub removed : Option ℕ → List Slot → Option StackEffect
@@ -158,13 +158,13 @@ stack_effect (ops.Jz offset) under cells = exchange (Int ∷ []) [] cells
 stack_effect ops.Retn under cells = None
 stack_effect (ops.Destruct total offset size) under cells = kept total offset size cells
 stack_effect ops.Not under cells = one_int cells
-stack_effect (ops.DecISp offset) under cells = counted (range_at offset 4) cells
-stack_effect (ops.IncISp offset) under cells = counted (range_at offset 4) cells
+stack_effect (ops.DecISp offset) under cells = range_int_changed (range_at offset 4) cells
+stack_effect (ops.IncISp offset) under cells = range_int_changed (range_at offset 4) cells
 stack_effect (ops.Jnz offset) under cells = exchange (Int ∷ []) [] cells
 stack_effect (ops.CpDownBp offset size) under cells = written (range_at offset size) cells under
 stack_effect (ops.CpTopBp offset size) under cells = copied (range_at offset size) under
-stack_effect (ops.DecIBp offset) under cells = counted (range_at offset 4) under
-stack_effect (ops.IncIBp offset) under cells = counted (range_at offset 4) under
+stack_effect (ops.DecIBp offset) under cells = range_int_changed (range_at offset 4) under
+stack_effect (ops.IncIBp offset) under cells = range_int_changed (range_at offset 4) under
 stack_effect ops.SaveBp under cells = None
 stack_effect ops.RestoreBp under cells = None
 stack_effect (ops.StoreState globals locals) under cells = None

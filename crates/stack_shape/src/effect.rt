@@ -1,6 +1,7 @@
 ghost use Rattle.std.specs.Prelude.{◌≡◌, ◌+◌, ◌<◌, ◌^◌, [], IfOk, IfSome};
 ghost use Rattle.ncs_code.specs.Plain.{plain, plain_lit};
-ghost use Rattle.stack_shape.specs.StackEffects.{added, compared, copied, counted, exchange, kept};
+ghost use Rattle.stack_shape.specs.StackEffects.{added, compared, copied, range_int_changed};
+ghost use Rattle.stack_shape.specs.StackEffects.{exchange, kept};
 ghost use Rattle.stack_shape.specs.StackEffects.{kept_of, negated, no_effect, one_int, pushed};
 ghost use Rattle.stack_shape.specs.StackEffects.{reckoned, removed, runs, stack_effect, two_alike};
 ghost use Rattle.stack_shape.specs.StackEffects.{two_ints, type_of_both, type_of_lit, type_of_one};
@@ -121,7 +122,7 @@ fn counted<L: TopFirst>(
     range: Option<CellRange>,
     slots: &L,
 ) -> Result<Option<StackEffect>, NoMemory>
-    ensures { IfOk result (λ effect. effect ≡ counted range (L.slots slots.now)) }
+    ensures { IfOk result (λ effect. effect ≡ range_int_changed range (L.slots slots.now)) }
 {
     match range {
         None => Ok(None),

@@ -5,9 +5,9 @@ use Rattle.state_format.specs.declared.parts.Parts.{Parts}
 use Rattle.state_format.specs.declared.parts.Cell.TheVariants as cell
 use Rattle.state_format.specs.declared.parts.Variable.TheVariants as variable
 use Rattle.state_format.specs.declared.parts.Item.TheVariants as item
-use Rattle.state_format.specs.declared.parts.Kind.TheVariants as kind
+use Rattle.state_format.specs.declared.parts.KindPart.TheVariants as kind
 use Rattle.state_format.specs.Fields.{number, parts_fields, parts_bytes}
-use Rattle.state_format.specs.Place.{StopsAt}
+use Rattle.state_format.specs.Place.{StateStopsAt}
 use Rattle.state_format.specs.Reading.{magic_at, parts_at, state_at}
 use Rattle.state_format.proofs.StateLaws.{state_stops}
 
@@ -58,6 +58,6 @@ small_is : parts_bytes small ≡
 unfolding small number parts_fields parts_bytes
 small_is = refl
 
-three : StopsAt (0x4E ∷ 0x57 ∷ 0x51 ∷ []) 0
+three : StateStopsAt (0x4E ∷ 0x57 ∷ 0x51 ∷ []) 0
 unfolding magic_at parts_at state_at
 three = state_stops (0x4E ∷ 0x57 ∷ 0x51 ∷ []) 3 (lit< tt, (lit< tt, (lit< tt, tt))) refl

@@ -11,14 +11,14 @@ use Rattle.std.proofs.Math.Facts.{sfits_to_z, Fits-of_z}
 use Rattle.std.proofs.lemmas.Slice.Eq.{bytes_eq-Decides}
 use Rattle.byteorder.specs.Endian.{little_from, little_number}
 use Rattle.byteorder.specs.Numbers.{little_from-cons, little_from-take, little_from-lt, little_number-reads_back, length-bytes_low_first}
-use Rattle.state_format.specs.Parts.{AreBytes, IsNumber, IsSigned, IsBlob, IsList}
+use Rattle.state_format.specs.Parts.{AreStateBytes, IsNumber, IsSigned, IsBlob, IsList}
 use Rattle.state_format.specs.Fields.{Fields, joined, number, blob, magic, list_of, number_fields, signed_fields, blob_fields}
 use Rattle.state_format.specs.Reading.{Reader, ◌>>=◌, followed, many, number_at, signed_at, blob_at, magic_at, list_at}
 use Rattle.state_format.proofs.Readers.{IsReader, single, via-reader, followed-reader, many-reader, bytes-behind, bytes-front, ok_is, err_is, done, bind_ok, answered, tested, chosen_true, chosen_false, takes_false}
 
 -- ---- numbers
 
-byte-below : (bytes : List ℕ) → AreBytes bytes → (k : ℕ) → slice_index bytes k < 256
+byte-below : (bytes : List ℕ) → AreStateBytes bytes → (k : ℕ) → slice_index bytes k < 256
 byte-below [] h k = omega arith
 byte-below (b ∷ bytes) h zero = h.0
 byte-below (b ∷ bytes) h (suc k) = byte-below bytes h.1 k
@@ -27,12 +27,12 @@ byte_of-below : (i x : ℕ) → byte_of i x < 256
 byte_of-below zero x = omega arith
 byte_of-below (suc i) x = omega arith
 
-low-bytes : (i n x : ℕ) → AreBytes (bytes_low_first i n x)
+low-bytes : (i n x : ℕ) → AreStateBytes (bytes_low_first i n x)
 low-bytes i zero x = tt
 low-bytes i (suc n) x = (byte_of-below i x, low-bytes (suc i) n x)
 
 -- a number has one spelling
-one-number : (n : ℕ) (xs ys : List ℕ) → length xs ≡ n → length ys ≡ n → AreBytes xs → AreBytes ys → little_from 0 n xs ≡ little_from 0 n ys → xs ≡ ys
+one-number : (n : ℕ) (xs ys : List ℕ) → length xs ≡ n → length ys ≡ n → AreStateBytes xs → AreStateBytes ys → little_from 0 n xs ≡ little_from 0 n ys → xs ≡ ys
 one-number zero [] [] lx ly hx hy e = refl
 one-number zero (x ∷ xs) ys lx ly hx hy e = absurd cc
 one-number zero [] (y ∷ ys) lx ly hx hy e = absurd cc
@@ -51,11 +51,11 @@ one-number (suc n) (x ∷ xs) (y ∷ ys) lx ly hx hy e =
 front-length : (n : ℕ) (xs : List ℕ) → n ≤ length xs → length (take n xs) ≡ n
 front-length n xs h = omega (arith, length-take n xs)
 
-take-bytes : (n : ℕ) (xs : List ℕ) → AreBytes xs → AreBytes (take n xs)
-take-bytes n xs h = bytes-front (take n xs) (drop n xs) (subst AreBytes (sym (take-append-drop n xs)) h)
+take-bytes : (n : ℕ) (xs : List ℕ) → AreStateBytes xs → AreStateBytes (take n xs)
+take-bytes n xs h = bytes-front (take n xs) (drop n xs) (subst AreStateBytes (sym (take-append-drop n xs)) h)
 
 -- the bytes of the number in the first bytes are these
-number-again : (n : ℕ) (xs : List ℕ) → AreBytes xs → n ≤ length xs → bytes_low_first 0 n (little_from 0 n xs) ≡ take n xs
+number-again : (n : ℕ) (xs : List ℕ) → AreStateBytes xs → n ≤ length xs → bytes_low_first 0 n (little_from 0 n xs) ≡ take n xs
 number-again n xs h long =
     let x : ℕ = little_from 0 n xs in
     let back : little_from 0 n (bytes_low_first 0 n x ++ []) ≡ x = little_number-reads_back n x [] (little_from-lt 0 n xs (byte-below xs h)) in
@@ -73,7 +73,7 @@ pub number-reader : (size : ℕ) → IsReader (IsNumber size) (number_fields siz
 unfolding number number_at
 number-reader size = single (IsNumber size) (number size) (number_at size) sound again (number-stops size) 0 (omega (arith, little_from-lt 0 size [] (byte-below [] tt)))
   where
-    sound : (bytes : List ℕ) (x : ℕ × List ℕ) → AreBytes bytes → number_at size bytes ≡ Ok x → IsNumber size x.0 × (bytes ≡ number size x.0 ++ x.1)
+    sound : (bytes : List ℕ) (x : ℕ × List ℕ) → AreStateBytes bytes → number_at size bytes ≡ Ok x → IsNumber size x.0 × (bytes ≡ number size x.0 ++ x.1)
     sound bytes x h e = elim (tested (ltb (length bytes) size)) [
       | inl t ↦ let no : Err (length bytes) ≡ done x = chosen_true (ltb (length bytes) size) (Err (length bytes)) (done (little_number size bytes, drop size bytes)) (done x) t e in absurd cc
       | inr t ↦
@@ -111,12 +111,12 @@ pub blob-reader : IsReader IsBlob blob_fields blob_at
 unfolding blob_at
 blob-reader = single IsBlob blob blob_at sound again stops [] (lit< tt, tt)
   where
-    sound : (bytes : List ℕ) (x : List ℕ × List ℕ) → AreBytes bytes → blob_at bytes ≡ Ok x → IsBlob x.0 × (bytes ≡ blob x.0 ++ x.1)
+    sound : (bytes : List ℕ) (x : List ℕ × List ℕ) → AreStateBytes bytes → blob_at bytes ≡ Ok x → IsBlob x.0 × (bytes ≡ blob x.0 ++ x.1)
     sound bytes x h e =
         let m = bind_ok (number_at 4 bytes) (λ n. (if ltb (length n.1) n.0 then Err (length bytes) else Ok (take n.0 n.1, drop n.0 n.1))) x e in
         let n : ℕ × List ℕ = m.0 in
         let s = (number-reader 4).sound bytes n h m.1.0 in
-        let behind : AreBytes n.1 = bytes-behind (joined (number_fields 4 n.0)) n.1 (subst AreBytes s.1 h) in
+        let behind : AreStateBytes n.1 = bytes-behind (joined (number_fields 4 n.0)) n.1 (subst AreStateBytes s.1 h) in
         elim (tested (ltb (length n.1) n.0)) [
           | inl t ↦ let no : Err (length bytes) ≡ done x = chosen_true (ltb (length n.1) n.0) (Err (length bytes)) (done (take n.0 n.1, drop n.0 n.1)) (done x) t m.1.1 in absurd cc
           | inr t ↦
@@ -164,7 +164,7 @@ pub magic-reader : IsReader (λ (x : Unit {0}). Unit {0}) (λ x. magic ∷ []) m
 unfolding magic_at
 magic-reader = single (λ (x : Unit {0}). Unit {0}) (λ x. magic) magic_at sound again stops tt tt
   where
-    sound : (bytes : List ℕ) (x : Unit {0} × List ℕ) → AreBytes bytes → magic_at bytes ≡ Ok x → Unit {0} × (bytes ≡ magic ++ x.1)
+    sound : (bytes : List ℕ) (x : Unit {0} × List ℕ) → AreStateBytes bytes → magic_at bytes ≡ Ok x → Unit {0} × (bytes ≡ magic ++ x.1)
     sound bytes x h e = elim (tested (ltb (length bytes) 8)) [
       | inl t ↦ let no : Err (length bytes) ≡ done x = chosen_true (ltb (length bytes) 8) _ _ (done x) t e in absurd cc
       | inr t ↦

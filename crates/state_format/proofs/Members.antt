@@ -3,7 +3,7 @@ use Rattle.std.proofs.Common.{◌≡◌, ℕ, suc, List, [], ◌∷◌, ◌++◌
 use Rattle.std.proofs.lemmas.List.{append-nil}
 use Rattle.state_format.specs.declared.fault.Stop.{Stop}
 use Rattle.state_format.specs.declared.fault.Stop.TheVariants as stop
-use Rattle.state_format.specs.Reading.{Reader, ◌>>=◌, Fails, mapped, many}
+use Rattle.state_format.specs.Reading.{Reader, ◌>>=◌, StateFails, mapped, many}
 
 -- what was read before stands in front
 abbrev pub with_front : {A : Type 0} → List A → Result (List A × List ℕ) ℕ → Result (List A × List ℕ) ℕ
@@ -26,7 +26,7 @@ members_step {A = A} p k j front now bytes rest x all before more read grown =
     ap (λ (l : List A). with_front l (many j p rest)) grown ∙ sym (one_more front x (many j p rest)) ∙ opened
 
 pub members_stop : {A : Type 0} (e : Stop) (p : Reader A) (k j : ℕ) (front : List A) (bytes : List ℕ) (all : Result (List A × List ℕ) ℕ)
-    → with_front front (many k p bytes) ≡ all → k ≡ suc j → Fails e (p bytes) → Fails e all
+    → with_front front (many k p bytes) ≡ all → k ≡ suc j → StateFails e (p bytes) → StateFails e all
 members_stop stop.NoMemory p k j front bytes all before more here = tt
 members_stop {A = A} (stop.Left left) p k j front bytes all before more here =
     let at : with_front front (many (suc j) p bytes) ≡ all = subst (λ (i : ℕ). with_front front (many i p bytes) ≡ all) more before in

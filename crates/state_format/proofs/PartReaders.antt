@@ -9,8 +9,8 @@ use Rattle.state_format.specs.declared.parts.Variable.{Variable}
 use Rattle.state_format.specs.declared.parts.Variable.TheVariants as variable
 use Rattle.state_format.specs.declared.parts.Item.{Item}
 use Rattle.state_format.specs.declared.parts.Item.TheVariants as item
-use Rattle.state_format.specs.declared.parts.Kind.{Kind}
-use Rattle.state_format.specs.declared.parts.Kind.TheVariants as kind
+use Rattle.state_format.specs.declared.parts.KindPart.{KindPart}
+use Rattle.state_format.specs.declared.parts.KindPart.TheVariants as kind
 use Rattle.state_format.specs.declared.parts.Parts.{Parts}
 use Rattle.state_format.specs.Parts.{IsNumber, IsSigned, IsBlob, IsList, IsEffect, IsCell, IsCaptured, IsVariable, IsMaybe, IsStanding, IsItem, IsObject, IsKind, IsEntry, IsScript, HasForm}
 use Rattle.state_format.specs.Fields.{Fields, tag, number, magic, list_of, number_fields, signed_fields, blob_fields, effect_fields, cell_fields, captured_fields, variable_fields, maybe_fields, standing_fields, item_fields, busy_fields, object_fields, kind_fields, entry_fields, script_fields, count_fields, first_fields, last_fields, parts_fields}
@@ -194,7 +194,7 @@ kind-reader =
     makes (inr (inr (inl o))) h = (h, refl)
     makes (inr (inr (inr o))) h = (h, refl)
 
-    onto : (k : Kind) → IsKind k → (x : (ℕ × (List ℕ × ℤ)) ⊎ ((ℕ × Captured) ⊎ (ℕ ⊎ ℕ)))
+    onto : (k : KindPart) → IsKind k → (x : (ℕ × (List ℕ × ℤ)) ⊎ ((ℕ × Captured) ⊎ (ℕ ⊎ ℕ)))
         × (Either (λ (x : ℕ × (List ℕ × ℤ)). IsNumber 4 x.0 × (IsBlob x.1.0 × IsSigned x.1.1)) (Either (λ (x : ℕ × Captured). IsNumber 4 x.0 × IsCaptured x.1) (Either (IsNumber 4) (IsNumber 4))) x × (kind_of x ≡ k))
     onto (kind.Event o script user) h = (inl (o, (script, user)), (h, refl))
     onto (kind.Stored o s) h = (inr (inl (o, s)), (h, refl))

@@ -3,7 +3,7 @@ use Rattle.std.proofs.Common.{◌≡◌, ◌≢◌, ◌≤◌, ◌==◌, ◌⊎�
 use Rattle.std.specs.List.{AllByRecursion, flat_map}
 use Rattle.std.proofs.lemmas.Bool.{eqb-true, eq-eqb, ne_eqb}
 use Rattle.std.proofs.lemmas.List.{append-nil, length-append}
-use Rattle.state_format.specs.Parts.{AreBytes}
+use Rattle.state_format.specs.Parts.{AreStateBytes}
 use Rattle.state_format.specs.Fields.{Fields, joined, tag}
 use Rattle.state_format.specs.Reading.{Reader, ◌>>=◌, mapped, followed, both, many, only, choose, nothing_at}
 
@@ -40,11 +40,11 @@ joined-append (f ∷ x) y = ap (λ (l : List ℕ). f ++ l) (joined-append x y) �
 pub joined-before : (x y : Fields) (rest : List ℕ) → joined (x ++ y) ++ rest ≡ joined x ++ (joined y ++ rest)
 joined-before x y rest = ap (λ (l : List ℕ). l ++ rest) (joined-append x y) ∙ append_assoc (joined x) (joined y) rest
 
-pub bytes-behind : (x y : List ℕ) → AreBytes (x ++ y) → AreBytes y
+pub bytes-behind : (x y : List ℕ) → AreStateBytes (x ++ y) → AreStateBytes y
 bytes-behind [] y h = h
 bytes-behind (b ∷ x) y h = bytes-behind x y h.1
 
-pub bytes-front : (x y : List ℕ) → AreBytes (x ++ y) → AreBytes x
+pub bytes-front : (x y : List ℕ) → AreStateBytes (x ++ y) → AreStateBytes x
 bytes-front [] y h = tt
 bytes-front (b ∷ x) y h = (h.0, bytes-front x y h.1)
 
@@ -101,14 +101,14 @@ pub record Reaches {A : Type 0} (Has : A → Type 0) (f : A → Fields) (bytes :
 -- from bytes that begin with the first fields of a value no less is read than these; and where
 -- reading stops, so far the bytes begin as some value does.
 pub record IsReader {A : Type 0} (Has : A → Type 0) (f : A → Fields) (p : Reader A) : Type 0 where
-  pub sound : (bytes : List ℕ) (x : A × List ℕ) → AreBytes bytes → p bytes ≡ Ok x → Has x.0 × (bytes ≡ joined (f x.0) ++ x.1)
+  pub sound : (bytes : List ℕ) (x : A × List ℕ) → AreStateBytes bytes → p bytes ≡ Ok x → Has x.0 × (bytes ≡ joined (f x.0) ++ x.1)
   pub again : (a : A) (rest : List ℕ) → Has a → p (joined (f a) ++ rest) ≡ Ok (a, rest)
-  pub front : (a : A) (front back : Fields) (rest : List ℕ) → Has a → f a ≡ front ++ back → AreBytes (joined front ++ rest)
+  pub front : (a : A) (front back : Fields) (rest : List ℕ) → Has a → f a ≡ front ++ back → AreStateBytes (joined front ++ rest)
       → left_of (p (joined front ++ rest)) ≤ length rest
-  pub reach : (bytes : List ℕ) (left : ℕ) → AreBytes bytes → p bytes ≡ Err left → Reaches Has f bytes left
+  pub reach : (bytes : List ℕ) (left : ℕ) → AreStateBytes bytes → p bytes ≡ Err left → Reaches Has f bytes left
 
 -- what is left is no more than what there was
-pub within : {A : Type 0} {Has : A → Type 0} {f : A → Fields} {p : Reader A} → IsReader Has f p → (bytes : List ℕ) → AreBytes bytes → left_of (p bytes) ≤ length bytes
+pub within : {A : Type 0} {Has : A → Type 0} {f : A → Fields} {p : Reader A} → IsReader Has f p → (bytes : List ℕ) → AreStateBytes bytes → left_of (p bytes) ≤ length bytes
 within {f = f} {p = p} r bytes h = elim (answered (p bytes)) [
   | inl y ↦
       let s = r.sound bytes y.0 h y.1 in
@@ -131,7 +131,7 @@ some {p = p} r = elim (answered (p [])) [
 -- ---- one field
 
 pub single : {A : Type 0} (Has : A → Type 0) (w : A → List ℕ) (p : Reader A)
-    → ((bytes : List ℕ) (x : A × List ℕ) → AreBytes bytes → p bytes ≡ Ok x → Has x.0 × (bytes ≡ w x.0 ++ x.1))
+    → ((bytes : List ℕ) (x : A × List ℕ) → AreStateBytes bytes → p bytes ≡ Ok x → Has x.0 × (bytes ≡ w x.0 ++ x.1))
     → ((a : A) (rest : List ℕ) → Has a → p (w a ++ rest) ≡ Ok (a, rest))
     → ((bytes : List ℕ) (left : ℕ) → p bytes ≡ Err left → left ≡ length bytes)
     → (a : A) → Has a → IsReader Has (λ x. w x ∷ []) p
@@ -142,7 +142,7 @@ single {A = A} Has w p sound again stops a0 has0 = record {
   reach = λ bytes left h e. record { value = a0; has = has0; front = []; back = w a0 ∷ []; rest = bytes; fields = refl; begins = refl; ends = sym (stops bytes left e) };
 }
   where
-    ended : (bytes : List ℕ) → AreBytes bytes → left_of (p bytes) ≤ length bytes
+    ended : (bytes : List ℕ) → AreStateBytes bytes → left_of (p bytes) ≤ length bytes
     ended bytes h = elim (answered (p bytes)) [
       | inl y ↦
           let s = sound bytes y.0 h y.1 in
@@ -151,7 +151,7 @@ single {A = A} Has w p sound again stops a0 has0 = record {
       | inr y ↦ let same = stops bytes y.0 y.1 in rw y.1 (omega arith)
     ]
 
-    front : (a : A) (front back : Fields) (rest : List ℕ) → Has a → (w a ∷ []) ≡ front ++ back → AreBytes (joined front ++ rest) → left_of (p (joined front ++ rest)) ≤ length rest
+    front : (a : A) (front back : Fields) (rest : List ℕ) → Has a → (w a ∷ []) ≡ front ++ back → AreStateBytes (joined front ++ rest) → left_of (p (joined front ++ rest)) ≤ length rest
     front a [] back rest h e b = ended rest b
     front a (v ∷ []) back rest h e b =
         let same : v ≡ w a = cc in
@@ -168,7 +168,7 @@ nothing-reader = record {
   reach = λ bytes left h e. absurd cc;
 }
   where
-    front : (a : Unit {0}) (front back : Fields) (rest : List ℕ) → Unit {0} → [] ≡ front ++ back → AreBytes (joined front ++ rest) → left_of (nothing_at (joined front ++ rest)) ≤ length rest
+    front : (a : Unit {0}) (front back : Fields) (rest : List ℕ) → Unit {0} → [] ≡ front ++ back → AreStateBytes (joined front ++ rest) → left_of (nothing_at (joined front ++ rest)) ≤ length rest
     front a [] back rest h e b = omega arith
     front a (v ∷ vs) back rest h e b = absurd cc
 
@@ -179,14 +179,14 @@ pub followed-reader : {A B : Type 0} (Has : A → Type 0) (HasB : A → B → Ty
     → IsReader (λ (x : A × B). Has x.0 × HasB x.0 x.1) (λ x. f x.0 ++ g x.0 x.1) (followed p q)
 followed-reader {A = A} {B = B} Has HasB f g p q rp rq = record { sound = sound; again = again; front = fronts; reach = reach }
   where
-    sound : (bytes : List ℕ) (x : (A × B) × List ℕ) → AreBytes bytes → followed p q bytes ≡ Ok x → (Has x.0.0 × HasB x.0.0 x.0.1) × (bytes ≡ joined (f x.0.0 ++ g x.0.0 x.0.1) ++ x.1)
+    sound : (bytes : List ℕ) (x : (A × B) × List ℕ) → AreStateBytes bytes → followed p q bytes ≡ Ok x → (Has x.0.0 × HasB x.0.0 x.0.1) × (bytes ≡ joined (f x.0.0 ++ g x.0.0 x.0.1) ++ x.1)
     sound bytes x h e =
         let one = bind_ok (p bytes) (λ u. mapped (λ v. (u.0, v)) (q u.0 u.1)) x e in
         let u : A × List ℕ = one.0 in
         let two = mapped_ok (λ v. (u.0, v)) (q u.0 u.1) x one.1.1 in
         let v : B × List ℕ = two.0 in
         let su = rp.sound bytes u h one.1.0 in
-        let hu : AreBytes u.1 = bytes-behind (joined (f u.0)) u.1 (subst AreBytes su.1 h) in
+        let hu : AreStateBytes u.1 = bytes-behind (joined (f u.0)) u.1 (subst AreStateBytes su.1 h) in
         let sv = (rq u.0 su.0).sound u.1 v hu two.1.0 in
         let same : ((u.0, v.0), v.1) ≡ x = two.1.1 in
         let parts : bytes ≡ joined (f u.0 ++ g u.0 v.0) ++ v.1 = su.1 ∙ ap (λ (l : List ℕ). joined (f u.0) ++ l) sv.1 ∙ sym (joined-before (f u.0) (g u.0 v.0) v.1) in
@@ -201,11 +201,11 @@ followed-reader {A = A} {B = B} Has HasB f g p q rp rq = record { sound = sound;
         let eb = (rq x.0 h.0).again x.1 rest h.1 in
         ap (followed p q) (joined-before (f x.0) (g x.0 x.1) rest) ∙ read _ (x.0, joined (g x.0 x.1) ++ rest) (Ok (x.1, rest)) ea eb
 
-    left_first : (bytes : List ℕ) → AreBytes bytes → left_of (followed p q bytes) ≤ left_of (p bytes)
+    left_first : (bytes : List ℕ) → AreStateBytes bytes → left_of (followed p q bytes) ≤ left_of (p bytes)
     left_first bytes h = elim (answered (p bytes)) [
       | inl y ↦
           let su = rp.sound bytes y.0 h y.1 in
-          let hu : AreBytes y.0.1 = bytes-behind (joined (f y.0.0)) y.0.1 (subst AreBytes su.1 h) in
+          let hu : AreStateBytes y.0.1 = bytes-behind (joined (f y.0.0)) y.0.1 (subst AreStateBytes su.1 h) in
           let less : left_of (q y.0.0 y.0.1) ≤ length y.0.1 = within (rq y.0.0 su.0) y.0.1 hu in
           let whole : left_of (followed p q bytes) ≡ left_of (q y.0.0 y.0.1) = ap left_of (read bytes y.0 _ y.1 refl) ∙ left_mapped (λ v. (y.0.0, v)) (q y.0.0 y.0.1) in
           let here : left_of (p bytes) ≡ length y.0.1 = ap left_of y.1 in
@@ -216,7 +216,7 @@ followed-reader {A = A} {B = B} Has HasB f g p q rp rq = record { sound = sound;
           omega (arith, whole, here)
     ]
 
-    fronts : (x : A × B) (front back : Fields) (rest : List ℕ) → Has x.0 × HasB x.0 x.1 → f x.0 ++ g x.0 x.1 ≡ front ++ back → AreBytes (joined front ++ rest)
+    fronts : (x : A × B) (front back : Fields) (rest : List ℕ) → Has x.0 × HasB x.0 x.1 → f x.0 ++ g x.0 x.1 ≡ front ++ back → AreStateBytes (joined front ++ rest)
         → left_of (followed p q (joined front ++ rest)) ≤ length rest
     fronts x front back rest h e b = elim (split (f x.0) (g x.0 x.1) front back e) [
       | inl i ↦
@@ -225,18 +225,18 @@ followed-reader {A = A} {B = B} Has HasB f g p q rp rq = record { sound = sound;
           omega (arith, first, less)
       | inr j ↦
           let same : joined front ++ rest ≡ joined (f x.0) ++ (joined j.middle ++ rest) = ap (λ (l : Fields). joined l ++ rest) j.whole ∙ joined-before (f x.0) j.middle rest in
-          let hb : AreBytes (joined j.middle ++ rest) = bytes-behind (joined (f x.0)) (joined j.middle ++ rest) (subst AreBytes same b) in
+          let hb : AreStateBytes (joined j.middle ++ rest) = bytes-behind (joined (f x.0)) (joined j.middle ++ rest) (subst AreStateBytes same b) in
           let second = (rq x.0 h.0).front x.1 j.middle back rest h.1 j.after hb in
           let whole : left_of (followed p q (joined front ++ rest)) ≡ left_of (q x.0 (joined j.middle ++ rest)) = ap (λ (l : List ℕ). left_of (followed p q l)) same ∙ ap left_of (read _ (x.0, joined j.middle ++ rest) _ (rp.again x.0 (joined j.middle ++ rest) h.0) refl) ∙ left_mapped (λ v. (x.0, v)) (q x.0 (joined j.middle ++ rest)) in
           omega (arith, second, whole)
     ]
 
-    reach : (bytes : List ℕ) (left : ℕ) → AreBytes bytes → followed p q bytes ≡ Err left → Reaches (λ (x : A × B). Has x.0 × HasB x.0 x.1) (λ x. f x.0 ++ g x.0 x.1) bytes left
+    reach : (bytes : List ℕ) (left : ℕ) → AreStateBytes bytes → followed p q bytes ≡ Err left → Reaches (λ (x : A × B). Has x.0 × HasB x.0 x.1) (λ x. f x.0 ++ g x.0 x.1) bytes left
     reach bytes left h e = elim (answered (p bytes)) [
       | inl y ↦
           let u : A × List ℕ = y.0 in
           let su = rp.sound bytes u h y.1 in
-          let hu : AreBytes u.1 = bytes-behind (joined (f u.0)) u.1 (subst AreBytes su.1 h) in
+          let hu : AreStateBytes u.1 = bytes-behind (joined (f u.0)) u.1 (subst AreStateBytes su.1 h) in
           let stopped : mapped (λ v. (u.0, v)) (q u.0 u.1) ≡ Err left = sym (read bytes u _ y.1 refl) ∙ e in
           let s = (rq u.0 su.0).reach u.1 left hu (mapped_err (λ v. (u.0, v)) (q u.0 u.1) left stopped) in
           record {
@@ -273,7 +273,7 @@ pub via-reader : {A B : Type 0} (Has : A → Type 0) (f : A → Fields) (Is : B 
     → IsReader Is g (λ bytes. mapped to (p bytes))
 via-reader {A = A} {B = B} Has f Is g to p r makes onto = record { sound = sound; again = again; front = fronts; reach = reach }
   where
-    sound : (bytes : List ℕ) (x : B × List ℕ) → AreBytes bytes → mapped to (p bytes) ≡ Ok x → Is x.0 × (bytes ≡ joined (g x.0) ++ x.1)
+    sound : (bytes : List ℕ) (x : B × List ℕ) → AreStateBytes bytes → mapped to (p bytes) ≡ Ok x → Is x.0 × (bytes ≡ joined (g x.0) ++ x.1)
     sound bytes x h e =
         let m = mapped_ok to (p bytes) x e in
         let s = r.sound bytes m.0 h m.1.0 in
@@ -287,12 +287,12 @@ via-reader {A = A} {B = B} Has f Is g to p r makes onto = record { sound = sound
     again b rest h =
         ap (λ (l : Fields). mapped to (p (joined l ++ rest))) (laid b h) ∙ ap (mapped to) (r.again (onto b h).0 rest (onto b h).1.0) ∙ ap (λ (z : B). done (z, rest)) (onto b h).1.1
 
-    fronts : (b : B) (front back : Fields) (rest : List ℕ) → Is b → g b ≡ front ++ back → AreBytes (joined front ++ rest) → left_of (mapped to (p (joined front ++ rest))) ≤ length rest
+    fronts : (b : B) (front back : Fields) (rest : List ℕ) → Is b → g b ≡ front ++ back → AreStateBytes (joined front ++ rest) → left_of (mapped to (p (joined front ++ rest))) ≤ length rest
     fronts b front back rest h e bytes =
         let less = r.front (onto b h).0 front back rest (onto b h).1.0 (sym (laid b h) ∙ e) bytes in
         rw (left_mapped to (p (joined front ++ rest))) less
 
-    reach : (bytes : List ℕ) (left : ℕ) → AreBytes bytes → mapped to (p bytes) ≡ Err left → Reaches Is g bytes left
+    reach : (bytes : List ℕ) (left : ℕ) → AreStateBytes bytes → mapped to (p bytes) ≡ Err left → Reaches Is g bytes left
     reach bytes left h e =
         let s = r.reach bytes left h (mapped_err to (p bytes) left e) in
         let made = makes s.value s.has in
@@ -330,7 +330,7 @@ pub only-reader : {A : Type 0} (Has : A → Type 0) (f : A → Fields) (byte : �
     → IsReader Has f p → IsReader Has (λ a. tag byte ∷ f a) (only byte p)
 only-reader {A = A} Has f byte p r = record { sound = sound; again = again; front = fronts; reach = reach }
   where
-    sound : (bytes : List ℕ) (x : A × List ℕ) → AreBytes bytes → only byte p bytes ≡ Ok x → Has x.0 × (bytes ≡ byte ∷ (joined (f x.0) ++ x.1))
+    sound : (bytes : List ℕ) (x : A × List ℕ) → AreStateBytes bytes → only byte p bytes ≡ Ok x → Has x.0 × (bytes ≡ byte ∷ (joined (f x.0) ++ x.1))
     sound [] x h e = absurd cc
     sound (b ∷ rest) x h e = elim (tested (b == byte)) [
       | inl t ↦
@@ -345,21 +345,21 @@ only-reader {A = A} Has f byte p r = record { sound = sound; again = again; fron
     again : (a : A) (rest : List ℕ) → Has a → only byte p (byte ∷ (joined (f a) ++ rest)) ≡ Ok (a, rest)
     again a rest h = reads (joined (f a) ++ rest) ∙ r.again a rest h
 
-    ended : (bytes : List ℕ) → AreBytes bytes → left_of (only byte p bytes) ≤ length bytes
+    ended : (bytes : List ℕ) → AreStateBytes bytes → left_of (only byte p bytes) ≤ length bytes
     ended [] h = omega arith
     ended (b ∷ rest) h = elim (tested (b == byte)) [
       | inl t ↦ let less = within r rest h.1 in rw (takes_true (b == byte) (p rest) (Err (suc (length rest))) t) (omega (arith, less))
       | inr t ↦ rw (takes_false (b == byte) (p rest) (Err (suc (length rest))) t) (omega arith)
     ]
 
-    fronts : (a : A) (front back : Fields) (rest : List ℕ) → Has a → tag byte ∷ f a ≡ front ++ back → AreBytes (joined front ++ rest)
+    fronts : (a : A) (front back : Fields) (rest : List ℕ) → Has a → tag byte ∷ f a ≡ front ++ back → AreStateBytes (joined front ++ rest)
         → left_of (only byte p (joined front ++ rest)) ≤ length rest
     fronts a [] back rest h e b = ended rest b
     fronts a (v ∷ vs) back rest h e b =
         let head : v ≡ tag byte = cc in
         let tail : f a ≡ vs ++ back = cc in
         let same : (v ++ joined vs) ++ rest ≡ byte ∷ (joined vs ++ rest) = ap (λ (l : List ℕ). (l ++ joined vs) ++ rest) head in
-        let bytes : AreBytes (byte ∷ (joined vs ++ rest)) = subst AreBytes same b in
+        let bytes : AreStateBytes (byte ∷ (joined vs ++ rest)) = subst AreStateBytes same b in
         let less = r.front a vs back rest h tail bytes.1 in
         let whole : left_of (only byte p ((v ++ joined vs) ++ rest)) ≡ left_of (p (joined vs ++ rest)) = ap (λ (l : List ℕ). left_of (only byte p l)) same ∙ ap left_of (reads (joined vs ++ rest)) in
         omega (arith, less, whole)
@@ -367,7 +367,7 @@ only-reader {A = A} Has f byte p r = record { sound = sound; again = again; fron
     nothing : (bytes : List ℕ) → (a : A) × Has a → Reaches Has (λ a. tag byte ∷ f a) bytes (length bytes)
     nothing bytes s = record { value = s.0; has = s.1; front = []; back = tag byte ∷ f s.0; rest = bytes; fields = refl; begins = refl; ends = refl }
 
-    reach : (bytes : List ℕ) (left : ℕ) → AreBytes bytes → only byte p bytes ≡ Err left → Reaches Has (λ a. tag byte ∷ f a) bytes left
+    reach : (bytes : List ℕ) (left : ℕ) → AreStateBytes bytes → only byte p bytes ≡ Err left → Reaches Has (λ a. tag byte ∷ f a) bytes left
     reach [] left h e = subst (Reaches Has (λ a. tag byte ∷ f a) []) (err_is (A × List ℕ) 0 left e) (nothing [] (some r))
     reach (b ∷ rest) left h e = elim (tested (b == byte)) [
       | inl t ↦
@@ -404,7 +404,7 @@ pub choose-reader : {A B : Type 0} (HasA : A → Type 0) (HasB : B → Type 0) (
     → IsReader (Either HasA HasB) (either_fields (λ a. tag byte ∷ f a) g) (choose byte p q)
 choose-reader {A = A} {B = B} HasA HasB f g byte p q rp rq others = record { sound = sound; again = again; front = fronts; reach = reach }
   where
-    sound : (bytes : List ℕ) (x : (A ⊎ B) × List ℕ) → AreBytes bytes → choose byte p q bytes ≡ Ok x → Either HasA HasB x.0 × (bytes ≡ joined (either_fields (λ a. tag byte ∷ f a) g x.0) ++ x.1)
+    sound : (bytes : List ℕ) (x : (A ⊎ B) × List ℕ) → AreStateBytes bytes → choose byte p q bytes ≡ Ok x → Either HasA HasB x.0 × (bytes ≡ joined (either_fields (λ a. tag byte ∷ f a) g x.0) ++ x.1)
     sound [] x h e = absurd cc
     sound (b ∷ rest) x h e = elim (tested (b == byte)) [
       | inl t ↦
@@ -434,7 +434,7 @@ choose-reader {A = A} {B = B} HasA HasB f g byte p q rp rq others = record { sou
     again (inl a) rest h = reads_first (joined (f a) ++ rest) ∙ ap (mapped inl) (rp.again a rest h)
     again (inr b) rest h = reads_behind b (g b) rest refl ∙ ap (mapped inr) (rq.again b rest h)
 
-    ended : (bytes : List ℕ) → AreBytes bytes → left_of (choose byte p q bytes) ≤ length bytes
+    ended : (bytes : List ℕ) → AreStateBytes bytes → left_of (choose byte p q bytes) ≤ length bytes
     ended [] h = omega arith
     ended (b ∷ rest) h = elim (tested (b == byte)) [
       | inl t ↦
@@ -447,13 +447,13 @@ choose-reader {A = A} {B = B} HasA HasB f g byte p q rp rq others = record { sou
           omega (arith, less, whole)
     ]
 
-    fronts : (x : A ⊎ B) (front back : Fields) (rest : List ℕ) → Either HasA HasB x → either_fields (λ a. tag byte ∷ f a) g x ≡ front ++ back → AreBytes (joined front ++ rest) → left_of (choose byte p q (joined front ++ rest)) ≤ length rest
+    fronts : (x : A ⊎ B) (front back : Fields) (rest : List ℕ) → Either HasA HasB x → either_fields (λ a. tag byte ∷ f a) g x ≡ front ++ back → AreStateBytes (joined front ++ rest) → left_of (choose byte p q (joined front ++ rest)) ≤ length rest
     fronts x [] back rest h e b = ended rest b
     fronts (inl a) (v ∷ vs) back rest h e b =
         let head : v ≡ tag byte = cc in
         let tail : f a ≡ vs ++ back = cc in
         let same : (v ++ joined vs) ++ rest ≡ byte ∷ (joined vs ++ rest) = ap (λ (l : List ℕ). (l ++ joined vs) ++ rest) head in
-        let bytes : AreBytes (byte ∷ (joined vs ++ rest)) = subst AreBytes same b in
+        let bytes : AreStateBytes (byte ∷ (joined vs ++ rest)) = subst AreStateBytes same b in
         let less = rp.front a vs back rest h tail bytes.1 in
         let whole : left_of (choose byte p q ((v ++ joined vs) ++ rest)) ≡ left_of (p (joined vs ++ rest)) = ap (λ (l : List ℕ). left_of (choose byte p q l)) same ∙ ap left_of (reads_first (joined vs ++ rest)) ∙ left_mapped inl (p (joined vs ++ rest)) in
         omega (arith, less, whole)
@@ -465,7 +465,7 @@ choose-reader {A = A} {B = B} HasA HasB f g byte p q rp rq others = record { sou
         let whole : left_of (choose byte p q ((v ++ joined vs) ++ rest)) ≡ left_of (q (o.0 ∷ (joined vs ++ rest))) = ap (λ (l : List ℕ). left_of (choose byte p q l)) same ∙ ap left_of (reads_other o.0 (joined vs ++ rest) o.1.1) ∙ left_mapped inr (q (o.0 ∷ (joined vs ++ rest))) in
         omega (arith, less, there, whole)
 
-    reach : (bytes : List ℕ) (left : ℕ) → AreBytes bytes → choose byte p q bytes ≡ Err left → Reaches (Either HasA HasB) (either_fields (λ a. tag byte ∷ f a) g) bytes left
+    reach : (bytes : List ℕ) (left : ℕ) → AreStateBytes bytes → choose byte p q bytes ≡ Err left → Reaches (Either HasA HasB) (either_fields (λ a. tag byte ∷ f a) g) bytes left
     reach [] left h e =
         let s = some rp in
         subst (Reaches (Either HasA HasB) (either_fields (λ a. tag byte ∷ f a) g) []) (err_is ((A ⊎ B) × List ℕ) 0 left e) (record { value = inl s.0; has = s.1; front = []; back = tag byte ∷ f s.0; rest = []; fields = refl; begins = refl; ends = refl })
@@ -493,7 +493,7 @@ pub many-reader : {A : Type 0} (Has : A → Type 0) (f : A → Fields) (p : Read
     → IsReader (λ (l : List A). (length l ≡ n) × AllByRecursion Has l) (flat_map f) (many n p)
 many-reader {A = A} Has f p zero r = record { sound = sound; again = again; front = fronts; reach = λ bytes left h e. absurd cc }
   where
-    sound : (bytes : List ℕ) (x : List A × List ℕ) → AreBytes bytes → many zero p bytes ≡ Ok x → ((length x.0 ≡ 0) × AllByRecursion Has x.0) × (bytes ≡ joined (flat_map f x.0) ++ x.1)
+    sound : (bytes : List ℕ) (x : List A × List ℕ) → AreStateBytes bytes → many zero p bytes ≡ Ok x → ((length x.0 ≡ 0) × AllByRecursion Has x.0) × (bytes ≡ joined (flat_map f x.0) ++ x.1)
     sound bytes x h e =
         subst (λ (z : List A × List ℕ). ((length z.0 ≡ 0) × AllByRecursion Has z.0) × (bytes ≡ joined (flat_map f z.0) ++ z.1)) (ok_is _ _ e) ((refl, tt), refl)
 
@@ -501,7 +501,7 @@ many-reader {A = A} Has f p zero r = record { sound = sound; again = again; fron
     again [] rest h = refl
     again (a ∷ l) rest h = absurd cc
 
-    fronts : (l : List A) (front back : Fields) (rest : List ℕ) → (length l ≡ 0) × AllByRecursion Has l → flat_map f l ≡ front ++ back → AreBytes (joined front ++ rest)
+    fronts : (l : List A) (front back : Fields) (rest : List ℕ) → (length l ≡ 0) × AllByRecursion Has l → flat_map f l ≡ front ++ back → AreStateBytes (joined front ++ rest)
         → left_of (many zero p (joined front ++ rest)) ≤ length rest
     fronts [] [] back rest h e b = omega arith
     fronts [] (v ∷ vs) back rest h e b = absurd cc

@@ -2,9 +2,9 @@
 use Rattle.std.proofs.Common.{◌≡◌, ◌<◌, ◌≤◌, inl, inr, ℕ, zero, suc, ◌+◌, ◌-◌, slice_index, List, [], ◌∷◌, ◌++◌, length, Result, Ok, Err, sym, ap, subst, ◌∙◌, arith}
 use Rattle.std.proofs.lemmas.List.{append-nil, length-append}
 use Rattle.state_format.specs.declared.parts.Parts.{Parts}
-use Rattle.state_format.specs.Parts.{AreBytes}
+use Rattle.state_format.specs.Parts.{AreStateBytes}
 use Rattle.state_format.specs.Fields.{joined, parts_fields, parts_bytes}
-use Rattle.state_format.specs.Place.{StateOf, BeginsWith, StopsAt}
+use Rattle.state_format.specs.Place.{StateOf, BeginsWith, StateStopsAt}
 use Rattle.state_format.specs.Reading.{◌>>=◌, parts_at, whole, state_at}
 use Rattle.state_format.proofs.Readers.{answered, done, ok_is, err_is, left_of, within}
 use Rattle.state_format.proofs.PartReaders.{parts-reader}
@@ -25,7 +25,7 @@ state_read bytes s of =
     let read : parts_at bytes ≡ Ok (s, []) = ap parts_at same ∙ parts-reader.again s [] of.form in
     ap (λ (r : Result (Parts × List ℕ) ℕ). r >>= whole) read
 
-pub state_sound : (bytes : List ℕ) (s : Parts) → AreBytes bytes → state_at bytes ≡ Ok s → StateOf bytes s
+pub state_sound : (bytes : List ℕ) (s : Parts) → AreStateBytes bytes → state_at bytes ≡ Ok s → StateOf bytes s
 unfolding state_at parts_bytes
 state_sound bytes s h e = elim (answered (parts_at bytes)) [
   | inl y ↦
@@ -40,9 +40,9 @@ pub one_state : (bytes : List ℕ) (s t : Parts) → StateOf bytes s → StateOf
 one_state bytes s t one other = ok_is s t (sym (state_read bytes s one) ∙ state_read bytes t other)
 
 -- the place before so many bytes is the farthest one
-farthest_is : (bytes : List ℕ) (left : ℕ) → AreBytes bytes → left_of (parts_at bytes) ≡ left → (further : ℕ) → BeginsWith bytes further → further ≤ length bytes - left
+farthest_is : (bytes : List ℕ) (left : ℕ) → AreStateBytes bytes → left_of (parts_at bytes) ≡ left → (further : ℕ) → BeginsWith bytes further → further ≤ length bytes - left
 farthest_is bytes left h e further b =
-    let begins : AreBytes (joined b.front ++ b.rest) = subst AreBytes b.begins h in
+    let begins : AreStateBytes (joined b.front ++ b.rest) = subst AreStateBytes b.begins h in
     let less = parts-reader.front b.state b.front b.back b.rest b.form b.fields begins in
     let same : left_of (parts_at (joined b.front ++ b.rest)) ≡ left = ap (λ (l : List ℕ). left_of (parts_at l)) (sym b.begins) ∙ e in
     let size : length bytes ≡ length (joined b.front) + length b.rest = ap length b.begins ∙ length-append _ _ in
@@ -54,7 +54,7 @@ ends_at bytes front rest left e l =
     let size : length bytes ≡ length front + length rest = ap length e ∙ length-append _ _ in
     omega (arith, size, l)
 
-pub state_stops : (bytes : List ℕ) (left : ℕ) → AreBytes bytes → state_at bytes ≡ Err left → StopsAt bytes (length bytes - left)
+pub state_stops : (bytes : List ℕ) (left : ℕ) → AreStateBytes bytes → state_at bytes ≡ Err left → StateStopsAt bytes (length bytes - left)
 unfolding state_at
 state_stops bytes left h e = elim (answered (parts_at bytes)) [
   | inl y ↦
@@ -81,7 +81,7 @@ state_stops bytes left h e = elim (answered (parts_at bytes)) [
     none s of = let no : done s ≡ Err left = sym (state_read bytes s of) ∙ e in cc
 
 -- what is left is no more than what there was
-pub state_left : (bytes : List ℕ) (left : ℕ) → AreBytes bytes → state_at bytes ≡ Err left → left ≤ length bytes
+pub state_left : (bytes : List ℕ) (left : ℕ) → AreStateBytes bytes → state_at bytes ≡ Err left → left ≤ length bytes
 unfolding state_at
 state_left bytes left h e = elim (answered (parts_at bytes)) [
   | inl y ↦
@@ -98,6 +98,6 @@ state_left bytes left h e = elim (answered (parts_at bytes)) [
       omega (arith, less, same, behind)
 ]
 
-pub are_bytes : (bytes : List ℕ) → ((k : ℕ) → slice_index bytes k < 256) → AreBytes bytes
+pub are_bytes : (bytes : List ℕ) → ((k : ℕ) → slice_index bytes k < 256) → AreStateBytes bytes
 are_bytes [] h = tt
 are_bytes (b ∷ bytes) h = (h zero, are_bytes bytes (λ k. h (suc k)))

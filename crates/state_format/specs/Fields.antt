@@ -14,8 +14,8 @@ use Rattle.state_format.specs.declared.parts.Standing.{Standing}
 use Rattle.state_format.specs.declared.parts.Item.{Item}
 use Rattle.state_format.specs.declared.parts.Item.TheVariants as item
 use Rattle.state_format.specs.declared.parts.Object.{Object}
-use Rattle.state_format.specs.declared.parts.Kind.{Kind}
-use Rattle.state_format.specs.declared.parts.Kind.TheVariants as kind
+use Rattle.state_format.specs.declared.parts.KindPart.{KindPart}
+use Rattle.state_format.specs.declared.parts.KindPart.TheVariants as kind
 use Rattle.state_format.specs.declared.parts.Entry.{Entry}
 use Rattle.state_format.specs.declared.parts.Script.{Script}
 use Rattle.state_format.specs.declared.parts.Parts.{Parts}
@@ -101,7 +101,7 @@ abbrev pub object_fields : Object → Fields
 object_fields o =
     busy_fields o.busy ++ (list_of variable_fields o.variables ++ (list_of standing_fields o.effects ++ list_of item_fields o.items))
 
-abbrev pub kind_fields : Kind → Fields
+abbrev pub kind_fields : KindPart → Fields
 kind_fields (kind.Event object script user) = tag 0 ∷ number 4 object ∷ blob script ∷ signed user ∷ []
 kind_fields (kind.Stored object state) = tag 1 ∷ number 4 object ∷ captured_fields state
 kind_fields (kind.Turn object) = tag 2 ∷ number 4 object ∷ []

@@ -13,14 +13,14 @@ use Rattle.state_format.specs.declared.parts.Standing.{Standing}
 use Rattle.state_format.specs.declared.parts.Item.{Item}
 use Rattle.state_format.specs.declared.parts.Item.TheVariants as item
 use Rattle.state_format.specs.declared.parts.Object.{Object}
-use Rattle.state_format.specs.declared.parts.Kind.{Kind}
-use Rattle.state_format.specs.declared.parts.Kind.TheVariants as kind
+use Rattle.state_format.specs.declared.parts.KindPart.{KindPart}
+use Rattle.state_format.specs.declared.parts.KindPart.TheVariants as kind
 use Rattle.state_format.specs.declared.parts.Entry.{Entry}
 use Rattle.state_format.specs.declared.parts.Script.{Script}
 use Rattle.state_format.specs.declared.parts.Parts.{Parts}
 
-abbrev pub AreBytes : List ℕ → Type 0
-AreBytes bytes = AllByRecursion (λ b. b < 256) bytes
+abbrev pub AreStateBytes : List ℕ → Type 0
+AreStateBytes bytes = AllByRecursion (λ b. b < 256) bytes
 
 -- a number of so many bytes
 abbrev pub IsNumber : ℕ → ℕ → Type 0
@@ -31,7 +31,7 @@ IsSigned n = FitsSigned w32 n
 
 -- bytes whose count fits
 abbrev pub IsBlob : List ℕ → Type 0
-IsBlob bytes = IsNumber 4 (length bytes) × AreBytes bytes
+IsBlob bytes = IsNumber 4 (length bytes) × AreStateBytes bytes
 
 -- a list whose count fits, each member of this kind
 abbrev pub IsList : {A : Type 0} → (A → Type 0) → List A → Type 0
@@ -74,7 +74,7 @@ pub record IsObject (o : Object) : Type 0 where
   pub effects : IsList IsStanding o.effects
   pub items : IsList IsItem o.items
 
-abbrev pub IsKind : Kind → Type 0
+abbrev pub IsKind : KindPart → Type 0
 IsKind (kind.Event object script user) = IsNumber 4 object × (IsBlob script × IsSigned user)
 IsKind (kind.Stored object state) = IsNumber 4 object × IsCaptured state
 IsKind (kind.Turn object) = IsNumber 4 object

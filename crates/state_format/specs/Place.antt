@@ -32,14 +32,14 @@ pub record BeginsWith (bytes : List ℕ) (place : ℕ) : Type 0 where
 -- The bytes are those of no state. This is the farthest place up to which they begin as those of
 -- one do: the field that begins there isn't there whole or has no such form, or bytes follow the
 -- last one.
-pub record StopsAt (bytes : List ℕ) (place : ℕ) : Type 0 where
+pub record StateStopsAt (bytes : List ℕ) (place : ℕ) : Type 0 where
   pub none : (s : Parts) → StateOf bytes s → ⊥
   pub begins : BeginsWith bytes place
   pub farthest : (further : ℕ) → BeginsWith bytes further → further ≤ place
 
 -- why bytes are refused
 abbrev pub Refuses : List ℕ → ReadFault → Type 0
-Refuses bytes (fault.Place at) = StopsAt bytes at
+Refuses bytes (fault.Place at) = StateStopsAt bytes at
 Refuses bytes fault.NoMemory = Unit {0}
 
 -- why a state isn't written: it has so many bytes, more than a file may have

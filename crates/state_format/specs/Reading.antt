@@ -17,8 +17,8 @@ use Rattle.state_format.specs.declared.parts.Standing.{Standing}
 use Rattle.state_format.specs.declared.parts.Item.{Item}
 use Rattle.state_format.specs.declared.parts.Item.TheVariants as item
 use Rattle.state_format.specs.declared.parts.Object.{Object}
-use Rattle.state_format.specs.declared.parts.Kind.{Kind}
-use Rattle.state_format.specs.declared.parts.Kind.TheVariants as kind
+use Rattle.state_format.specs.declared.parts.KindPart.{KindPart}
+use Rattle.state_format.specs.declared.parts.KindPart.TheVariants as kind
 use Rattle.state_format.specs.declared.parts.Entry.{Entry}
 use Rattle.state_format.specs.declared.parts.Script.{Script}
 use Rattle.state_format.specs.declared.parts.Parts.{Parts}
@@ -34,13 +34,13 @@ abbrev pub ◌>>=◌ : {A B : Type 0} → Result A ℕ → (A → Result B ℕ) 
 (Err left) >>= f = Err left
 
 -- what a call returned, seen by `view`, is what the reading gives, unless memory ran out
-abbrev pub Fails : {Y : Type 0} → Stop → Result Y ℕ → Type 0
-Fails stop.NoMemory read = Unit {0}
-Fails (stop.Left left) read = read ≡ Err left
+abbrev pub StateFails : {Y : Type 0} → Stop → Result Y ℕ → Type 0
+StateFails stop.NoMemory read = Unit {0}
+StateFails (stop.Left left) read = read ≡ Err left
 
 abbrev pub Gives : {X Y : Type 0} → (X → Y) → Result X Stop → Result Y ℕ → Type 0
 Gives view (Ok x) read = read ≡ Ok (view x)
-Gives view (Err e) read = Fails e read
+Gives view (Err e) read = StateFails e read
 
 -- ---- ways to make a reader
 
@@ -159,17 +159,17 @@ object_of x = record { busy = x.0; variables = x.1.0; effects = x.1.1.0; items =
 unfoldable pub object_at : Reader Object
 object_at bytes = mapped object_of (both busy_at (both (list_at variable_at) (both (list_at standing_at) (list_at item_at))) bytes)
 
-abbrev pub kind_of : (ℕ × (List ℕ × ℤ)) ⊎ ((ℕ × Captured) ⊎ (ℕ ⊎ ℕ)) → Kind
+abbrev pub kind_of : (ℕ × (List ℕ × ℤ)) ⊎ ((ℕ × Captured) ⊎ (ℕ ⊎ ℕ)) → KindPart
 kind_of (inl x) = kind.Event x.0 x.1.0 x.1.1
 kind_of (inr (inl x)) = kind.Stored x.0 x.1
 kind_of (inr (inr (inl o))) = kind.Turn o
 kind_of (inr (inr (inr o))) = kind.Unapply o
 
-unfoldable pub kind_at : Reader Kind
+unfoldable pub kind_at : Reader KindPart
 kind_at bytes =
     mapped kind_of (choose 0 (both (number_at 4) (both blob_at signed_at)) (choose 1 (both (number_at 4) captured_at) (choose 2 (number_at 4) (only 3 (number_at 4)))) bytes)
 
-abbrev pub entry_of : ℕ × (ℕ × Kind) → Entry
+abbrev pub entry_of : ℕ × (ℕ × KindPart) → Entry
 entry_of x = record { due = x.0; number = x.1.0; kind = x.1.1 }
 
 unfoldable pub entry_at : Reader Entry

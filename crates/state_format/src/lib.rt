@@ -24,7 +24,7 @@ mod written;
 pub use fault::{ReadFault, SaveFault};
 pub use laws::one_state;
 pub use parts::{
-    Captured, Cell, Effect, Entry, Item, Kind, Object, Parts, Script, Standing, Variable,
+    Captured, Cell, Effect, Entry, Item, KindPart, Object, Parts, Script, Standing, Variable,
 };
 pub use put::put_parts;
 pub use read::read_parts;

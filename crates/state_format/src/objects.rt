@@ -6,7 +6,7 @@ ghost use Rattle.state_format.specs.Reading.{item_at, busy_at, object_at, kind_a
 
 use crate::cells::{captured, effect, signed};
 use crate::fault::Stop;
-use crate::parts::{Entry, Item, Kind, Object, Standing, Variable};
+use crate::parts::{Entry, Item, KindPart, Object, Standing, Variable};
 use crate::stored::{Stored, blob, byte, list, wide, word};
 use std::alloc::Global;
 
@@ -149,7 +149,7 @@ impl Stored for Object {
 }
 
 #[tactic(auto, unfolding(crate::specs::Reading::kind_at))]
-fn kind(alloc: Global, bytes: &[u8]) -> Result<(Kind, &[u8]), Stop>
+fn kind(alloc: Global, bytes: &[u8]) -> Result<(KindPart, &[u8]), Stop>
     ensures read { Gives (λ x. (x.0, x.1.now)) result (kind_at bytes.now) }
 {
     let (form, rest) = byte(bytes)?;
@@ -159,7 +159,7 @@ fn kind(alloc: Global, bytes: &[u8]) -> Result<(Kind, &[u8]), Stop>
             let (script, rest) = blob(alloc, rest)?;
             let (user, rest) = signed(rest)?;
             Ok((
-                Kind::Event {
+                KindPart::Event {
                     object,
                     script,
                     user,
@@ -170,15 +170,15 @@ fn kind(alloc: Global, bytes: &[u8]) -> Result<(Kind, &[u8]), Stop>
         1 => {
             let (object, rest) = word(rest)?;
             let (state, rest) = captured(alloc, rest)?;
-            Ok((Kind::Stored { object, state }, rest))
+            Ok((KindPart::Stored { object, state }, rest))
         }
         2 => {
             let (object, rest) = word(rest)?;
-            Ok((Kind::Turn { object }, rest))
+            Ok((KindPart::Turn { object }, rest))
         }
         3 => {
             let (object, rest) = word(rest)?;
-            Ok((Kind::Unapply { object }, rest))
+            Ok((KindPart::Unapply { object }, rest))
         }
         _ => Err(Stop::Left(bytes.len())),
     }

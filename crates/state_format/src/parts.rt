@@ -61,7 +61,7 @@ pub struct Object {
 
 /// What an entry of the agenda does.
 #[derive(Drop)]
-pub enum Kind {
+pub enum KindPart {
     Event {
         object: u32,
         script: Items<u8>,
@@ -84,7 +84,7 @@ pub enum Kind {
 pub struct Entry {
     pub due: u64,
     pub number: u64,
-    pub kind: Kind,
+    pub kind: KindPart,
 }
 
 /// A listed script: its name, and the bytes of its code file.

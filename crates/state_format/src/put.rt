@@ -14,7 +14,7 @@ ghost use Rattle.state_format.specs.Place.{IsTooLarge};
 use crate::fault::SaveFault;
 use crate::magic::MAGIC;
 use crate::parts::{
-    Captured, Cell, Effect, Entry, Item, Kind, Object, Parts, Script, Standing, Variable,
+    Captured, Cell, Effect, Entry, Item, KindPart, Object, Parts, Script, Standing, Variable,
 };
 use crate::written::{
     Written, put_blob, put_list, put_short, put_signed, put_small, put_wide, put_word,
@@ -196,11 +196,11 @@ impl Written for Object {
     }
 }
 
-fn put_kind(out: &mut Items<u8>, kind: &Kind) -> Result<(), NoMemory>
+fn put_kind(out: &mut Items<u8>, kind: &KindPart) -> Result<(), NoMemory>
     ensures put { OnOk result (out.new ≡ out.old ++ joined (kind_fields kind.now)) }
 {
     match kind {
-        Kind::Event {
+        KindPart::Event {
             object,
             script,
             user,
@@ -210,16 +210,16 @@ fn put_kind(out: &mut Items<u8>, kind: &Kind) -> Result<(), NoMemory>
             put_blob(out, script)?;
             put_signed(out, *user)
         }
-        Kind::Stored { object, state } => {
+        KindPart::Stored { object, state } => {
             out.push(1)?;
             put_word(out, *object)?;
             put_captured(out, state)
         }
-        Kind::Turn { object } => {
+        KindPart::Turn { object } => {
             out.push(2)?;
             put_word(out, *object)
         }
-        Kind::Unapply { object } => {
+        KindPart::Unapply { object } => {
             out.push(3)?;
             put_word(out, *object)
         }

@@ -6,8 +6,8 @@ use Rattle.table_2da.specs.declared.fault.TableFault.TheVariants.{Line as BadLin
 use Rattle.table_2da.specs.declared.words.Part.TheVariants.{Columns}
 use Rattle.table_2da.specs.Table.{PlainTable}
 use Rattle.table_2da.specs.Words.{AreBlanks}
-use Rattle.table_2da.specs.Grammar.{Adds, Baffles, Follow, whole, goes, stops, IsHeading, IsSecond, IsColumns, HasColumns, Begins, with_columns, Gives, headless, no_second, no_columns, headed, GivesOf, HasTable, IsFaulty, OneTable}
-use Rattle.table_2da.specs.Steps.{ReadsOn, StopsAt, ThirdOn, SecondOn, Comes}
+use Rattle.table_2da.specs.Grammar.{Adds, Baffles, Follow, whole, goes, stops, IsHeading, IsSecond, IsColumns, HasColumns, FirstIs, with_columns, Gives, headless, no_second, no_columns, headed, GivesOf, HasTable, IsFaulty, OneTable}
+use Rattle.table_2da.specs.Steps.{ReadsOn, TableStopsAt, ThirdOn, SecondOn, Comes}
 use Rattle.table_2da.proofs.RowLemmas.{one_addition, one_saying}
 
 -- ---- going on
@@ -51,12 +51,12 @@ second_by line false other test = λ s. neither s
 -- ---- the third line
 
 pub third_missing : (left : List (List ℕ)) → left ≡ [] → ThirdOn left (Err 3)
-third_missing left e heading second h s = no_columns heading second left h s (λ b. subst (Begins HasColumns) e b)
+third_missing left e heading second h s = no_columns heading second left h s (λ b. subst (FirstIs HasColumns) e b)
 
 pub third_bad : (left lines : List (List ℕ)) (line : List ℕ) → left ≡ line ∷ lines → ((columns : List (List ℕ)) → IsColumns line columns → ⊥)
     → ThirdOn left (Err 3)
 third_bad left lines line e never heading second h s =
-    no_columns heading second left h s (λ b. let has = subst (Begins HasColumns) e b in never has.0 has.1)
+    no_columns heading second left h s (λ b. let has = subst (FirstIs HasColumns) e b in never has.0 has.1)
 
 third_end : (left lines : List (List ℕ)) (line : List ℕ) (columns : List (List ℕ)) (end : Result (List (List (List ℕ))) ℕ) → left ≡ line ∷ lines
     → IsColumns line columns → Follow (length columns) 4 [] lines end → ThirdOn left (with_columns columns end)
@@ -68,17 +68,17 @@ pub third_rows : (left lines : List (List ℕ)) (line : List ℕ) (columns : Lis
 third_rows left lines line columns rows e are on = third_end left lines line columns (Ok rows) e are on
 
 pub third_fault : (left lines : List (List ℕ)) (line : List ℕ) (columns : List (List ℕ)) (fault : TableFault) → left ≡ line ∷ lines
-    → IsColumns line columns → StopsAt (length columns) lines fault → Comes (ThirdOn left) (Err fault)
+    → IsColumns line columns → TableStopsAt (length columns) lines fault → Comes (ThirdOn left) (Err fault)
 third_fault left lines line columns (BadLine n) e are on = third_end left lines line columns (Err n) e are on
 third_fault left lines line columns NoMemory e are on = tt
 
 -- ---- the second line
 
 pub second_missing : (left : List (List ℕ)) → left ≡ [] → SecondOn left (Err 2)
-second_missing left e heading h = no_second heading left h (λ b. subst (Begins IsSecond) e b)
+second_missing left e heading h = no_second heading left h (λ b. subst (FirstIs IsSecond) e b)
 
 pub second_bad : (left lines : List (List ℕ)) (line : List ℕ) → left ≡ line ∷ lines → (IsSecond line → ⊥) → SecondOn left (Err 2)
-second_bad left lines line e never heading h = no_second heading left h (λ b. never (subst (Begins IsSecond) e b))
+second_bad left lines line e never heading h = no_second heading left h (λ b. never (subst (FirstIs IsSecond) e b))
 
 second_on : (left lines : List (List ℕ)) (line : List ℕ) (end : Result PlainTable ℕ) → left ≡ line ∷ lines → IsSecond line → ThirdOn lines end
     → SecondOn left end
@@ -93,10 +93,10 @@ second_comes left lines line (Err NoMemory) e is on = tt
 -- ---- the first line
 
 pub first_missing : (bytes : List ℕ) → lines_of bytes ≡ [] → GivesOf bytes (Err 1)
-first_missing bytes e = headless (lines_of bytes) (λ b. subst (Begins IsHeading) e b)
+first_missing bytes e = headless (lines_of bytes) (λ b. subst (FirstIs IsHeading) e b)
 
 pub first_bad : (bytes line : List ℕ) (lines : List (List ℕ)) → lines_of bytes ≡ line ∷ lines → (IsHeading line → ⊥) → GivesOf bytes (Err 1)
-first_bad bytes line lines e never = headless (lines_of bytes) (λ b. never (subst (Begins IsHeading) e b))
+first_bad bytes line lines e never = headless (lines_of bytes) (λ b. never (subst (FirstIs IsHeading) e b))
 
 first_on : (bytes line : List ℕ) (lines : List (List ℕ)) (end : Result PlainTable ℕ) → lines_of bytes ≡ line ∷ lines → IsHeading line
     → SecondOn lines end → GivesOf bytes end
@@ -159,15 +159,15 @@ abbrev FirstBy : List (List ℕ) → Result PlainTable ℕ → Type 0
 FirstBy [] end = end ≡ Err 1
 FirstBy (line ∷ lines) end = (IsHeading line × SecondBy lines end) ⊎ ((IsHeading line → ⊥) × (end ≡ Err 1))
 
-first_by_none : (lines : List (List ℕ)) → (Begins IsHeading lines → ⊥) → FirstBy lines (Err 1)
+first_by_none : (lines : List (List ℕ)) → (FirstIs IsHeading lines → ⊥) → FirstBy lines (Err 1)
 first_by_none [] never = refl
 first_by_none (line ∷ lines) never = inr (never, refl)
 
-second_by_none : (lines : List (List ℕ)) → (Begins IsSecond lines → ⊥) → SecondBy lines (Err 2)
+second_by_none : (lines : List (List ℕ)) → (FirstIs IsSecond lines → ⊥) → SecondBy lines (Err 2)
 second_by_none [] never = refl
 second_by_none (line ∷ lines) never = inr (never, refl)
 
-third_by_none : (lines : List (List ℕ)) → (Begins HasColumns lines → ⊥) → ThirdBy lines (Err 3)
+third_by_none : (lines : List (List ℕ)) → (FirstIs HasColumns lines → ⊥) → ThirdBy lines (Err 3)
 third_by_none [] never = refl
 third_by_none (line ∷ lines) never = inr (never, refl)
 

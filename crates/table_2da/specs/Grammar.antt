@@ -76,9 +76,9 @@ pub data Follow (width : ℕ) : ℕ → List (List (List ℕ)) → List (List �
 -- ---- the table
 
 -- the first of these lines is there, and is such a one
-abbrev pub Begins : (List ℕ → Type 0) → List (List ℕ) → Type 0
-Begins IsSuch [] = ⊥
-Begins IsSuch (line ∷ lines) = IsSuch line
+abbrev pub FirstIs : (List ℕ → Type 0) → List (List ℕ) → Type 0
+FirstIs IsSuch [] = ⊥
+FirstIs IsSuch (line ∷ lines) = IsSuch line
 
 abbrev pub with_columns : List (List ℕ) → Result (List (List (List ℕ))) ℕ → Result PlainTable ℕ
 with_columns columns (Ok rows) = Ok (record { columns = columns; rows = rows })
@@ -87,9 +87,9 @@ with_columns columns (Err n) = Err n
 -- the lines give this table, or the line of this number is the first that breaks a rule, or that is
 -- missing
 pub data Gives : List (List ℕ) → Result PlainTable ℕ → Type 0 where
-  headless : (lines : List (List ℕ)) → (Begins IsHeading lines → ⊥) → Gives lines (Err 1)
-  no_second : (heading : List ℕ) (lines : List (List ℕ)) → IsHeading heading → (Begins IsSecond lines → ⊥) → Gives (heading ∷ lines) (Err 2)
-  no_columns : (heading second : List ℕ) (lines : List (List ℕ)) → IsHeading heading → IsSecond second → (Begins HasColumns lines → ⊥)
+  headless : (lines : List (List ℕ)) → (FirstIs IsHeading lines → ⊥) → Gives lines (Err 1)
+  no_second : (heading : List ℕ) (lines : List (List ℕ)) → IsHeading heading → (FirstIs IsSecond lines → ⊥) → Gives (heading ∷ lines) (Err 2)
+  no_columns : (heading second : List ℕ) (lines : List (List ℕ)) → IsHeading heading → IsSecond second → (FirstIs HasColumns lines → ⊥)
       → Gives (heading ∷ second ∷ lines) (Err 3)
   headed : (heading second line : List ℕ) (lines columns : List (List ℕ)) (end : Result (List (List (List ℕ))) ℕ) → IsHeading heading
       → IsSecond second → IsColumns line columns → Follow (length columns) 4 [] lines end

@@ -27,9 +27,9 @@ abbrev pub ReadsOn : ℕ → List (List ℕ) → List (List (List ℕ)) → Type
 ReadsOn width lines rows = Follow width 4 [] lines (Ok rows)
 
 -- one of these lines behind the third is the first that breaks a rule
-abbrev pub StopsAt : ℕ → List (List ℕ) → TableFault → Type 0
-StopsAt width lines (Line n) = Follow width 4 [] lines (Err n)
-StopsAt width lines NoMemory = Unit {0}
+abbrev pub TableStopsAt : ℕ → List (List ℕ) → TableFault → Type 0
+TableStopsAt width lines (Line n) = Follow width 4 [] lines (Err n)
+TableStopsAt width lines NoMemory = Unit {0}
 
 -- ---- the first lines
 

@@ -6,7 +6,8 @@ ghost use Rattle.table_2da.specs.Grammar.{are_columns, are_distinct, Adds, AddsC
 ghost use Rattle.table_2da.specs.Grammar.{IsColumns, IsFaulty, IsHeading, IsSecond};
 ghost use Rattle.table_2da.specs.Look.{same_name};
 ghost use Rattle.table_2da.specs.Ranges.{bytes_at, cells_at, rows_at, StandsAt};
-ghost use Rattle.table_2da.specs.Steps.{Comes, Found, ReadsOn, SecondOn, StopsAt, ThirdOn, Took};
+ghost use Rattle.table_2da.specs.Steps.{Comes, Found, ReadsOn, SecondOn, TableStopsAt, ThirdOn};
+ghost use Rattle.table_2da.specs.Steps.{Took};
 
 use crate::fault::TableFault;
 use crate::prefix::behind_prefix;
@@ -153,7 +154,7 @@ fn read_rows(alloc: Global, width: usize, lines: &mut Lines<'_>) -> Result<Rows,
     requires fits { length lines.old.text < 2 ^ 32 }
     ensures rows { IfOk result (λ rows.
         ReadsOn width lines.old.left (rows_at lines.old.text rows)) }
-    ensures fault { IfErr result (StopsAt width lines.old.left) }
+    ensures fault { IfErr result (TableStopsAt width lines.old.left) }
 {
     let mut rows = Rows::new(alloc);
     while let Some(line) = lines.next_line() {

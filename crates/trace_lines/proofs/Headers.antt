@@ -8,8 +8,8 @@ use Rattle.nwq_value.specs.declared.engine.Const.{Const}
 use Rattle.nwq_value.specs.declared.engine.Routine.{Routine}
 use Rattle.nwq_value.specs.Engine.{EngineTable, constant_named}
 use Rattle.nwq_text.specs.Cuts.{IsFree}
-use Rattle.nss_lexer.specs.declared.token.Kind.{Kind}
-use Rattle.nss_lexer.specs.declared.token.Kind.TheVariants as kind
+use Rattle.nss_lexer.specs.declared.token.TokenKind.{TokenKind}
+use Rattle.nss_lexer.specs.declared.token.TokenKind.TheVariants as kind
 use Rattle.nss_lexer.specs.Bytes.{is_letter, is_name_byte}
 use Rattle.nss_lexer.specs.Lexemes.{IsIdentifier, IsLexeme}
 use Rattle.nss_lexer.specs.Splitting.{Lexeme, Splits, whole, broken, token}
@@ -55,7 +55,7 @@ IsPlain (symbol.Sign s) = Unit {0}
 abbrev ArePlain : List Placed → Type 0
 ArePlain xs = AllByRecursion (λ (x : Placed). IsPlain x.symbol) xs
 
-lexeme_plain : (k : Kind) (text : List ℕ) → IsLexeme k text → IsPlain (symbol_by k text)
+lexeme_plain : (k : TokenKind) (text : List ℕ) → IsLexeme k text → IsPlain (symbol_by k text)
 lexeme_plain kind.Name text h = identifier_free text h.0.0
 lexeme_plain kind.Word text h = tt
 lexeme_plain (kind.Int n) text h = tt

@@ -13,8 +13,8 @@ use Rattle.world_rules.specs.declared.data.Stood.{Stood}
 use Rattle.world_rules.specs.declared.data.Told.TheVariants as line
 use Rattle.world_rules.specs.World.{World, queue_of, effects_of}
 use Rattle.world_rules.specs.Changes.{told, with_actions, with_effects, without_first, is_numbered}
-use Rattle.world_rules.specs.Turns.{Planned, with_planned, still, new_world, user_number, Begun, with_entries, begun, begin, next_turn, turn_done, turned, turn, expired, fault}
-use Rattle.world_rules.specs.Plays.{Ending, Over, Divided, Stopped, Run, Runner, Entered, finished_as, named_entry, event_entry, turn_entry, entered_as, entered, Progress, further, Played, Bounds, full, after_entry, next_entry, plays, unplayed}
+use Rattle.world_rules.specs.Turns.{Planned, with_planned, still, new_world, user_number, Begun, with_entries, entry_begun, begin, next_turn, turn_done, turned, turn, expired, fault}
+use Rattle.world_rules.specs.Plays.{Ending, Over, Divided, Stopped, Run, Runner, Entered, finished_as, named_entry, event_entry, turn_entry, entered_as, entry_entered, Progress, further, Played, Bounds, full, after_entry, next_entry, plays, unplayed}
 use Rattle.ncs_machine.specs.Host.{EngineView, host}
 use Rattle.module_player.specs.CodePlays.{code_runner, code_play}
 use Rattle.trace_lines.specs.Lines.{ArePlain, HasPlainNames}
@@ -81,7 +81,7 @@ module _ {X : Type 0} (runner : Runner X) (tells : RunnerTells runner) where
   BegunPlain None = Unit {0}
   BegunPlain (Some b) = Plain b.world
 
-  begun_plain : (until : ℕ) (entries : List (Entry X)) (w : World X) → Plain w → BegunPlain (begun until entries w)
+  begun_plain : (until : ℕ) (entries : List (Entry X)) (w : World X) → Plain w → BegunPlain (entry_begun until entries w)
   begun_plain until [] w h = tt
   begun_plain until (e ∷ rest) w h = on (nat_le e.due until)
     where
@@ -101,7 +101,7 @@ module _ {X : Type 0} (runner : Runner X) (tells : RunnerTells runner) where
       → ArePlain (next_entry runner b p go).last.trace
   next_plain None p go k h rest = h.0
   next_plain (Some b) p go k h rest =
-      let e = entered runner b in after_plain e.stopped (further e p) go (further_plain e p (kind_plain b.entry.kind b.entry.number b.world k) h.0) rest
+      let e = entry_entered runner b in after_plain e.stopped (further e p) go (further_plain e p (kind_plain b.entry.kind b.entry.number b.world k) h.0) rest
 
   either_plain : (b : Bool) (p q : Played X) → ArePlain p.last.trace → ArePlain q.last.trace → ArePlain (if b then p else q).last.trace
   either_plain true p q h k = h

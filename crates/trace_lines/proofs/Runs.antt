@@ -10,7 +10,7 @@ use Rattle.world_rules.specs.Engine.{may_run, too_deep}
 use Rattle.world_rules.specs.declared.data.Told.TheVariants as line
 use Rattle.machine_rules.specs.Frames.{Frame, started, continued}
 use Rattle.machine_rules.specs.Act.{Act, Moves, Asks, Executes, Returns, Divides, act}
-use Rattle.machine_rules.specs.Machine.{Script, State, Next, Goes, Ends, Divided, depth_limit, script_named, begun, executed, over, followed, next_op, step}
+use Rattle.machine_rules.specs.Machine.{Script, State, Next, Goes, Ends, Divided, waiting_limit, script_named, script_begun, executed, over, followed, next_op, step}
 use Rattle.machine_rules.specs.Runs.{Ran, after_step, run, entry, run_script, run_stored}
 use Rattle.ncs_machine.specs.Host.{EngineView, host}
 use Rattle.trace_lines.specs.Lines.{HasPlainNames}
@@ -33,10 +33,10 @@ over_plain [] s h = tt
 over_plain (f ∷ waiting) s h = h
 
 module _ (scripts : List Script) (e : EngineView) (names : HasPlainNames e.table) where
-  begun_plain : (number : Option ℕ) (name : List ℕ) (target : ℕ) (f : Frame) (s : Machine) → Plain s.world → Plain (begun (host scripts e) number name target f s).world
+  begun_plain : (number : Option ℕ) (name : List ℕ) (target : ℕ) (f : Frame) (s : Machine) → Plain s.world → Plain (script_begun (host scripts e) number name target f s).world
   unfolding host
   begun_plain None name target f s h = told_plain target (line.NoScript name) s.world tt h
-  begun_plain (Some script) name target f s h = on (nat_lt (length s.waiting) depth_limit)
+  begun_plain (Some script) name target f s h = on (nat_lt (length s.waiting) waiting_limit)
     where
       on : (b : Bool) → Plain (if b then record s { running = started script target; waiting = f ∷ s.waiting } else record s { running = f; world = too_deep target name s.world }).world
       on true = h
@@ -47,7 +47,7 @@ module _ (scripts : List Script) (e : EngineView) (names : HasPlainNames e.table
   executed_plain [] target f s h = h
   executed_plain (b ∷ name) target f s h = on (may_run f.self target s.world)
     where
-      on : (c : Bool) → Plain (if c then begun (host scripts e) (script_named scripts (b ∷ name)) (b ∷ name) target f s else record s { running = f }).world
+      on : (c : Bool) → Plain (if c then script_begun (host scripts e) (script_named scripts (b ∷ name)) (b ∷ name) target f s else record s { running = f }).world
       on true = begun_plain (script_named scripts (b ∷ name)) (b ∷ name) target f s h
       on false = h
 

@@ -20,7 +20,7 @@ use Rattle.typing_rules.specs.declared.places.Callee.TheVariants.{Engine}
 use Rattle.typing_rules.specs.Types.{is_void, is_int, is_action, same_type, binary_type, assigned_type, is_step}
 use Rattle.typing_rules.specs.Typed.{TypedExpr, TypedExprs, call, member, prefix, postfix, binary, assign, no_typed, more_typed, type_of, is_place}
 use Rattle.typing_rules.specs.Sight.{Meaning, variable, constant, Entry, Member, Members, Structure, Signature, Head, Sight, Called, find_from, find, entry_means, name_means, has_body, first_types, body_number, members_of, members_in, find_member, is_callable_role, of_routine, routine_called, of_signature, types_wanted, callee}
-use Rattle.typing_rules.specs.Rules.{when, named, defaults, filled, is_void_call, takes, all_taken, is_of_unit, is_barred, called, call_of, takes_action, others, member_at, member_rule, assigned}
+use Rattle.typing_rules.specs.Rules.{when, named, defaults, filled, is_void_call, takes, all_taken, is_of_unit, is_barred, filled_call, call_of, takes_action, others, member_at, member_rule, assigned}
 use Rattle.typing_rules.specs.Meaning.{Types, AllTypes}
 use Rattle.typing_rules.specs.Meaning as rules
 use Rattle.typing_rules.specs.Cells.{Structs, cell_types, is_captured}
@@ -308,7 +308,7 @@ no_void_call hs c file flag (rules.Types.call b n f {ts = ts} {d = None} {t = t}
 no_void_call hs c file flag (rules.Types.call b n f {ts = ts} {d = Some d} {t = t} h k r) =
     by (d.is_callable && (not (c.at_file && is_barred b d) && all_taken ts d.params)) refl r
   where
-    by : (p : Bool) → (d.is_callable && (not (c.at_file && is_barred b d) && all_taken ts d.params)) ≡ p → (if p then called ts d else None) ≡ Some t → is_void_call t ≡ false
+    by : (p : Bool) → (d.is_callable && (not (c.at_file && is_barred b d) && all_taken ts d.params)) ≡ p → (if p then filled_call ts d else None) ≡ Some t → is_void_call t ≡ false
     by false is_so g = absurd (none-some t g)
     by true is_so g =
         let k1 = both_are d.is_callable (not (c.at_file && is_barred b d) && all_taken ts d.params) is_so in
@@ -470,7 +470,7 @@ module _ (x : Site) (table : EngineTable) (kept : IsTable table) (few : (r : Rou
       of_filled None full can taken inside g = absurd (none-some t g)
       of_filled (Some ks) full can taken inside g = subst (IsFine table fs x scope) (same_Some _ _ g) (call_is f d ts ks is can taken full inside, fine taken)
 
-      by : (p : Bool) → (d.is_callable && (not (at_file && is_barred b d) && all_taken ts d.params)) ≡ p → (if p then called ts d else None) ≡ Some t → IsFine table fs x scope t
+      by : (p : Bool) → (d.is_callable && (not (at_file && is_barred b d) && all_taken ts d.params)) ≡ p → (if p then filled_call ts d else None) ≡ Some t → IsFine table fs x scope t
       by true is_so g =
           let k = both_are d.is_callable (not (at_file && is_barred b d) && all_taken ts d.params) is_so in
           let l = both_are (not (at_file && is_barred b d)) (all_taken ts d.params) k.1 in

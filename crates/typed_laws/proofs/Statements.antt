@@ -18,7 +18,7 @@ use Rattle.typing_rules.specs.Numbers.{number_of, numbers, all_numbers}
 use Rattle.typing_rules.specs.Types.{is_void, is_int, same_type}
 use Rattle.typing_rules.specs.Typed.{TypedExpr, TypedName, TypedStmt, TypedStmts, type_of}
 use Rattle.typing_rules.specs.Nodes.{There, absent, present}
-use Rattle.typing_rules.specs.Sight.{Meaning, variable, constant, Entry, Labels, Head, Sight, is_taken, crosses_with, cells as sight_cells, type_means, value_type, variable_of, declared, entered, inside, looped, switched, with_declaration, is_callable_role}
+use Rattle.typing_rules.specs.Sight.{Meaning, variable, constant, Entry, Labels, Head, Sight, is_taken, crosses_with, cells as sight_cells, type_means, value_type, variable_of, declared, scope_entered, inside, looped, switched, with_declaration, is_callable_role}
 use Rattle.typing_rules.specs.Rules.{line_rows, value_fits, is_condition, result_fits, is_again, is_outside, has_default_label}
 use Rattle.typing_rules.specs.Meaning.{TypesValue, TypesNames, VariableParts, TypesStmt, TypesStmts}
 use Rattle.typing_rules.specs.Meaning as rules
@@ -399,7 +399,7 @@ module _ (x : Site) (table : EngineTable) (kept : IsTable table) (few : (r : Rou
     mutual
       stmt_fine : (scope : List ℕ) (depth : ℕ) (c : Sight) → Sees x table result file scope c → {a : SourceStmt} {t : TypedStmt} → IsMade a → TypesStmt hs c a t → WhenLaid scope depth c t
       stmt_fine scope depth c s made (rules.TypesStmt.block d n h) l =
-          all_fine scope depth (entered c) (record { names = s.names; structs = s.structs; table_is = s.table_is; inside = s.inside; gives = s.gives }) made h (record { places = l.places; types = l.types })
+          all_fine scope depth (scope_entered c) (record { names = s.names; structs = s.structs; table_is = s.table_is; inside = s.inside; gives = s.gives }) made h (record { places = l.places; types = l.types })
       stmt_fine scope depth c s made (rules.TypesStmt.empty d n) l = tt
       stmt_fine scope depth c s made (rules.TypesStmt.expression d n h) l = fine_expr scope c s h
       stmt_fine scope depth c s made (rules.TypesStmt.if_only d n {t = e} {u = u} {s = z} h k r) l =

@@ -18,7 +18,7 @@ use Rattle.nss_tree.specs.Source.{SourceLine, SourceParameter}
 use Rattle.nss_tree.specs.Counts.{one_if}
 use Rattle.typing_rules.specs.Nodes.{fine, two, if_there, present_if}
 use Rattle.typing_rules.specs.Typed.{TypedLine, TypedParameter}
-use Rattle.typing_rules.specs.Sight.{Members, Structure, Sight, Meant, type_means, value_type, declared_type, cells, cells_if, cells_of_members, counted, crosses, cell_limit, crosses_with, is_taken}
+use Rattle.typing_rules.specs.Sight.{Members, Structure, Sight, Meant, type_means, value_type, declared_type, cells, cells_if, cells_of_members, counted_to_limit, crosses, cell_limit, crosses_with, is_taken}
 use Rattle.typing_rules.specs.Rules.{Fields, is_among, fields_with, crosses_fields, field_rule, field_rows, default_fits, is_behind, parameter_of, parameter_rule, parameter_rows, params_of}
 use Rattle.typing_rules.specs.Verdicts.{line_type, constant_value, field_added, field_verdict, after_fields, fields_fine, line_of, line_fine, after_line, lines_fine, members_of_line, members_of_lines, parameter_verdict, parameter_declared, late_after, params_fine}
 use Rattle.typing_rules.specs.Cells.{Structs, cell_types, line_cells}
@@ -34,7 +34,7 @@ use Rattle.typing_laws.proofs.Expressions.{AreStructs, type_cells}
 
 pub record Counts (limit before more : ℕ) : Type 0 where
   pub within : before + more ≤ limit
-  pub count_is : counted limit before more ≡ before + more
+  pub count_is : counted_to_limit limit before more ≡ before + more
 
 counts_by : (limit before more : ℕ) (b : Bool) → nat_lt limit (min (before + more) (limit + 1)) ≡ b → (not (nat_lt limit before) && b) ≡ false → before ≤ limit → Counts limit before more
 counts_by limit before more true is none le =
@@ -46,8 +46,8 @@ counts_by limit before more false is none le =
     let b : before + more ≤ limit = omega (arith, a) in
     record { within = b; count_is = omega (arith, b) }
 
-pub counts : (limit before more : ℕ) → crosses limit before (counted limit before more) ≡ false → before ≤ limit → Counts limit before more
-counts limit before more none le = counts_by limit before more (nat_lt limit (counted limit before more)) refl none le
+pub counts : (limit before more : ℕ) → crosses limit before (counted_to_limit limit before more) ≡ false → before ≤ limit → Counts limit before more
+counts limit before more none le = counts_by limit before more (nat_lt limit (counted_to_limit limit before more)) refl none le
 
 not_true : (b : Bool) → not b ≡ true → b ≡ false
 not_true true e = absurd (true≢false (sym e))
@@ -240,12 +240,12 @@ param_by c p late m v s t h inner le is has e =
     let b = (and_parts (not (is_behind late v)) (default_fits s v && not (crosses_with c (cells c.structs s))) a).1 in
     let d = and_parts (default_fits s v) (not (crosses_with c (cells c.structs s))) b in
     let limit : cell_limit c ≡ frame_cell_limit = rw inner refl in
-    let none : crosses frame_cell_limit c.frame (counted frame_cell_limit c.frame (cells c.structs s)) ≡ false =
-    subst (λ k. crosses k c.frame (counted k c.frame (cells c.structs s)) ≡ false) limit (not_true (crosses_with c (cells c.structs s)) d.1) in
+    let none : crosses frame_cell_limit c.frame (counted_to_limit frame_cell_limit c.frame (cells c.structs s)) ≡ false =
+    subst (λ k. crosses k c.frame (counted_to_limit k c.frame (cells c.structs s)) ≡ false) limit (not_true (crosses_with c (cells c.structs s)) d.1) in
     let k = counts frame_cell_limit c.frame (cells c.structs s) none le in
     let type_is : declared_type c.structs p.ty ≡ Some s = ap (option_and_then value_type) is ∙ has in
     let frame_is : (parameter_declared c p).frame ≡ c.frame + cells c.structs s =
-    ap (λ (o : Option Ty). counted (cell_limit c) c.frame (cells_if c.structs o)) type_is ∙ (ap (λ (n : ℕ). counted n c.frame (cells c.structs s)) limit ∙ k.count_is) in
+    ap (λ (o : Option Ty). counted_to_limit (cell_limit c) c.frame (cells_if c.structs o)) type_is ∙ (ap (λ (n : ℕ). counted_to_limit n c.frame (cells c.structs s)) limit ∙ k.count_is) in
     let one = default_cell c.structs s v d.0 in
     let room = k.within in
     subst (ParamKeeps c p) w.1 (record {

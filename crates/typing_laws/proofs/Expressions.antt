@@ -24,7 +24,7 @@ use Rattle.typing_rules.specs.Types.{is_int, is_compared, same_type, sum_type, o
 use Rattle.typing_rules.specs.Typed.{TypedExpr, TypedExprs, type_of, is_place}
 use Rattle.typing_rules.specs.Typed as typed
 use Rattle.typing_rules.specs.Sight.{Meaning, variable, constant, Member, Members, Structure, Head, Sight, Called, members_of, members_in, find_member, name_means, callee}
-use Rattle.typing_rules.specs.Rules.{name_rule, filled, all_taken, is_barred, called, call_rule, member_at, member_rule, prefix_rule, postfix_rule, binary_rule, assigned, assign_rule}
+use Rattle.typing_rules.specs.Rules.{name_rule, filled, all_taken, is_barred, filled_call, call_rule, member_at, member_rule, prefix_rule, postfix_rule, binary_rule, assigned, assign_rule}
 use Rattle.typing_rules.specs.Nodes.{There}
 use Rattle.typing_rules.specs.Nodes as node
 use Rattle.typing_rules.specs.Meaning.{Types, AllTypes, TypesValue}
@@ -186,7 +186,7 @@ module _ (bodies : ℕ) (l : Layout) (good : AreStructs l.structs) where
       subst (IsGood bodies l 1) (same_Some _ t e)
       (record { kept = (is_type l (const_type k) good (const_value k), h); value = const_value k; light = omega arith })
 
-  called_good : (ts : TypedExprs) (d : Called) (t : TypedExpr) (n : ℕ) → IsCalled bodies d → AreGood bodies l n ts → d.is_callable ≡ true → called ts d ≡ Some t
+  called_good : (ts : TypedExprs) (d : Called) (t : TypedExpr) (n : ℕ) → IsCalled bodies d → AreGood bodies l n ts → d.is_callable ≡ true → filled_call ts d ≡ Some t
       → IsGood bodies l (3 + n) t
   called_good ts d t n h args free e =
       let is = map_is (λ ks. typed.call d.result d.callee ts ks) (filled ts d.params) t e in
@@ -203,7 +203,7 @@ module _ (bodies : ℕ) (l : Layout) (good : AreStructs l.structs) where
       → call_rule at_file b (ts, d) ≡ Some t → IsGood bodies l (3 + n) t
   call_good at_file b ts None t n h args e = absurd (none-some t e)
   call_good at_file b ts (Some d) t n h args e =
-      let is = if_is (d.is_callable && (not (at_file && is_barred b d) && all_taken ts d.params)) (called ts d) t e in
+      let is = if_is (d.is_callable && (not (at_file && is_barred b d) && all_taken ts d.params)) (filled_call ts d) t e in
       called_good ts d t n h args (and_parts d.is_callable (not (at_file && is_barred b d) && all_taken ts d.params) is.0).0 is.1
 
   member_good : (c : Sight) (x : List ℕ) (u t : TypedExpr) (n : ℕ) → InBounds c → IsGood bodies l n u → member_rule c.structs x u ≡ Some t → IsGood bodies l (1 + n) t

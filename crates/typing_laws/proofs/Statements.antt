@@ -8,7 +8,7 @@ use Rattle.nss_tree.specs.Source.{SourceDeclared, SourceStmt, SourceStmts, Sourc
 use Rattle.nss_tree.specs.Statements as stmt
 use Rattle.typing_rules.specs.Types.{is_int}
 use Rattle.typing_rules.specs.Typed.{TypedExpr, TypedName, TypedStmt, TypedStmts, type_of}
-use Rattle.typing_rules.specs.Sight.{Head, Sight, cells, is_taken, crosses_with, callee, declared, entered, inside, looped, switched}
+use Rattle.typing_rules.specs.Sight.{Head, Sight, cells, is_taken, crosses_with, callee, declared, scope_entered, inside, looped, switched}
 use Rattle.typing_rules.specs.Rules.{value_fits, if_rule, if_else_rule, while_rule, do_rule, is_condition, for_rule, switch_rule, result_fits, is_again, is_outside, has_default_label}
 use Rattle.typing_rules.specs.Meaning.{TypesNames, TypesStmt, TypesStmts}
 use Rattle.typing_rules.specs.Meaning as rule
@@ -138,7 +138,7 @@ module _ (bodies : ℕ) (l : Layout) (good : AreStructs l.structs) (hs : List He
   mutual
     pub statement : (c : Sight) {x : SourceStmt} {t : TypedStmt} → InBounds c → IsKnownStmt x → TypesStmt hs c x t → StmtGood bodies l c.may_break c.in_loop (stmt_size x) t
     statement c h known (rule.TypesStmt.block c' m typing) =
-        let k = statements (entered c) (same_keeps c (entered c) refl refl refl h) known typing in
+        let k = statements (scope_entered c) (same_keeps c (scope_entered c) refl refl refl h) known typing in
         let a = k.light in let b = k.few in record { kept = k.kept; light = omega arith; few = omega arith }
     statement c h known (rule.TypesStmt.empty c' m) = record { kept = tt; light = omega arith; few = omega arith }
     statement c h known (rule.TypesStmt.expression c' m {t = t} typing) =

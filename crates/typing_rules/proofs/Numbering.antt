@@ -8,7 +8,7 @@ use Rattle.nss_tree.specs.Source.{SourceDeclared, SourceStmt, SourceStmts, Sourc
 use Rattle.nwq_value.specs.declared.value.Ty.{Ty}
 use Rattle.typing_rules.specs.Typed.{TypedName, TypedStmt, TypedStmts, TypedParameter, TypedItem}
 use Rattle.typing_rules.specs.Nodes.{There, absent, present}
-use Rattle.typing_rules.specs.Sight.{Head, Meant, Signature, Sight, entered, inside, looped, switched, declared, value_type, any_type}
+use Rattle.typing_rules.specs.Sight.{Head, Meant, Signature, Sight, scope_entered, inside, looped, switched, declared, value_type, any_type}
 use Rattle.typing_rules.specs.Rules.{when, parameter_of, head_of, TypedHead}
 use Rattle.typing_rules.specs.Verdicts.{after, afters, after_then, after_names, after_params, after_body, after_item, line_type, parameter_declared, in_function, in_body}
 use Rattle.typing_rules.specs.Meaning.{TypesNames, TypesStmt, TypesStmts, TypesParams, HeadParts, TypesItem, TypesItems, TypesUnit}
@@ -45,7 +45,7 @@ third a b c d e = omega (arith, e)
 
 mutual
   pub stmt_next : (c : Sight) (x : SourceStmt) → (after c x).next ≡ c.next + variables_in x
-  stmt_next c (stmt.block n xs) = stmts_next (entered c) xs
+  stmt_next c (stmt.block n xs) = stmts_next (scope_entered c) xs
   stmt_next c (stmt.empty n) = sym (add-zero c.next)
   stmt_next c (stmt.expression n x) = sym (add-zero c.next)
   stmt_next c (stmt.if_only n x a) = stmt_next (inside c) a

@@ -9,7 +9,7 @@ use Rattle.nwq_value.specs.declared.value.Ty.{Ty}
 use Rattle.typing_rules.specs.declared.fault.FaultKind.TheVariants.{Outside, Mismatch}
 use Rattle.typing_rules.specs.Typed.{TypedName, TypedStmt, TypedStmts}
 use Rattle.typing_rules.specs.Nodes.{fine, Fits, There, at, if_there, faults_there, FaultThere}
-use Rattle.typing_rules.specs.Sight.{Head, Sight, entered, inside, looped, switched, declared}
+use Rattle.typing_rules.specs.Sight.{Head, Sight, scope_entered, inside, looped, switched, declared}
 use Rattle.typing_rules.specs.Rules.{variable_rule, variable_rows, if_rule, if_rows, if_else_rule, if_else_rows, while_rule, do_rule, do_rows, for_rule, for_rows, switch_rule, switch_rows, break_rule, continue_rule, outside_rows, return_rule, return_rows, case_rule, case_rows, default_rule, default_rows}
 use Rattle.typing_rules.specs.Verdicts.{value, value_faults, longer, longer_stmts, declaration_of, line_type, line_verdict, names_fine, names_faults, variable_verdict, after, after_then, stmt_verdict, stmts_fine, stmt_faults, stmts_faults}
 use Rattle.typing_rules.specs.Meaning.{TypesValue, FaultInValue, NoParts, TypesConstant, TypesLine, VariableParts, TypesNames, FaultInName, FaultInNames, TypesStmt, TypesStmts, IfParts, IfElseParts, DoParts, ForParts, SwitchParts, ReturnParts, FaultInStmt, FaultInStmts}
@@ -52,7 +52,7 @@ line_typed c n t v e = (right_line c.structs n t).settled v.1 e
 -- ---- what a typed statement was made of
 
 block_back : (hs : List Head) (c : Sight) (n : ℕ) (xs : SourceStmts) (s : TypedStmt) → TypesStmt hs c (stmt.block n xs) s
-    → Image (stmt.block n) (TypesStmts hs (entered c) xs) s
+    → Image (stmt.block n) (TypesStmts hs (scope_entered c) xs) s
 block_back hs c n xs s (rules.TypesStmt.block d m {ts = ts} h) = (ts, h, refl)
 
 empty_back : (hs : List Head) (c : Sight) (n : ℕ) (s : TypedStmt) → TypesStmt hs c (stmt.empty n) s → stmt.empty n ≡ s
@@ -159,7 +159,7 @@ mutual
       → Right (Scoped hs c) (TypesStmt hs c x) (fine (stmt_verdict hs c x)) (stmt_faults hs c x) (FaultInStmt hs c x)
   right_stmt hs c (stmt.block n xs) =
       said (λ s h. subst (TypesStmt hs c (stmt.block n xs)) h.2 (rules.TypesStmt.block c n h.1)) (block_back hs c n xs)
-      (passes (stmt.block n) (right_stmts hs (entered c) xs))
+      (passes (stmt.block n) (right_stmts hs (scope_entered c) xs))
   right_stmt hs c (stmt.empty n) = said (λ s e. subst (TypesStmt hs c (stmt.empty n)) e (rules.TypesStmt.empty c n)) (empty_back hs c n) (always (stmt.empty n))
   right_stmt hs c (stmt.expression n e) =
       said (λ s h. subst (TypesStmt hs c (stmt.expression n e)) h.2 (rules.TypesStmt.expression c n h.1)) (expression_back hs c n e)

@@ -23,7 +23,7 @@ use Rattle.nwq_value.specs.Engine.{EngineTable}
 use Rattle.typing_rules.specs.declared.fault.Fault.{Fault}
 use Rattle.typing_rules.specs.Typed.{TypedExpr, TypedExprs, literal, no_typed, more_typed, TypedName, TypedStmt, TypedStmts, TypedLine, TypedParameter, TypedItem, TypedUnit}
 use Rattle.typing_rules.specs.Nodes.{Fits, Own, There, FaultThere}
-use Rattle.typing_rules.specs.Sight.{Head, Structure, Sight, Signature, Meaning, Meant, Called, start, name_means, callee, wanted, type_means, first_types, value_type, declared, entered, inside, looped, switched}
+use Rattle.typing_rules.specs.Sight.{Head, Structure, Sight, Signature, Meaning, Meant, Called, start, name_means, callee, wanted, type_means, first_types, value_type, declared, scope_entered, inside, looped, switched}
 use Rattle.typing_rules.specs.Rules.{name_rule, name_rows, float_rule, float_rows, call_rule, call_rows, takes_action, others, member_rule, member_rows, prefix_rule, prefix_rows, postfix_rule, postfix_rows, binary_rule, binary_rows, assign_rule, assign_rows, constant_means, constant_rule, constant_rows, constant_type, line_rows, variable_rule, variable_rows, constant_name_rule, constant_name_rows, Fields, no_fields, field_rule, field_rows, struct_rule, struct_rows, parameter_rule, parameter_rows, TypedHead, head_rule, head_rows, function_rule, function_rows, if_rule, if_rows, if_else_rule, if_else_rows, while_rule, do_rule, do_rows, for_rule, for_rows, switch_rule, switch_rows, break_rule, continue_rule, outside_rows, return_rule, return_rows, case_rule, case_rows, default_rule, default_rows, entry_rule, entry_rows}
 use Rattle.typing_rules.specs.Verdicts.{line_type, after, after_then, field_added, after_line, parameter_declared, late_after, in_function, in_body, after_item, heads}
 
@@ -132,7 +132,7 @@ FaultInNames hs c t (d ∷ ds) f = FaultInName hs c t d f ⊎ FaultInNames hs (d
 
 mutual
   pub data TypesStmt (hs : List Head) : Sight → SourceStmt → TypedStmt → Type 0 where
-    block : (c : Sight) (n : ℕ) {xs : SourceStmts} {ts : TypedStmts} → TypesStmts hs (entered c) xs ts → TypesStmt hs c (stmt.block n xs) (stmt.block n ts)
+    block : (c : Sight) (n : ℕ) {xs : SourceStmts} {ts : TypedStmts} → TypesStmts hs (scope_entered c) xs ts → TypesStmt hs c (stmt.block n xs) (stmt.block n ts)
     empty : (c : Sight) (n : ℕ) → TypesStmt hs c (stmt.empty n) (stmt.empty n)
     expression : (c : Sight) (n : ℕ) {e : PlainExpr} {t : TypedExpr} → TypesValue hs c e t → TypesStmt hs c (stmt.expression n e) (stmt.expression n t)
     if_only : (c : Sight) (n : ℕ) {e : PlainExpr} {a : SourceStmt} {t : TypedExpr} {u s : TypedStmt}
@@ -185,7 +185,7 @@ ReturnParts hs c e p = (c.result ≡ Some p.0) × There (TypesValue hs c) e p.1
 
 abbrev mutual
   pub FaultInStmt : List Head → Sight → SourceStmt → Fault → Type 0
-  FaultInStmt hs c (stmt.block n xs) f = FaultInStmts hs (entered c) xs f
+  FaultInStmt hs c (stmt.block n xs) f = FaultInStmts hs (scope_entered c) xs f
   FaultInStmt hs c (stmt.empty n) f = ⊥
   FaultInStmt hs c (stmt.expression n e) f = FaultInValue hs c e f
   FaultInStmt hs c (stmt.if_only n e a) f =

@@ -31,7 +31,7 @@ use Rattle.typing_rules.specs.Types.{is_void, is_int, is_action, same_type, bina
 use Rattle.typing_rules.specs.Typed.{TypedExpr, TypedExprs, no_typed, more_typed, type_of, is_place, TypedName, TypedStmt, TypedStmts, TypedLine, TypedParameter, TypedItem}
 use Rattle.typing_rules.specs.Typed as typed
 use Rattle.typing_rules.specs.Nodes.{Rows, row, only, no_row}
-use Rattle.typing_rules.specs.Sight.{Meaning, variable, constant, Head, Structure, Labels, Sight, Signature, Member, Members, Meant, IsRefused, IsMissing, Is, Called, members_in, find_member, is_taken, is_taken_by_other, has_body, has_struct, first_types, body_number, value_type, any_type, cells, cells_if, counted, crosses, crosses_with, name_means}
+use Rattle.typing_rules.specs.Sight.{Meaning, variable, constant, Head, Structure, Labels, Sight, Signature, Member, Members, Meant, IsRefused, IsMissing, Is, Called, members_in, find_member, is_taken, is_taken_by_other, has_body, has_struct, first_types, body_number, value_type, any_type, cells, cells_if, counted_to_limit, crosses, crosses_with, name_means}
 use Rattle.typing_rules.specs.Returns.{some_returns}
 
 -- where its test is true
@@ -42,11 +42,11 @@ when b a = if b then Some a else None
 
 -- A variable of a function, or of any kind in a global's first value, is local: the globals are
 -- still being made there.
-abbrev pub place_of : Bool → ℕ → Bool → Place
-place_of at_file n is_local = if at_file || is_local then Local n else Global n
+abbrev pub variable_place : Bool → ℕ → Bool → Place
+variable_place at_file n is_local = if at_file || is_local then Local n else Global n
 
 abbrev pub named : Bool → Meaning → TypedExpr
-named at_file (variable n is_local t) = typed.name t (place_of at_file n is_local)
+named at_file (variable n is_local t) = typed.name t (variable_place at_file n is_local)
 named at_file (constant k) = typed.name (const_type k) (IsConst k)
 
 abbrev pub name_rule : Bool → Option Meaning → Option TypedExpr
@@ -99,13 +99,13 @@ is_of_unit (Engine n) = false
 abbrev pub is_barred : Bool → Called → Bool
 is_barred as_action d = is_of_unit d.callee || (as_action && is_void d.result)
 
-abbrev pub called : TypedExprs → Called → Option TypedExpr
-called xs d = option_map (λ ks. typed.call d.result d.callee xs ks) (filled xs d.params)
+abbrev pub filled_call : TypedExprs → Called → Option TypedExpr
+filled_call xs d = option_map (λ ks. typed.call d.result d.callee xs ks) (filled xs d.params)
 
 abbrev pub call_of : Bool → Bool → TypedExprs → Option Called → Option TypedExpr
 call_of at_file as_action xs None = None
 call_of at_file as_action xs (Some d) =
-    if d.is_callable && (not (at_file && is_barred as_action d) && all_taken xs d.params) then called xs d else None
+    if d.is_callable && (not (at_file && is_barred as_action d) && all_taken xs d.params) then filled_call xs d else None
 
 abbrev pub call_rule : Bool → Bool → TypedExprs × Option Called → Option TypedExpr
 call_rule at_file as_action p = call_of at_file as_action p.0 p.1
@@ -276,7 +276,7 @@ is_among x [] = false
 is_among x (y ∷ ys) = if bytes_eq x y then true else is_among x ys
 
 abbrev pub fields_with : Fields → ℕ → ℕ
-fields_with s n = counted struct_cell_limit s.count n
+fields_with s n = counted_to_limit struct_cell_limit s.count n
 
 abbrev pub crosses_fields : Fields → ℕ → Bool
 crosses_fields s n = crosses struct_cell_limit s.count (fields_with s n)

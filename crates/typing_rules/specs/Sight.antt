@@ -246,8 +246,8 @@ cells structs _ = 1
 
 -- ---- cells, counted to one past a limit
 
-abbrev pub counted : ℕ → ℕ → ℕ → ℕ
-counted limit before more = min (before + more) (limit + 1)
+abbrev pub counted_to_limit : ℕ → ℕ → ℕ → ℕ
+counted_to_limit limit before more = min (before + more) (limit + 1)
 
 -- the limit is passed here, and wasn't before
 abbrev pub crosses : ℕ → ℕ → ℕ → Bool
@@ -262,7 +262,7 @@ cell_limit c = if c.at_file then global_cell_limit else frame_cell_limit
 
 -- with so many cells more
 abbrev pub frame_with : Sight → ℕ → ℕ
-frame_with c n = counted (cell_limit c) c.frame n
+frame_with c n = counted_to_limit (cell_limit c) c.frame n
 
 abbrev pub crosses_with : Sight → ℕ → Bool
 crosses_with c n = crosses (cell_limit c) c.frame (frame_with c n)
@@ -329,8 +329,8 @@ declared c x t = record c {
 }
 
 -- a scope begins
-abbrev pub entered : Sight → Sight
-entered c = record c { scope = length c.names; labels = None }
+abbrev pub scope_entered : Sight → Sight
+scope_entered c = record c { scope = length c.names; labels = None }
 
 -- the statement of an `if`
 abbrev pub inside : Sight → Sight
@@ -368,8 +368,8 @@ abbrev pub declaration_seen : Sight → Sight
 declaration_seen c = record c { labels = option_map with_declaration c.labels }
 
 -- the scope of a function's parameters and body begins
-abbrev pub begun : Sight → Option Ty → Sight
-begun c result = record c {
+abbrev pub function_begun : Sight → Option Ty → Sight
+function_begun c result = record c {
   scope = length c.names;
   frame = 0;
   at_file = false;

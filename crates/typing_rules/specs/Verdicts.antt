@@ -20,7 +20,7 @@ use Rattle.typing_rules.specs.declared.places.EntryPoint.{EntryPoint}
 use Rattle.typing_rules.specs.Typed.{TypedExpr, TypedExprs, literal, no_typed, more_typed, TypedName, TypedStmt, TypedStmts, TypedLine, TypedParameter, TypedItem, TypedUnit}
 use Rattle.typing_rules.specs.Nodes.{Verdict, Fine, fine, asked, passed, two, three, four, no_parts, if_there, at, faults_there}
 use Rattle.typing_rules.specs.Sight as sight
-use Rattle.typing_rules.specs.Sight.{Head, Structure, Member, Members, Sight, start, name_means, callee, wanted, type_means, value_type, declared_type, result_type, first_types, cells, cells_if, declared, entered, inside, looped, switched, left, case_seen, default_seen, declaration_seen, begun}
+use Rattle.typing_rules.specs.Sight.{Head, Structure, Member, Members, Sight, start, name_means, callee, wanted, type_means, value_type, declared_type, result_type, first_types, cells, cells_if, declared, scope_entered, inside, looped, switched, left, case_seen, default_seen, declaration_seen, function_begun}
 use Rattle.typing_rules.specs.Rules.{name_rule, name_rows, float_rule, float_rows, call_rule, call_rows, takes_action, others, member_rule, member_rows, prefix_rule, prefix_rows, postfix_rule, postfix_rows, binary_rule, binary_rows, assign_rule, assign_rows, constant_means, constant_rule, constant_rows, constant_type, line_rows, variable_rule, variable_rows, constant_name_rule, constant_name_rows, Fields, no_fields, fields_with, field_rule, field_rows, struct_rule, struct_rows, parameter_rule, parameter_rows, TypedHead, signature_of, head_rule, head_rows, function_rule, function_rows, if_rule, if_rows, if_else_rule, if_else_rows, while_rule, do_rule, do_rows, for_rule, for_rows, switch_rule, switch_rows, break_rule, continue_rule, outside_rows, return_rule, return_rows, case_rule, case_rows, default_rule, default_rows, entry_rule, entry_rows}
 
 -- ---- lists of parts
@@ -131,7 +131,7 @@ names_faults hs c t (d ∷ ds) =
 -- What stands in sight after a statement. Nothing here depends on how its expressions are typed.
 abbrev mutual
   pub after : Sight → SourceStmt → Sight
-  after c (block n xs) = left c (afters (entered c) xs)
+  after c (block n xs) = left c (afters (scope_entered c) xs)
   after c (empty n) = c
   after c (expression n e) = c
   after c (if_only n e a) = left c (after (inside c) a)
@@ -165,7 +165,7 @@ declaration_of n p = declaration n p.0 p.1
 
 abbrev mutual
   pub stmt_verdict : List Head → Sight → SourceStmt → Verdict TypedStmt
-  stmt_verdict hs c (block n xs) = passed (block n) (stmts_fine hs (entered c) xs)
+  stmt_verdict hs c (block n xs) = passed (block n) (stmts_fine hs (scope_entered c) xs)
   stmt_verdict hs c (empty n) = Fine (empty n)
   stmt_verdict hs c (expression n e) = passed (expression n) (value hs c e)
   stmt_verdict hs c (if_only n e a) = asked if_rows (if_rule n) (two (value hs c e) (fine (stmt_verdict hs (inside c) a)))
@@ -187,7 +187,7 @@ abbrev mutual
 
 abbrev mutual
   pub stmt_faults : List Head → Sight → SourceStmt → List Fault
-  stmt_faults hs c (block n xs) = stmts_faults hs (entered c) xs
+  stmt_faults hs c (block n xs) = stmts_faults hs (scope_entered c) xs
   stmt_faults hs c (empty n) = []
   stmt_faults hs c (expression n e) = value_faults hs c e
   stmt_faults hs c (if_only n e a) = (value_faults hs c e ++ stmt_faults hs (inside c) a) ++ at n (stmt_verdict hs c (if_only n e a))
@@ -293,7 +293,7 @@ params_faults c late (p ∷ ps) =
 
 -- where the parameters of a function with this result stand
 abbrev pub in_function : Sight → TypeName → Sight
-in_function c t = begun c (result_type c.structs t)
+in_function c t = function_begun c (result_type c.structs t)
 
 -- and its body
 abbrev pub in_body : Sight → TypeName → List SourceParameter → Sight

@@ -8,7 +8,7 @@ use Rattle.std.proofs.lemmas.Bool.{false≢true, and_parts}
 use Rattle.std.proofs.lemmas.Option.{none-some, same_Some}
 use Rattle.nwq_value.specs.Engine.{IsRoutine}
 use Rattle.nwq_value.specs.Header.{header_routines}
-use Rattle.nwq_value.specs.Roles.{Signature, PureAsHeader, header_signatures, types_of as parameter_types}
+use Rattle.nwq_value.specs.Roles.{Signature, PureAsHeader, header_signatures, types_of_values as parameter_types}
 use Rattle.nwq_value.specs.declared.engine.Param.{Param}
 use Rattle.nwq_value.specs.declared.engine.Role.{Role}
 use Rattle.nwq_value.specs.declared.engine.Role.TheVariants as role
@@ -18,7 +18,7 @@ use Rattle.nwq_value.specs.declared.value.Value.{Value}
 use Rattle.nwq_value.specs.declared.value.Value.TheVariants.{Int, Text, Object, Effect, Event}
 use Rattle.stack_shape.specs.Calls.{argument_types, is_action}
 use Rattle.hook_table.specs.declared.hook.Known.{Known}
-use Rattle.hook_table.specs.Standard.{types_of, IsAnswer}
+use Rattle.hook_table.specs.Standard.{types_of_values, IsAnswer}
 use Rattle.hook_table.specs.Served.{StandardServe}
 use Rattle.world_rules.specs.Arguments.{ints_of}
 use Rattle.world_rules.specs.Pure.{pure}
@@ -93,11 +93,11 @@ mapped_at f (x ∷ xs) (suc n) y is = mapped_at f xs n y is
 pub record IsServed {H : Type 0} (known : H → Known) (hooks : List H) (k : ℕ) (args : List Value) : Type 0 where
   pub hook : H
   pub there : slice_get hooks k ≡ Some hook
-  pub types : types_of args ≡ (known hook).params
+  pub types : types_of_values args ≡ (known hook).params
   pub answers : (v : Value) → IsAnswer (known hook).tables (known hook).name (known hook).result args v → pure (cells_of (map known hooks)) k args ≡ Some v
 
 pub served : {H : Type 0} → (hooks : List H) (known : H → Known) (k : ℕ) (r : Routine) (args : List Value) → PureAsHeader → StandardServe → AreServing (map known hooks) → IsRoutine r → r.role ≡ role.Pure k →
-    types_of args ≡ argument_types r.params → IsServed known hooks k args
+    types_of_values args ≡ argument_types r.params → IsServed known hooks k args
 served hooks known k r args header serve serving is own types =
     let row = header r.name r.result (parameter_types r.params) k (sym is.role ∙ own) in
     let s = serve (map known hooks) (tables_of (map known hooks)) k r.name r.result (parameter_types r.params) serving row in

@@ -2,7 +2,7 @@
 use Rattle.std.specs.Prelude.{◌≡◌, ◌<◌, ◌^◌, ℕ, List, [], Option, None, Some, slice_get}
 use Rattle.hook_table.specs.declared.hook.Known.{Known}
 use Rattle.hook_table.specs.Served.{AreStandard}
-use Rattle.hook_table.specs.Standard.{cell_function, types_of}
+use Rattle.hook_table.specs.Standard.{cell_function, types_of_values}
 use Rattle.nwq_value.specs.Engine.{EngineTable}
 use Rattle.nwq_value.specs.declared.engine.Role.TheVariants.{Pure}
 use Rattle.nwq_value.specs.declared.engine.Routine.{Routine}
@@ -47,7 +47,7 @@ ServeRoutine table n hooks = (r : Routine) (k : ℕ) → slice_get table.routine
 -- the arguments of a call that are values have the types of the routine's parameters, first to last
 abbrev pub FitArguments : EngineTable → ℕ → List Value → Type 0
 FitArguments table n values =
-    (r : Routine) (k : ℕ) → slice_get table.routines n ≡ Some r → r.role ≡ Pure k → types_of values ≡ argument_types r.params
+    (r : Routine) (k : ℕ) → slice_get table.routines n ≡ Some r → r.role ≡ Pure k → types_of_values values ≡ argument_types r.params
 
 -- ---- times and numbers
 

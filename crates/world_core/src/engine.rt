@@ -12,7 +12,7 @@ ghost use Rattle.world_rules.specs.Engine.{by_role, world_value};
 ghost use Rattle.world_rules.specs.Kept.{IsWorld};
 ghost use Rattle.world_rules.specs.Pure.{pure};
 ghost use Rattle.world_rules.specs.World.{count};
-ghost use Rattle.hook_table.specs.Standard.{types_of};
+ghost use Rattle.hook_table.specs.Standard.{types_of_values};
 ghost use Rattle.stack_shape.specs.Calls.{argument_types};
 ghost use Rattle.world_core.specs.Calls.{cells_of, AreServing, IsEarly};
 ghost use Rattle.world_parts.specs.Row.{does};
@@ -143,7 +143,7 @@ fn pure_call(
     requires hooks { AreServing (map (λ h. h.known) hooks.now.all.items) }
     requires routine { IsRoutine routine.now }
     requires role { routine.now.role ≡ role.Pure k }
-    requires types { types_of args.now ≡ argument_types routine.now.params }
+    requires types { types_of_values args.now ≡ argument_types routine.now.params }
     ensures value { IfOk result
         (λ value. value ≡ pure (cells_of (map (λ h. h.known) hooks.now.all.items)) k args.now) }
 {
@@ -218,7 +218,7 @@ pub(crate) fn by_role<X: Drop>(
         → AreServing (map (λ h. h.known) hooks.now.all.items) }
     requires routine { IsRoutine routine.now }
     requires types { (k : ℕ) → routine.now.role ≡ role.Pure k
-        → types_of args ≡ argument_types routine.now.params }
+        → types_of_values args ≡ argument_types routine.now.params }
     ensures ok { IfOk result (λ value. record { value = value; world = parts.new.world }
         ≡ by_role (cells_of (map (λ h. h.known) hooks.now.all.items)) number routine.now
         routine.now.role (call caller args action) parts.old.world) }

@@ -151,9 +151,10 @@ impl<X: Drop> World<X> {
         }
     }
 
-    #[tactic(auto, using(crate::proofs::WorldLemmas::begun_kept))]
     /// Takes the next entry that is due by a time, sets the clock to when it is due, and makes room
     /// for a post.
+    #[inline(always)]
+    #[tactic(auto, using(crate::proofs::WorldLemmas::begun_kept))]
     pub fn begin(&mut self, until: u64) -> Result<Option<Entry<X>>, NoMemory>
         ensures ok { IfOk result (λ entry. IsBegunAs until self.old.world entry self.new.world) }
         ensures begun { IfOk result (λ entry. IfSome entry (λ e. IsBegun until self.old.world

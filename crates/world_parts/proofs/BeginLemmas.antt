@@ -8,7 +8,7 @@ use Rattle.std.proofs.lemmas.Option.{none-some, same_Some}
 use Rattle.delay_agenda.specs.declared.entry.Entry.{Entry}
 use Rattle.delay_agenda.specs.Order.{first_due}
 use Rattle.world_rules.specs.World.{World}
-use Rattle.world_rules.specs.Turns.{begin, begun, user_number, with_entries}
+use Rattle.world_rules.specs.Turns.{begin, entry_begun, user_number, with_entries}
 use Rattle.world_parts.specs.Begun.{IsBegunAs}
 
 one_more_suc : {A : Type 0} → (n : ℕ) (a : A) → replicate n a ++ a ∷ [] ≡ replicate (suc n) a
@@ -36,7 +36,7 @@ if_false false x y is = refl
 
 -- nothing waits
 nothing_in : {X : Type 0} → (until : ℕ) (es : List (Entry X)) (w v : World X) → es ≡ w.agenda.entries → None ≡ slice_get es 0 → v ≡ with_entries (drop 1 es) w → IsBegunAs until w None v
-nothing_in {X = X} until [] w v is none left = (ap (λ (es : List (Entry X)). begun until es w) (sym is), left ∙ ap (λ (es : List (Entry X)). with_entries es w) is)
+nothing_in {X = X} until [] w v is none left = (ap (λ (es : List (Entry X)). entry_begun until es w) (sym is), left ∙ ap (λ (es : List (Entry X)). with_entries es w) is)
 nothing_in until (e ∷ es) w v is none left = absurd (none-some e none)
 
 pub nothing_begun : {X : Type 0} → (until : ℕ) (w v : World X) → None ≡ slice_get w.agenda.entries 0 → v ≡ with_entries (drop 1 w.agenda.entries) w → IsBegunAs until w None v
@@ -51,7 +51,7 @@ first_in : {X : Type 0} → (until : ℕ) (es : List (Entry X)) (w v : World X) 
 first_in until [] w v e is some due left = absurd (none-some e (sym some))
 first_in {X = X} until (x ∷ rest) w v e is some due left =
     let same : x ≡ e = sym (same_Some e x some) in
-    ap (λ (es : List (Entry X)). begun until es w) (sym is)
+    ap (λ (es : List (Entry X)). entry_begun until es w) (sym is)
     ∙ (if_true (nat_le x.due until) (Some (record { entry = x; world = started x rest w })) None (le_true x.due until due)
     ∙ (ap (λ (y : Entry X). Some (record { entry = y; world = started y rest w })) same ∙ ap (λ (u : World X). Some (record { entry = e; world = u })) (sym left)))
 
@@ -64,14 +64,14 @@ none_due_in : {X : Type 0} → (until due : ℕ) (es : List (Entry X)) (w : Worl
 none_due_in until due [] w is some late = absurd (none-some due (sym some))
 none_due_in {X = X} until due (x ∷ rest) w is some late =
     let same = same_Some due x.due some in
-    ap (λ (es : List (Entry X)). begun until es w) (sym is)
+    ap (λ (es : List (Entry X)). entry_begun until es w) (sym is)
     ∙ if_false (nat_le x.due until) (Some (record { entry = x; world = started x rest w })) None (gt_false x.due until (omega (arith, late, same)))
 
 pub none_due : {X : Type 0} → (until due : ℕ) (w : World X) → Some due ≡ first_due w.agenda.entries → until < due → begin until w ≡ None
 none_due until due w some late = none_due_in until due w.agenda.entries w refl some late
 
 nothing_waits_in : {X : Type 0} → (until : ℕ) (es : List (Entry X)) (w : World X) → es ≡ w.agenda.entries → None ≡ first_due es → begin until w ≡ None
-nothing_waits_in {X = X} until [] w is none = ap (λ (es : List (Entry X)). begun until es w) (sym is)
+nothing_waits_in {X = X} until [] w is none = ap (λ (es : List (Entry X)). entry_begun until es w) (sym is)
 nothing_waits_in until (x ∷ rest) w is none = absurd (none-some x.due none)
 
 pub nothing_waits : {X : Type 0} → (until : ℕ) (w : World X) → None ≡ first_due w.agenda.entries → begin until w ≡ None

@@ -7,7 +7,7 @@ use Rattle.std.proofs.lemmas.List as lists
 use Rattle.std.proofs.lemmas.Bool.{false≢true, and_parts}
 use Rattle.std.proofs.lemmas.Bool.Decides.{nat_tests}
 use Rattle.nwq_value.specs.Limits.{text_limit}
-use Rattle.gff_tree.specs.Tree.{PlainNode, PlainFields, PlainLeaf, PlainNodes, Scalar, Struct, NoField, MoreFields, Holds, Child, Children, NoNode, MoreNodes, Byte, Char, Word, Short, Dword, Int, Dword64, Int64, Float, Double, Str, Res, Localized, Void, fields_in, nodes_in, labels_of, are_distinct, resource_limit, depth_limit, is_sound, is_sound_node, are_sound_fields, is_sound_leaf, are_sound_nodes}
+use Rattle.gff_tree.specs.Tree.{PlainNode, PlainFields, PlainLeaf, PlainNodes, Scalar, Struct, NoField, MoreFields, Holds, Child, Children, NoNode, MoreNodes, Byte, Char, Word, Short, Dword, Int, Dword64, Int64, Float, Double, Str, Res, Localized, Void, fields_in, nodes_in, labels_of, are_distinct, resource_limit, struct_depth_limit, is_sound, is_sound_node, are_sound_fields, is_sound_leaf, are_sound_nodes}
 use Rattle.gff_tree.specs.Fields.{found}
 use Rattle.area_rules.specs.Objects.{Script, AreaObject, structs_in, scripts_in, with_script, object_of, objects_of, objects_under, list_labels}
 use Rattle.area_rules.specs.Area.{PlainArea, IsArea, bare, object, object_at, script_named, top_of}
@@ -107,7 +107,7 @@ short_bare (x ∷ xs) all = (all.0, short_bare xs all.1)
 short_area : (area : PlainArea) → IsArea area → HaveShort area.objects
 unfolding is_sound
 short_area area is =
-    short_bare area.objects (subst HaveShort (sym is.same) (bare_short (objects_of (top_of area)) (short_top depth_limit (top_of area) is.sound)))
+    short_bare area.objects (subst HaveShort (sym is.same) (bare_short (objects_of (top_of area)) (short_top struct_depth_limit (top_of area) is.sound)))
 
 short_at : (objects : List AreaObject) (i : ℕ) → HaveShort objects → AreShort (object_at objects i).scripts
 short_at [] i all = tt

@@ -335,6 +335,7 @@ impl<X: Drop> Parts<X> {
     }
 
     /// Takes the first entry that waits off the agenda; all else stays.
+    #[inline(always)]
     pub fn take_entry(&mut self) -> Option<Entry<X>>
         ensures taken { result ≡ slice_get self.old.world.agenda.entries 0 }
         ensures left { self.new.world

@@ -40,6 +40,7 @@ fn user_number<X>(kind: &Kind<X>) -> i32
 
 impl<X: Drop> Parts<X> {
     /// Takes the first entry that waits, and sets the clock to when it is due.
+    #[inline(always)]
     #[tactic(auto, using(crate::proofs::BeginLemmas::first_entry))]
     fn begin_first(&mut self, until: u64) -> Option<Entry<X>>
         requires due { IfSome (first_due self.old.world.agenda.entries) (λ due. due ≤ until) }
@@ -55,6 +56,7 @@ impl<X: Drop> Parts<X> {
     }
 
     /// Takes the next entry that is due by a time, and sets the clock to when it is due.
+    #[inline(always)]
     #[tactic(auto, using(crate::proofs::BeginLemmas::no_entry))]
     pub fn begin(&mut self, until: u64) -> Option<Entry<X>>
         ensures begun { IsBegunAs until self.old.world result self.new.world }

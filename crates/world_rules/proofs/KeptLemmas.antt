@@ -43,7 +43,7 @@ length_object : {X : Type 0} (o : ℕ) (change : Things X → Things X) (ts : Li
 length_object zero change ts = refl
 length_object (suc i) change ts = length_changed i change ts
 
-length_area : (i : ℕ) (change : List Variable → List Variable) (objects : List AreaObject) → length (areas.changed_at i change objects) ≡ length objects
+length_area : (i : ℕ) (change : List Variable → List Variable) (objects : List AreaObject) → length (areas.variables_changed_at i change objects) ≡ length objects
 length_area i change [] = refl
 length_area zero change (object ∷ objects) = refl
 length_area (suc i) change (object ∷ objects) = ap suc (length_area i change objects)

@@ -2,7 +2,7 @@
 use Rattle.std.proofs.Common.{arith, ◌≡◌, ℕ, zero, suc, Bool, true, false, Option, None, Some, refl, ap, ◌∙◌, zero-add}
 use Rattle.std.specs.Prelude.{◌+◌, ◌==◌, if◌then◌else◌}
 use Rattle.world_rules.specs.Turns.{Begun, begin}
-use Rattle.world_rules.specs.Plays.{Runner, Bounds, Progress, Played, entered, further, full, after_entry, next_entry, plays}
+use Rattle.world_rules.specs.Plays.{Runner, Bounds, Progress, Played, entry_entered, further, full, after_entry, next_entry, plays}
 use Rattle.world_rules.specs.GoingOn.{PlaysGoOn, continued}
 
 module _ {X : Type 0} (runner : Runner X) (bounds : Bounds) (more : ℕ) where
@@ -21,7 +21,7 @@ module _ {X : Type 0} (runner : Runner X) (bounds : Bounds) (more : ℕ) where
   next_goes : (whole go : Progress X → Played X) → Goes whole go → (b : Option (Begun X)) (p : Progress X)
       → next_entry runner b p whole ≡ continued runner bounds more (next_entry runner b p go).ending (next_entry runner b p go)
   next_goes whole go goes None p = refl
-  next_goes whole go goes (Some b) p = after_goes whole go goes (entered runner b).stopped (further (entered runner b) p)
+  next_goes whole go goes (Some b) p = after_goes whole go goes (entry_entered runner b).stopped (further (entry_entered runner b) p)
 
   turn_goes : (whole go : Progress X → Played X) → Goes whole go → (b : Option (Begun X)) (is_full : Bool) (p : Progress X) →
       let one = if is_full then record { ending = full b; last = p } else next_entry runner b p go in

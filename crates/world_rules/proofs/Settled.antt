@@ -14,9 +14,9 @@ use Rattle.delay_agenda.specs.declared.entry.Kind.TheVariants.{Event, Stored, Tu
 use Rattle.world_rules.specs.declared.data.Told.TheVariants as line
 use Rattle.world_rules.specs.World.{World, count, is_valid, queue_in, queue_of}
 use Rattle.world_rules.specs.Changes.{told, later, with_actions, with_busy}
-use Rattle.world_rules.specs.Turns.{Planned, idle, still, with_planned, new_world, user_number, Begun, with_entries, begun, begin, next_turn, turn_done, Turned, turned, turn, unapply, fault, drained}
+use Rattle.world_rules.specs.Turns.{Planned, idle, still, with_planned, new_world, user_number, Begun, with_entries, entry_begun, begin, next_turn, turn_done, Turned, turned, turn, unapply, fault, drained}
 use Rattle.world_rules.specs.Engine.{no_script}
-use Rattle.world_rules.specs.Plays.{Ending, Over, Divided, Stopped, Run, Runner, Entered, quiet, finished_as, finished, named_entry, event_entry, turn_entry, entered_as, entered, Progress, further, Done, Paused, PlayEnd, Played, Bounds, full, after_entry, next_entry, plays}
+use Rattle.world_rules.specs.Plays.{Ending, Over, Divided, Stopped, Run, Runner, Entered, quiet, finished_as, finished, named_entry, event_entry, turn_entry, entered_as, entry_entered, Progress, further, Done, Paused, PlayEnd, Played, Bounds, full, after_entry, next_entry, plays}
 use Rattle.world_rules.specs.Kept.{IsPlaced, IsWorld, IsActing, IsSettled, IsStep, IsBegun}
 use Rattle.world_rules.specs.InPlan.{StaysInPlan}
 use Rattle.world_rules.specs.Settled.{IsBetween, IsLed, stays_so, stays_on, KeepsToEngine, NewIsBetween, IsPlanned, NewIsPlanned, IsEntered, EntriesSettle, HasSettled, PlaysSettle}
@@ -228,18 +228,18 @@ module _ {X : Type 0} (laws : AgendaLaws X) (runner : Runner X) (keeps : KeepsTo
 
     begun_if : (c : Bool) (e : Entry X) (rest : List (Entry X)) (w : World X) → w.agenda.entries ≡ e ∷ rest → IsBetween w
         → IfSome (if c then Some (begun_as e rest w) else None) (IsBegun until w)
-        → IfSome (if c then Some (begun_as e rest w) else None) (λ b. IsEntered until w (entered runner b))
-    begun_if true e rest w same b k = entered_from w (begun_as e rest w).world (entered runner (begun_as e rest w)) k.plan
+        → IfSome (if c then Some (begun_as e rest w) else None) (λ b. IsEntered until w (entry_entered runner b))
+    begun_if true e rest w same b k = entered_from w (begun_as e rest w).world (entry_entered runner (begun_as e rest w)) k.plan
         (entered_settles e.kind e.number (begun_as e rest w).world k.world
         (subst (λ n. IsPlaced n e.kind) (sym k.objects) k.placed) k.acting (begun_awaits until e.kind e rest w same refl b.settled))
     begun_if false e rest w same b k = tt
 
-    begun_settles : (es : List (Entry X)) (w : World X) → w.agenda.entries ≡ es → IsBetween w → IfSome (begun until es w) (IsBegun until w)
-        → IfSome (begun until es w) (λ b. IsEntered until w (entered runner b))
+    begun_settles : (es : List (Entry X)) (w : World X) → w.agenda.entries ≡ es → IsBetween w → IfSome (entry_begun until es w) (IsBegun until w)
+        → IfSome (entry_begun until es w) (λ b. IsEntered until w (entry_entered runner b))
     begun_settles [] w same b k = tt
     begun_settles (e ∷ rest) w same b k = begun_if (nat_le e.due until) e rest w same b k
 
-    pub entry_settles : (w : World X) → IsBetween w → IfSome (begin until w) (λ b. IsEntered until w (entered runner b))
+    pub entry_settles : (w : World X) → IsBetween w → IfSome (begin until w) (λ b. IsEntered until w (entry_entered runner b))
     entry_settles w b = begun_settles w.agenda.entries w refl b (begin_keeps take until w b.world)
 
 module _ {X : Type 0} (laws : AgendaLaws X) (take : TakeKeeps X) (runner : Runner X) (keeps : KeepsToEngine runner) (bounds : Bounds) where
@@ -285,10 +285,10 @@ module _ {X : Type 0} (laws : AgendaLaws X) (take : TakeKeeps X) (runner : Runne
       }
 
   next_settles_play : (left : ℕ) (go : Progress X → Played X) → Goes left go → (b : Option (Begun X)) (p : Progress X) → p.entries ≢ bounds.entries
-      → IsBetween p.world → IfSome b (λ b. IsEntered bounds.until p.world (entered runner b)) → HasSettled bounds (suc left) p (next_entry runner b p go)
+      → IsBetween p.world → IfSome b (λ b. IsEntered bounds.until p.world (entry_entered runner b)) → HasSettled bounds (suc left) p (next_entry runner b p go)
   next_settles_play left go goes None p apart between k = stays_played Done (suc left) p between
   next_settles_play left go goes (Some b) p apart between k =
-      after_settles left go goes (entered runner b) p apart k (entered runner b).stopped refl
+      after_settles left go goes (entry_entered runner b) p apart k (entry_entered runner b).stopped refl
 
   turn_settled : (left : ℕ) (go : Progress X → Played X) → Goes left go → (is_full : Bool) (p : Progress X) → (p.entries == bounds.entries) ≡ is_full
       → IsBetween p.world → HasSettled bounds (suc left) p

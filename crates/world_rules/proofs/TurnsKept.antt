@@ -15,7 +15,7 @@ use Rattle.world_rules.specs.declared.data.Stood.{Stood}
 use Rattle.world_rules.specs.declared.data.Told.TheVariants as line
 use Rattle.world_rules.specs.World.{World, count, queue_of, effects_of}
 use Rattle.world_rules.specs.Changes.{told, later, with_actions, with_busy, with_effects, without_first, is_numbered}
-use Rattle.world_rules.specs.Turns.{Planned, idle, still, with_planned, user_number, with_entries, begun, next_turn, turn_done, turned, expired, unapply, fault, drained}
+use Rattle.world_rules.specs.Turns.{Planned, idle, still, with_planned, user_number, with_entries, entry_begun, next_turn, turn_done, turned, expired, unapply, fault, drained}
 use Rattle.world_rules.specs.Engine.{no_script, too_deep}
 use Rattle.world_rules.specs.Settled.{stays_on}
 use Rattle.world_rules.specs.Kept.{IsPlaced, turns_allowed, IsWorld, IsActing, IsBegun, IsTurned, IsDone, NewIsWorld, BeginKeeps, TurnKeeps, TurnDoneKeeps, UnapplyKeeps, FaultKeeps, NoScriptKeeps, TooDeepKeeps, DrainedKeeps}
@@ -184,7 +184,7 @@ begun_if take true until e rest w same due h =
     }
 begun_if take false until e rest w same due h = tt
 
-begun_keeps : {X : Type 0} (take : TakeKeeps X) (until : ℕ) (es : List (Entry X)) (w : World X) → w.agenda.entries ≡ es → IsWorld w → IfSome (begun until es w) (IsBegun until w)
+begun_keeps : {X : Type 0} (take : TakeKeeps X) (until : ℕ) (es : List (Entry X)) (w : World X) → w.agenda.entries ≡ es → IsWorld w → IfSome (entry_begun until es w) (IsBegun until w)
 begun_keeps take until [] w same h = tt
 begun_keeps take until (e ∷ rest) w same h = begun_if take (nat_le e.due until) until e rest w same (λ due. grind (arith, nat_tests, due)) h
 

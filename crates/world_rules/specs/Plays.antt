@@ -80,8 +80,8 @@ entered_as runner (Stored o x) number w = finished (λ v. v) (runner.stored x o 
 entered_as runner (Turn o) number w = turn_entry runner o (turn o w).action (turn o w).world
 entered_as runner (Unapply o) number w = quiet (unapply o number w)
 
-abbrev pub entered : {X : Type 0} → Runner X → Begun X → Entered X
-entered runner b = entered_as runner b.entry.kind b.entry.number b.world
+abbrev pub entry_entered : {X : Type 0} → Runner X → Begun X → Entered X
+entry_entered runner b = entered_as runner b.entry.kind b.entry.number b.world
 
 -- ---- entry after entry
 
@@ -137,7 +137,7 @@ after_entry false p go = go p
 -- the entry that is begun, where one is due, and the play from there on
 abbrev pub next_entry : {X : Type 0} → Runner X → Option (Begun X) → Progress X → (Progress X → Played X) → Played X
 next_entry runner None p go = record { ending = Done; last = p }
-next_entry runner (Some b) p go = let e = entered runner b in after_entry e.stopped (further e p) go
+next_entry runner (Some b) p go = let e = entry_entered runner b in after_entry e.stopped (further e p) go
 
 -- the play from here on, which is broken off once so many further entries were taken
 abbrev pub plays : {X : Type 0} → Runner X → Bounds → ℕ → Progress X → Played X

@@ -7,7 +7,7 @@ use Rattle.world_rules.specs.World.{World, count}
 use Rattle.world_rules.specs.InPlan.{IsDueBy, StaysInPlan}
 use Rattle.world_rules.specs.Kept.{IsWorld, IsActing, IsSettled, IsStep}
 use Rattle.world_rules.specs.Turns.{Planned, new_world, begin}
-use Rattle.world_rules.specs.Plays.{Runner, Entered, Bounds, Progress, Played, StoppedInside, entered, plays}
+use Rattle.world_rules.specs.Plays.{Runner, Entered, Bounds, Progress, Played, StoppedInside, entry_entered, plays}
 
 -- A world between two entries: each object is busy exactly where it has a Turn on the agenda, which
 -- is then its only one, and an object that isn't busy has nothing to do.
@@ -87,7 +87,7 @@ pub record IsEntered {X : Type 0} (until : ℕ) (w : World X) (e : Entered X) : 
 
 abbrev pub EntriesSettle : Type 0 → Type 0
 EntriesSettle X = (runner : Runner X) (until : ℕ) (w : World X) → KeepsToEngine runner → IsBetween w
-    → IfSome (begin until w) (λ b. IsEntered until w (entered runner b))
+    → IfSome (begin until w) (λ b. IsEntered until w (entry_entered runner b))
 
 -- The same of a play from a world on that is between entries: it stays in its plan, takes no more
 -- entries than it may, and none more than it was to take.

@@ -13,7 +13,7 @@ use Rattle.world_rules.specs.declared.data.Stood.{Stood}
 use Rattle.world_rules.specs.declared.data.Told.TheVariants as line
 use Rattle.world_rules.specs.World.{World, queue_of, effects_of}
 use Rattle.world_rules.specs.Changes.{told, post, later, with_actions, with_effects, without_first, is_numbered}
-use Rattle.world_rules.specs.Turns.{Planned, idle, still, with_planned, new_world, user_number, with_entries, begun, begin, next_turn, turn_done, turned, turn, expired, unapply}
+use Rattle.world_rules.specs.Turns.{Planned, idle, still, with_planned, new_world, user_number, with_entries, entry_begun, begin, next_turn, turn_done, turned, turn, expired, unapply}
 use Rattle.world_rules.specs.Mapped.{map_kind, map_entry, map_item, map_things, map_world, map_begun, map_turned}
 use Rattle.world_rules.specs.WorldMaps.{map_if, post_map, queue_map, effects_map, with_effects_map, with_actions_map, with_busy_map}
 
@@ -43,7 +43,7 @@ user_map f (Turn o) = refl
 user_map f (Unapply o) = refl
 
 begun_map : {X Y : Type 0} (f : X → Y) (until : ℕ) (es : List (Entry X)) (w : World X)
-    → begun until (map (map_entry f) es) (map_world f w) ≡ option_map (map_begun f) (begun until es w)
+    → entry_begun until (map (map_entry f) es) (map_world f w) ≡ option_map (map_begun f) (entry_begun until es w)
 begun_map f until [] w = refl
 begun_map f until (e ∷ rest) w =
     ap (λ (n : ℤ). if nat_le e.due until then Some (record { entry = map_entry f e; world = record (with_entries (map (map_entry f) rest) (map_world f w)) { clock = e.due; user = n } }) else None)

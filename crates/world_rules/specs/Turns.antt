@@ -62,15 +62,15 @@ pub record Begun (X : Type 0) : Type 0 where
 abbrev pub with_entries : {X : Type 0} → List (Entry X) → World X → World X
 with_entries entries w = record w { agenda = record w.agenda { entries = entries } }
 
-abbrev pub begun : {X : Type 0} → ℕ → List (Entry X) → World X → Option (Begun X)
-begun until [] w = None
-begun until (e ∷ rest) w =
+abbrev pub entry_begun : {X : Type 0} → ℕ → List (Entry X) → World X → Option (Begun X)
+entry_begun until [] w = None
+entry_begun until (e ∷ rest) w =
     if nat_le e.due until
     then Some (record { entry = e; world = record (with_entries rest w) { clock = e.due; user = user_number e.kind } }) else None
 
 -- the entry that is taken next, where one is due by this time: the clock goes on to when it is due
 abbrev pub begin : {X : Type 0} → ℕ → World X → Option (Begun X)
-begin until w = begun until w.agenda.entries w
+begin until w = entry_begun until w.agenda.entries w
 
 -- ---- a Turn
 

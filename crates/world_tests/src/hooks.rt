@@ -1,6 +1,6 @@
 ghost use Rattle.std.specs.Prelude.{◌≡◌, ◌≤◌, ◌∷◌, [], codes, IfOk};
 ghost use Rattle.nwq_value.specs.declared.value.Ty.TheVariants.{Int as IntTy, Text as TextTy};
-ghost use Rattle.hook_table.specs.Standard.{IsAnswer, types_of};
+ghost use Rattle.hook_table.specs.Standard.{IsAnswer, types_of_values};
 
 use hook_table::*;
 use nwq_value::*;
@@ -101,7 +101,7 @@ fn functions_answer(rt: HostRuntime) -> Result<(), Fail> {
 }
 
 fn ints(alloc: Global, first: i32) -> Result<Args, NoMemory>
-    ensures types { IfOk result (λ args. types_of args ≡ IntTy ∷ []) }
+    ensures types { IfOk result (λ args. types_of_values args ≡ IntTy ∷ []) }
 {
     let mut args = Args::new(alloc);
     args.push(Value::Int(first))?;
@@ -109,7 +109,7 @@ fn ints(alloc: Global, first: i32) -> Result<Args, NoMemory>
 }
 
 fn texts_and(alloc: Global, bytes: &[u8], other: &[u8], n: i32) -> Result<Args, NoMemory>
-    ensures types { IfOk result (λ args. types_of args ≡ TextTy ∷ TextTy ∷ IntTy ∷ []) }
+    ensures types { IfOk result (λ args. types_of_values args ≡ TextTy ∷ TextTy ∷ IntTy ∷ []) }
 {
     let bytes = Text::of(alloc, bytes)?;
     let other = Text::of(alloc, other)?;

@@ -2,7 +2,7 @@ use Rattle.std.proofs.Common.{◌++◌, map, refl, ap, sym, subst, ◌∙◌}
 use Rattle.world_rules.specs.Trace.{trace_text}
 use Rattle.world_core.specs.Calls.{cells_of}
 use Rattle.ncs_machine.specs.Host.{scripts_of}
-use Rattle.command_plays.specs.Plays.{played}
+use Rattle.command_plays.specs.Plays.{plan_played}
 use Rattle.play_worlds.specs.Worlds.{begun_by, plan_world}
 use Rattle.trace_lines.specs.Lines.{HasPlainNames}
 use Rattle.command_generate.proofs.play.play_over.Goals as goal
@@ -11,7 +11,7 @@ pub returns-clause-does : goal.returns-clause-does
 returns-clause-does g c = λ tells d.
     let cell = cells_of (map (λ h. h.known) c.args.hooks.now.all.items) in
     let plan = c.args.plan.now in
-    let p = played cell c.args.table.now plan (scripts_of c.args.scripts.now) (plan_world c.args.area plan) in
+    let p = plan_played cell c.args.table.now plan (scripts_of c.args.scripts.now) (plan_world c.args.area plan) in
     let names = subst HasPlainNames (sym c.requires.header) c.plays_tell_lines.ensures.built_in in
     let lines = c.plays_tell_lines.ensures.lines (scripts_of c.args.scripts.now) (record { table = c.args.table.now; cell = cell }) plan.limit plan.entries plan.until c.args.area
     plan.random (map (begun_by c.args.area) plan.events) plan.version names in

@@ -3,13 +3,13 @@ use Rattle.world_rules.specs.Trace.{trace_text}
 use Rattle.world_core.specs.Calls.{cells_of}
 use Rattle.ncs_machine.specs.Host.{scripts_of}
 use Rattle.command_work.specs.Counts.{Counted, Tallies}
-use Rattle.command_plays.specs.Scripts.{played}
+use Rattle.command_plays.specs.Scripts.{run_played}
 use Rattle.command_run.proofs.TellLemmas.{trace_cut, trace_whole}
 use Rattle.command_run.proofs.play.play_world.Goals as goal
 
 pub returns-in-Err-clause-does : goal.returns-in-Err-clause-does
 returns-in-Err-clause-does g c = λ tells d.
-    let p = played (cells_of (map (λ h. h.known) c.args.hooks.now.all.items)) c.args.table.now (scripts_of c.args.scripts.now) c.args.world.world in
+    let p = run_played (cells_of (map (λ h. h.known) c.args.hooks.now.all.items)) c.args.table.now (scripts_of c.args.scripts.now) c.args.world.world in
     trace_cut (scripts_of c.args.scripts.now) p d (g.S.Sink.taken c.args.out.now) (g.S.Sink.taken c.play-played.new.out) c.in-Err.status
     (c.in-Err.ensures.trace (trace_text p.last.trace) (g.S.Sink.taken c.args.out.now) (g.S.Sink.taken c.play-played.new.out) (c.play-played.ensures.trace tells))
 
@@ -19,7 +19,7 @@ returns-in-Err-clause-counts g c = λ counts.
 
 pub returns-in-Ok-clause-does : goal.returns-in-Ok-clause-does
 returns-in-Ok-clause-does g c = λ tells d.
-    let p = played (cells_of (map (λ h. h.known) c.args.hooks.now.all.items)) c.args.table.now (scripts_of c.args.scripts.now) c.args.world.world in
+    let p = run_played (cells_of (map (λ h. h.known) c.args.hooks.now.all.items)) c.args.table.now (scripts_of c.args.scripts.now) c.args.world.world in
     trace_whole (scripts_of c.args.scripts.now) p d (g.S.Sink.taken c.args.out.now) (g.S.Sink.taken c.play-played.new.out) c.tell_end.result
     (g.S.Sink.taken c.tell_end.new.out)
     (c.in-Ok.ensures.trace (trace_text p.last.trace) (g.S.Sink.taken c.args.out.now) (g.S.Sink.taken c.play-played.new.out) (c.play-played.ensures.trace tells))

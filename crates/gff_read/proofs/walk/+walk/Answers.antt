@@ -5,7 +5,7 @@ use Rattle.gff_tree.specs.declared.tree.Leaf.TheViews as views
 use Rattle.gff_tree.specs.declared.tree.Field.{Field}
 use Rattle.gff_tree.specs.declared.tree.Node.{Node}
 use Rattle.gff_tree.specs.Tree.{fields_list, nodes_list}
-use Rattle.gff_read.specs.declared.row.Row.{Row}
+use Rattle.gff_read.specs.declared.row.FieldRow.{FieldRow}
 use Rattle.gff_read.specs.Charge.{rows_charge, fields_charge, nodes_charge}
 use Rattle.gff_read.proofs.ChargeLemmas.{fields_charge_push, nodes_charge_push}
 use Rattle.gff_read.specs.Held.{plain_row}
@@ -47,7 +47,7 @@ read_fields-loop-row-preserved t c =
         arith,
         c.loop-row.invariant.charged,
         c.in_ok-leaf.ensures.charged,
-        ap (λ (rs : List Row). rows_charge (map plain_row rs)) c.in-Some.ensures.steps.0,
+        ap (λ (rs : List FieldRow). rows_charge (map plain_row rs)) c.in-Some.ensures.steps.0,
         ap (λ (fs : List Field). fields_charge (fields_list fs)) c.in_ok-push.ensures.items,
         fields_charge_push c.loop-row.fields.items field,
       );

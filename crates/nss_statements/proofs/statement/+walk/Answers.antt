@@ -9,7 +9,7 @@ use Rattle.nss_tree.specs.Statements.{map_stmt, more_stmts, no_stmt}
 use Rattle.typing_rules.specs.Nodes.{asked, at, faults_there, fine, four, if_there, kept, passed, three, two}
 use Rattle.typing_rules.specs.Reading.{plain}
 use Rattle.typing_rules.specs.Rules.{do_rows, do_rule, for_rows, for_rule, if_else_rows, if_else_rule, if_rows, if_rule, while_rule}
-use Rattle.typing_rules.specs.Sight.{entered, inside, left, looped, switched}
+use Rattle.typing_rules.specs.Sight.{scope_entered, inside, left, looped, switched}
 use Rattle.typing_rules.specs.UnitReading.{typed_stmt, typed_stmts}
 use Rattle.typing_rules.specs.Verdicts.{after, afters, stmt_faults, stmt_verdict, stmts_faults, stmts_fine, value, value_faults}
 use Rattle.nss_statements.specs.Faults.{switch_rows_by, switch_rule_by}
@@ -255,8 +255,8 @@ block-returns t c =
       value = c.made_block.ensures.made ∙ ap (λ o. fine (passed (tree.block c.args.token) o)) (c.in_ok-typed.ensures.value ∙ ap (λ k. stmts_fine hs k xs) is);
       least = c.in_ok-typed.ensures.least ∙ ap (λ k. kept c.args.least.now (stmts_faults hs k xs)) is;
       sight =
-          c.scopes_are_left.ensures.left c.args.given.now.table.now c.args.sight.now c.statements-typed.new.sight c.leave.new.self c.enter-mark.result (entered s) (afters (entered s) xs)
-          refl refl refl refl (c.scopes_only_add.ensures.statements (entered s) xs) c.leave.ensures.left c.enter-mark.ensures.mark (c.in_ok-typed.ensures.sight ∙ ap (λ k. afters k xs) is);
+          c.scopes_are_left.ensures.left c.args.given.now.table.now c.args.sight.now c.statements-typed.new.sight c.leave.new.self c.enter-mark.result (scope_entered s) (afters (scope_entered s) xs)
+          refl refl refl refl (c.scopes_only_add.ensures.statements (scope_entered s) xs) c.leave.ensures.left c.enter-mark.ensures.mark (c.in_ok-typed.ensures.sight ∙ ap (λ k. afters k xs) is);
     }
 
 pub if_only-returns-in-Ok : goal.if_only-returns-in-Ok

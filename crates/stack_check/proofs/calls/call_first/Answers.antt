@@ -1,13 +1,13 @@
 use Rattle.std.proofs.Common.{None, refl, subst}
 use Rattle.stack_shape.specs.declared.shape.Entry.TheVariants.{Called}
-use Rattle.stack_check.specs.Inference.{Begins}
+use Rattle.stack_check.specs.Inference.{TrialBegins}
 use Rattle.stack_check.proofs.Calling.{call_begins}
 use Rattle.stack_check.proofs.CallSteps.{first_in}
 use Rattle.stack_check.proofs.calls.call_first.Goals as goal
 
 pub begin-requires-clause-begins : goal.begin-requires-clause-begins
 begin-requires-clause-begins c =
-    subst (λ target. Begins c.args.table.now c.args.code.now c.args.heap.now
+    subst (λ target. TrialBegins c.args.table.now c.args.code.now c.args.heap.now
     (record { entry = Called target; taken = c.args.from.held.cells; under = c.args.from.held.under; given = None; unseen = record { cells = c.depth.result; under = c.depth-2.result }; at_first = record { cells = c.depth.result; under = c.depth-2.result } }))
     c.requires.op.leads
     (call_begins c.args.table.now c.args.code.now c.args.heap.now c.args.facts.now c.args.from.trial c.args.from.place c.requires.op.offset c.args.from.held _

@@ -2,7 +2,7 @@ use Rattle.std.proofs.Common.{Ok, length, sym, subst, ◌∙◌}
 use Rattle.std.specs.Option.{option_map}
 use Rattle.table_2da.specs.Grammar.{IsColumns}
 use Rattle.table_2da.specs.Ranges.{cells_at, rows_at, StandsAt}
-use Rattle.table_2da.specs.Steps.{Found, StopsAt, ReadsOn, ThirdOn}
+use Rattle.table_2da.specs.Steps.{Found, TableStopsAt, ReadsOn, ThirdOn}
 use Rattle.table_2da.proofs.RangeLemmas.{line_there}
 use Rattle.table_2da.proofs.RowLemmas.{cells_count}
 use Rattle.table_2da.proofs.TableLemmas.{third_missing, third_bad, third_rows, third_fault}
@@ -27,7 +27,7 @@ returns-in-Err c =
     let are = subst (λ columns. Found (IsColumns c.in-Some.line.bytes.now) (option_map (cells_at c.args.file.now) columns)) c.in-Some-2.is c.in_ok-columns.ensures.columns in
     record {
       comes = third_fault c.args.lines.now.left _ c.in-Some.line.bytes.now (cells_at c.args.file.now c.in-Some-2.columns) c.in-Err.fault c.in-Some.ensures.first are
-          (subst (λ n. StopsAt n c.next_line.new.self.left c.in-Err.fault) (c.len.ensures.len ∙ sym (cells_count c.args.file.now c.in-Some-2.columns)) c.in-Err.ensures.fault);
+          (subst (λ n. TableStopsAt n c.next_line.new.self.left c.in-Err.fault) (c.len.ensures.len ∙ sym (cells_count c.args.file.now c.in-Some-2.columns)) c.in-Err.ensures.fault);
     }
 
 pub returns-in_ok-of-in-Ok : goal.returns-in_ok-of-in-Ok

@@ -1,5 +1,5 @@
 use Rattle.std.proofs.Common.{◌≡◌, sym}
-use Rattle.hook_table.specs.Standard.{types_of, IsAnswer}
+use Rattle.hook_table.specs.Standard.{types_of_values, IsAnswer}
 use Rattle.world_core.proofs.EngineLemmas.{served, inside, of_some, for_some}
 use Rattle.world_core.proofs.engine.pure_call.Goals as goal
 
@@ -11,7 +11,7 @@ call-requires-clause-hook g c =
 pub call-requires-clause-types : goal.call-requires-clause-types
 call-requires-clause-types g c =
     let s = served c.args.hooks.now.all.items (λ h. h.known) c.args.k c.args.routine.now c.args.args.now c.roles_tell.ensures.hooks c.standard_hooks_serve.ensures.serve c.requires.hooks c.requires.routine c.requires.role c.requires.types in
-    λ h is. for_some (λ x. types_of c.args.args.now ≡ x.known.params) _ s.hook h s.there is s.types
+    λ h is. for_some (λ x. types_of_values c.args.args.now ≡ x.known.params) _ s.hook h s.there is s.types
 
 pub returns-in-Ok : goal.returns-in-Ok
 returns-in-Ok g c =
