@@ -24,7 +24,8 @@ use Rattle.codegen_expr.specs.Emitted.{CanBeEmitted, extended}
 use Rattle.codegen_unit.specs.declared.exits.Target.{Target}
 use Rattle.codegen_unit.specs.declared.exits.Exits as code
 use Rattle.codegen_unit.specs.Ready.{IsMade, IsPartReady, LoopReady, NamesReady, StmtReady, StmtsReady, SwitchReady, depth_of, label_of, leads, plain_exits}
-use Rattle.codegen_unit.proofs.Bounded.{grows, stmt_grows, stmts_grow, extended_none}
+use Rattle.codegen_expr.specs.BoundLemmas.{grows}
+use Rattle.codegen_unit.proofs.Bounded.{stmt_grows, stmts_grow, extended_none}
 
 -- ---- sizes
 

@@ -1,35 +1,16 @@
 -- Values and statements that keep the bounds, and labelled code that grows part by part.
-use Rattle.std.proofs.Common.{◌≡◌, ◌≤◌, ◌+◌, ℕ, Bool, true, List, [], ◌∷◌, ◌++◌, Option, Some, None, length, arith, ap, sym, ◌∙◌, append_assoc}
+use Rattle.std.proofs.Common.{◌≡◌, ◌≤◌, ◌+◌, ℕ, Bool, true, List, [], ◌∷◌, ◌++◌, Option, Some, None, arith, ap, sym, ◌∙◌, append_assoc}
 use Rattle.std.proofs.lemmas.List.{append-nil}
 use Rattle.nwq_value.specs.Limits.{struct_cell_limit}
-use Rattle.nwq_value.specs.declared.engine.Const.{Const}
 use Rattle.nwq_value.specs.declared.engine.Const.TheVariants as const
 use Rattle.nss_tree.specs.Statements.{block, empty, expression, if_only, if_else, while_loop, do_loop, for_loop, switch, break_off, continue_on, return_from, declaration, case_label, default_label, no_stmt, more_stmts}
 use Rattle.ncs_emit.specs.Labelled.{Line, LabelledCode}
-use Rattle.typing_rules.specs.declared.places.Callee.{Callee}
-use Rattle.typing_rules.specs.declared.places.Callee.TheVariants.{Unit as InUnit, Engine}
-use Rattle.typing_rules.specs.Typed.{TypedExpr, TypedExprs, TypedName, TypedStmt, TypedStmts, no_typed, more_typed, literal, name, call, member, prefix, postfix, binary, assign, type_of}
+use Rattle.typing_rules.specs.Typed.{TypedExpr, TypedName, TypedStmt, TypedStmts, type_of}
 use Rattle.typing_rules.specs.Cells.{cells}
-use Rattle.emission_rules.specs.Bounds.{IsExpr, AreExprs, IsSome, AreNames, IsStmt, AreStmts, IsCallee}
-use Rattle.emission_rules.specs.Expressions.{count_arguments}
+use Rattle.emission_rules.specs.Bounds.{IsSome, AreNames, IsStmt, AreStmts}
 use Rattle.emission_rules.specs.Layout.{Layout}
 use Rattle.codegen_expr.specs.Emitted.{CanBeEmitted, extended}
-
-const_few : (l : Layout) (k : Const) → cells l.structs (type_of (literal k)) ≤ struct_cell_limit
-const_few l (const.Int n) = omega arith
-const_few l (const.Text bytes) = omega arith
-const_few l const.SelfObject = omega arith
-const_few l const.InvalidObject = omega arith
-
-pub type_few : (n : ℕ) (l : Layout) (x : TypedExpr) → IsExpr n l x → cells l.structs (type_of x) ≤ struct_cell_limit
-type_few n l (literal k) is = const_few l k
-type_few n l (name t p) is = is.0.few
-type_few n l (call t f xs ks) is = is.0.few
-type_few n l (member t x offset) is = is.0.few
-type_few n l (prefix t o x) is = is.0.few
-type_few n l (postfix t o x) is = is.0.few
-type_few n l (binary t o x y) is = is.0.few
-type_few n l (assign t o x y) is = is.0.few
+use Rattle.codegen_expr.specs.BoundLemmas.{grows, type_few}
 
 pub ready_few : (n : ℕ) (l : Layout) (d : ℕ) (x : TypedExpr) → CanBeEmitted n l d x → cells l.structs (type_of x) ≤ struct_cell_limit
 ready_few n l d x ready = type_few n l x ready.bounded
@@ -46,25 +27,6 @@ pub extended_twice : (c : LabelledCode) (xs ys : List Line) (n m k : ℕ) → k 
 extended_twice c xs ys n m k is = both_same ((c.lines ++ xs) ++ ys) (c.lines ++ (xs ++ ys)) (c.labels + n + m) (c.labels + k) (append_assoc c.lines xs ys) (omega arith)
 
 -- ---- more functions have labels
-
-callee_grows : (n m count : ℕ) (f : Callee) → n ≤ m → IsCallee n count f → IsCallee m count f
-callee_grows n m count (InUnit f) le is = omega arith
-callee_grows n m count (Engine routine) le is = is
-
-mutual
-  pub grows : (n m : ℕ) (l : Layout) (x : TypedExpr) → n ≤ m → IsExpr n l x → IsExpr m l x
-  grows n m l (literal k) le is = is
-  grows n m l (name t p) le is = is
-  grows n m l (call t f xs ks) le is = (is.0, callee_grows n m (count_arguments xs + length ks) f le is.1, is.2, all_grow n m l xs le is.3)
-  grows n m l (member t x offset) le is = (is.0, is.1, is.2, grows n m l x le is.3)
-  grows n m l (prefix t o x) le is = (is.0, grows n m l x le is.1)
-  grows n m l (postfix t o x) le is = (is.0, grows n m l x le is.1)
-  grows n m l (binary t o x y) le is = (is.0, is.1, is.2, grows n m l x le is.3, grows n m l y le is.4)
-  grows n m l (assign t o x y) le is = (is.0, grows n m l x le is.1, grows n m l y le is.2)
-
-  all_grow : (n m : ℕ) (l : Layout) (xs : TypedExprs) → n ≤ m → AreExprs n l xs → AreExprs m l xs
-  all_grow n m l no_typed le are = tt
-  all_grow n m l (more_typed x xs) le are = (grows n m l x le are.0, all_grow n m l xs le are.1)
 
 pub some_grows : (n m : ℕ) (l : Layout) (x : Option TypedExpr) → n ≤ m → IsSome n l x → IsSome m l x
 some_grows n m l None le is = tt

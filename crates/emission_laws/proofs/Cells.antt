@@ -1,21 +1,20 @@
 -- What each instruction's rule says of types on top of other slots.
-use Rattle.std.proofs.Common.{arith, ◌≡◌, ◌≤◌, ◌<◌, ◌+◌, ◌-◌, ◌*◌, ◌/◌, ◌%◌, cond, ltb, ℕ, zero, suc, List, [], ◌∷◌, ◌++◌, length, map, take, drop, reverse, Option, Some, None, Bool, true, false, sym, ◌∙◌, ap, refl, append_assoc, option_map}
-use Rattle.std.specs.Prelude.{pos, negsuc, ◌-ℤ◌}
-use Rattle.std.proofs.lemmas.Bool.Decides.{nat_tests, Decides-eqb}
+use Rattle.std.proofs.Common.{arith, ◌≡◌, ◌≤◌, ◌<◌, ◌+◌, ◌-◌, cond, ℕ, List, [], ◌∷◌, ◌++◌, length, map, take, drop, reverse, Option, Some, None, sym, ◌∙◌, ap, refl, append_assoc, option_map}
+use Rattle.std.proofs.lemmas.Bool.Decides.{nat_tests}
 use Rattle.std.proofs.lemmas.List.{reverse-append, length-reverse, length-append, take-append-drop, length-take-le, take_at, drop_at}
 use Rattle.nwq_value.specs.declared.value.Ty.{Ty}
-use Rattle.nwq_value.specs.declared.value.Ty.TheVariants.{Void, Int, Text, Object, Effect, Event, Action, Struct, Refused}
-use Rattle.nwq_value.specs.Roles.{ty_eq, tys_eq}
+use Rattle.nwq_value.specs.declared.value.Ty.TheVariants.{Int}
 use Rattle.emission_rules.specs.Operations.{beneath, bytes_of}
 use Rattle.stack_shape.specs.declared.shape.Slot.{Slot}
 use Rattle.stack_shape.specs.declared.shape.Slot.TheVariants.{Of}
 use Rattle.stack_shape.specs.declared.effect.StackEffect.{StackEffect}
-use Rattle.stack_shape.specs.Ranges.{cell_count, depth_of, range_of, range_at}
+use Rattle.stack_shape.specs.Ranges.{cell_count, depth_of, range_at}
 use Rattle.stack_shape.specs.TopFirst.{types_on, types_at}
 use Rattle.stack_shape.specs.StackEffects.{no_effect, where_alike, exchange, copied, written, range_int_changed, removed, kept_of, kept, runs}
 use Rattle.stack_shape.specs.Stored.{TopShape, stored_types}
 use Rattle.stack_shape.specs.Rule.{affected}
 use Rattle.emission_laws.specs.Spots.{Way, Spot}
+use Rattle.source_laws.specs.RangeLemmas.{count_of, depth_beneath, range_there, tys_same}
 
 -- ---- types on other slots
 
@@ -52,65 +51,12 @@ affects g p us vs ts effect e =
     ∙ ap (λ (cells : List Slot). Some (record (over g p ts) { cells = cells }))
     (ap (λ (rest : List Slot). map Of vs ++ rest) (drop_there us ts g.mid) ∙ on_top vs ts g.mid)
 
-ty_self : (t : Ty) → ty_eq t t ≡ true
-unfolding ty_eq
-ty_self Void = refl
-ty_self Int = refl
-ty_self Text = refl
-ty_self Object = refl
-ty_self Effect = refl
-ty_self Event = refl
-ty_self Action = refl
-ty_self (Struct n) = (Decides-eqb n n).1 refl
-ty_self Refused = refl
-
-tys_self : (ts : List Ty) → tys_eq ts ts ≡ true
-unfolding tys_eq
-tys_self [] = refl
-tys_self (t ∷ ts) = rw (ty_self t) (tys_self ts)
-
 pub alike : (ts : List Ty) (e : StackEffect) → where_alike (Some ts) (Some ts) e ≡ Some e
-alike ts e = ap (λ b. cond b (Some e) None) (tys_self ts)
+alike ts e = ap (λ b. cond b (Some e) None) (tys_same ts)
 
 pub exchanged : (us vs ts : List Ty) (mid : List Slot) → exchange us vs (map Of (us ++ ts) ++ mid) ≡ Some (record { pops = length us; pushes = vs })
 unfolding exchange
 exchanged us vs ts mid = ap (λ o. where_alike o (Some us) (record { pops = length us; pushes = vs })) (types_there us ts mid) ∙ alike us _
-
--- ---- numbers of bytes
-
-if_cells : (m : ℕ) → m % 4 ≡ 0 → cell_count m ≡ Some (m / 4)
-unfolding cell_count
-if_cells m h = rw h
-
-pub count_of : (n : ℕ) → cell_count (bytes_of n) ≡ Some n
-count_of n = if_cells (4 * n) (omega arith) ∙ ap Some (omega arith)
-
-difference_depth : (a b : ℕ) (t : Bool) → ltb a b ≡ t → a ≤ b → depth_of (cond t (negsuc (b - suc a)) (pos (a - b))) ≡ cell_count (b - a)
-unfolding depth_of
-difference_depth a b true is h = let less : a < b = grind (arith, nat_tests, is) in let e : suc (b - suc a) ≡ b - a = omega arith in ap cell_count e
-difference_depth a b false is h =
-    let more : b ≤ a = grind (arith, nat_tests, is) in
-    let none : a - b ≡ 0 = omega arith in
-    let same : 0 ≡ b - a = omega arith in
-    ap (λ n. depth_of (pos n)) none ∙ ap cell_count same
-
-down : (m : ℕ) → depth_of (pos 0 -ℤ pos m) ≡ cell_count m
-unfolding depth_of
-down zero = refl
-down (suc k) = let whole : suc k - 0 ≡ suc k = omega arith in difference_depth 0 (suc k) (ltb 0 (suc k)) refl (omega arith) ∙ ap cell_count whole
-
-pub depth_beneath : (n : ℕ) → depth_of (beneath n) ≡ Some n
-depth_beneath n = down (4 * n) ∙ count_of n
-
-inside : (depth count : ℕ) → 0 < count → count ≤ depth → range_of depth count ≡ Some (record { above = depth - count; count = count })
-unfolding range_of
-inside depth count h k = grind (arith, nat_tests)
-
--- the range of so many cells with so many above them
-pub range_there : (depth above count : ℕ) → 0 < count → above + count ≡ depth → range_at (beneath depth) (bytes_of count) ≡ Some (record { above = above; count = count })
-unfolding range_at
-range_there depth above count h e =
-    rw (depth_beneath depth, count_of count) (inside depth count h (omega (arith, e)) ∙ ap (λ (n : ℕ). Some (record { above = n; count = count })) (omega (arith, e)))
 
 -- ---- places
 

@@ -27,7 +27,8 @@ use Rattle.stack_shape.specs.Ranges.{cell_count, range_at}
 use Rattle.stack_shape.specs.StackEffects.{exchange, copied, written, range_int_changed, runs, type_of_one, type_of_both, compared, added, reckoned, negated, stack_effect}
 use Rattle.stack_shape.specs.Rule.{affected, rule}
 use Rattle.emission_laws.specs.Spots.{IsTest}
-use Rattle.emission_laws.proofs.Cells.{Ground, over, affects, exchanged, types_there, range_there, Seen, copied_there, written_there, counted_there, removed_there, kept_there, runs_there}
+use Rattle.emission_laws.proofs.Cells.{Ground, over, affects, exchanged, types_there, Seen, copied_there, written_there, counted_there, removed_there, kept_there, runs_there}
+use Rattle.source_laws.specs.RangeLemmas.{range_there}
 
 -- ---- types by their rules
 

@@ -32,7 +32,8 @@ use Rattle.source_laws.specs.FineStatements.{DeclaresNothing, IsFineValue, IsFin
 use Rattle.source_meaning.specs.Statements.{after_names, after_stmt}
 use Rattle.emission_laws.specs.WellTyped.{LabelsFirst, FitsSwitches, AllFitSwitches, SomeCallsEngine, NamesCallEngine}
 use Rattle.emission_laws.specs.Spots.{Runs, Spot}
-use Rattle.emission_laws.proofs.Cells.{Ground, spot_over, affects, Seen, seen_over, types_there, drop_there, range_there, alike}
+use Rattle.emission_laws.proofs.Cells.{Ground, spot_over, affects, Seen, seen_over, types_there, drop_there, alike}
+use Rattle.source_laws.specs.RangeLemmas.{range_there}
 use Rattle.emission_laws.proofs.Ops.{Turns, const_turns, int_turns, drop_turns, again_turns, case_turns}
 use Rattle.emission_laws.proofs.Parts.{Labelled, labelled_both}
 use Rattle.emission_laws.proofs.Turns.{Turn, turn, retyped, seq, seq_line, line_seq, same_types, marked, jumped, tested_by, returned_back, one_label, two_labels, three_labels}

@@ -25,7 +25,8 @@ use Rattle.source_meaning.specs.Expressions.{all_parts}
 use Rattle.source_laws.specs.Kept.{pushed, AreHeld}
 use Rattle.source_laws.specs.Fine.{argument_type, argument_types, AreSingle, IsSingle}
 use Rattle.source_laws.specs.Calling.{pushed_all, all_types, with_types, types_before, constant_types, one_if, actions_in}
-use Rattle.source_laws.proofs.Cells.{ty_same, held_pushed}
+use Rattle.source_laws.proofs.Cells.{held_pushed}
+use Rattle.source_laws.specs.RangeLemmas.{ty_same}
 
 -- ---- what the machine takes
 

@@ -54,7 +54,8 @@ use Rattle.source_laws.specs.Kept.{pushed, AreHeld, Site, IsListed, at, Kept, sp
 use Rattle.source_laws.specs.Fine.{IsArgument, CallsRoutine, IsFine, AreFine}
 use Rattle.source_laws.specs.Simulation.{Executor, running_at, HoldsValue, value_place, value_credits, ExprRuns}
 use Rattle.source_laws.specs.Calling.{pushed_all, all_types, with_types, types_before, constant_types, one_if, actions_in, EngineRuns, CapturesCarry, ExecutesRun}
-use Rattle.source_laws.proofs.Cells.{pushed_over, pushed_length, count_of, held_over, held_values}
+use Rattle.source_laws.proofs.Cells.{pushed_over, pushed_length, held_over, held_values}
+use Rattle.source_laws.specs.RangeLemmas.{count_of}
 use Rattle.source_laws.proofs.Ledger.{took_none, took_cost, took_less, sim_bind, sim_paid, sim_chosen, sim_map}
 use Rattle.source_laws.proofs.Places.{above_globals}
 use Rattle.source_laws.proofs.Steps.{both_stand, sizes, acted, constant_goes, jump_goes}

@@ -32,7 +32,8 @@ use Rattle.machine_rules.specs.Act.{act, moved, cells_after, compared, is_divisi
 use Rattle.machine_rules.specs.Laws.{EqualityIsTested}
 use Rattle.source_meaning.specs.Values.{two_ints, one_int, added, test_value, operate, divides_by_zero, applied, is_true}
 use Rattle.source_laws.specs.Kept.{pushed}
-use Rattle.source_laws.proofs.Cells.{count_of, values_pushed, dropped_pushed, types_alike, types_count, tys_same}
+use Rattle.source_laws.proofs.Cells.{values_pushed, dropped_pushed, types_alike, types_count}
+use Rattle.source_laws.specs.RangeLemmas.{count_of, tys_same}
 
 -- ---- values of one part
 

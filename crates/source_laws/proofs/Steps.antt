@@ -34,7 +34,8 @@ use Rattle.machine_rules.specs.Laws.{EqualityIsTested}
 use Rattle.source_meaning.specs.Values.{constant_value, parts_of, one_int, operate, divides_by_zero}
 use Rattle.source_laws.specs.Ledger.{MachineHost}
 use Rattle.source_laws.specs.Kept.{pushed, Site, IsListed, at}
-use Rattle.source_laws.proofs.Cells.{values_pushed, dropped_pushed, count_of, depth_beneath, range_there, values_in, copied, written, put_there}
+use Rattle.source_laws.proofs.Cells.{values_pushed, dropped_pushed, values_in, copied, written, put_there}
+use Rattle.source_laws.specs.RangeLemmas.{count_of, depth_beneath, range_there}
 use Rattle.source_laws.proofs.Operators.{of_one, operator_does, operation_acts, operation_passes}
 
 -- ---- lines that stand one after another

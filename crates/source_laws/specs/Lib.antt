@@ -16,3 +16,4 @@ pub mod Executing
 pub mod Entries
 pub mod StayAlike
 pub mod Listed
+pub mod RangeLemmas
