@@ -1,14 +1,10 @@
 -- The engine's answers have the routines' types, in the words of the meaning.
-use Rattle.std.proofs.Common.{◌≡◌, ◌≢◌, [], ◌∷◌, Option, Some, None, Bool, true, false, sym, ap, ◌∙◌, refl}
-use Rattle.std.specs.Prelude.{not, ◌&&◌}
-use Rattle.std.specs.List.{list_any}
+use Rattle.std.proofs.Common.{◌≡◌, [], ◌∷◌, Option, Some, None, ap, refl}
 use Rattle.nwq_value.specs.declared.value.Ty.{Ty}
 use Rattle.nwq_value.specs.declared.value.Ty.TheVariants.{Void, Int, Text, Object, Effect, Event, Action, Struct, Refused}
 use Rattle.nwq_value.specs.declared.value.Value.{Value}
-use Rattle.nwq_value.specs.declared.engine.Role.TheVariants.{Uncallable}
-use Rattle.nwq_value.specs.declared.engine.Routine.{Routine}
 use Rattle.saved_state.specs.declared.saved.Saved.{Saved}
-use Rattle.stack_shape.specs.Calls.{is_callable, is_uncallable, is_void, result_types}
+use Rattle.stack_shape.specs.Calls.{result_types}
 use Rattle.machine_rules.specs.Cells.{value_types}
 use Rattle.stack_rules.specs.Laws.{TablesTypeExecuteScript}
 use Rattle.world_rules.specs.AlikeLaws.{call}
@@ -16,6 +12,7 @@ use Rattle.world_rules.specs.Engine.{engine}
 use Rattle.source_meaning.specs.Expressions.{parts_in}
 use Rattle.world_core.specs.Answers.{AnswersHaveTypes, IsOfType}
 use Rattle.command_meaning.specs.Units.{TablesAnswerInTypes}
+use Rattle.ncs_machine.specs.HostLemmas.{can_be_called}
 
 one_type : (t : Ty) (o : Option Value) → IsOfType t o → value_types (parts_in o) ≡ result_types t
 one_type Void None h = refl
@@ -36,13 +33,6 @@ one_type (Struct n) None h = absurd h
 one_type (Struct n) (Some v) h = ap (λ u. u ∷ []) h
 one_type Refused None h = absurd h
 one_type Refused (Some v) h = ap (λ u. u ∷ []) h
-
-pub can_be_called : (r : Routine) → is_callable r ≡ true → r.role ≢ Uncallable
-unfolding is_callable
-can_be_called r h e = off (sym (ap (λ (b : Bool). not b && not (list_any (λ p. is_void p.ty) r.params)) (ap is_uncallable e)) ∙ h)
-  where
-    off : false ≡ true → ⊥
-    off e = absurd cc
 
 pub tables_answer_in_types : AnswersHaveTypes Saved → TablesTypeExecuteScript → TablesAnswerInTypes
 tables_answer_in_types law execute header cell is = record {

@@ -1,20 +1,9 @@
 -- No play of checked files comes to a stack fault.
-use Rattle.std.proofs.Common.{◌≡◌, ◌≢◌, ℕ, zero, suc, pos, Bool, true, false, List, [], ◌∷◌, map, length, Option, Some, None, if◌then◌else◌, refl, subst, ◌∙◌}
-use Rattle.std.specs.Prelude.{get_or, replicate, ◌==◌}
-use Rattle.std.specs.Char.{to_ascii_lowercase}
-use Rattle.std.specs.Str.{bytes_eq}
-use Rattle.std.specs.List.{AllByRecursion, fold, position}
-use Rattle.std.proofs.lemmas.List.Quantifiers.{position-Some}
-use Rattle.std.proofs.lemmas.Option.{slice_get-get_or}
-use Rattle.nwq_value.specs.declared.value.Ty.{Ty}
-use Rattle.nwq_value.specs.declared.value.Ty.TheVariants.{Void, Int, Text, Object, Effect, Event as EventTy, Action, Struct, Refused}
-use Rattle.nwq_value.specs.declared.value.Value.{Value}
-use Rattle.nwq_value.specs.Engine.{EngineTable, IsTable}
-use Rattle.area_rules.specs.Area.{PlainArea}
-use Rattle.delay_agenda.specs.declared.entry.Entry.{Entry}
+use Rattle.std.proofs.Common.{◌≡◌, ◌≢◌, ℕ, zero, suc, Bool, true, false, List, [], ◌∷◌, Option, Some, None, if◌then◌else◌, refl, subst, ◌∙◌}
+use Rattle.std.specs.Prelude.{◌==◌}
+use Rattle.nwq_value.specs.Engine.{EngineTable}
 use Rattle.delay_agenda.specs.declared.entry.Kind.{Kind}
 use Rattle.delay_agenda.specs.declared.entry.Kind.TheVariants.{Event, Stored, Turn, Unapply}
-use Rattle.delay_agenda.specs.Order.{put_entry, is_before}
 use Rattle.saved_state.specs.declared.saved.Saved.{Saved}
 use Rattle.machine_rules.specs.Machine.{Script, script_named}
 use Rattle.machine_rules.specs.Runs.{Ran, run_script, run_stored}
@@ -22,18 +11,17 @@ use Rattle.machine_rules.specs.Runs as runs
 use Rattle.stack_rules.specs.Tables.{ShapeTable}
 use Rattle.stack_rules.specs.Rules.{MeetsRules}
 use Rattle.stack_rules.specs.Fits.{Tables, IsListed, FitsOne, FitsAction}
-use Rattle.stack_rules.specs.Laws.{AllMeet, HasType, IsReached, Unchanged, ByCall, ByMissing, ByDepth, IsWellStackedHost, ScriptsAreSound, StatesAreSound, TablesTypeExecuteScript}
+use Rattle.stack_rules.specs.Laws.{AllMeet, IsReached, Unchanged, ByCall, ByMissing, ByDepth, IsWellStackedHost, ScriptsAreSound, StatesAreSound, TablesTypeExecuteScript}
 use Rattle.world_rules.specs.World.{World}
-use Rattle.world_rules.specs.AlikeLaws.{call}
-use Rattle.world_rules.specs.Turns.{Begun, Planned, begin, turn, turn_done, fault, still, with_planned, new_world, idle}
+use Rattle.world_rules.specs.Turns.{Begun, begin, turn, turn_done, fault, new_world}
 use Rattle.world_rules.specs.Plays.{StoppedInside, Bounds, Progress, Played, Run, Entered, entry_entered, entered_as, event_entry, turn_entry, named_entry, finished, finished_as, further, full, after_entry, next_entry, plays, unplayed}
-use Rattle.world_core.specs.Answers.{AnswersHaveTypes, IsOfType}
-use Rattle.ncs_machine.specs.Host.{EngineView, engine_answer, host, no_table}
-use Rattle.ncs_machine.specs.Stored.{StatesFit, ThingsFit, EntryFits, KindFits, BegunFits, EngineKeepsFits, LinesKeepFits, BeginKeepsFits, TurnKeepsFits, TurnDoneKeepsFits, UnapplyKeepsFits}
+use Rattle.world_core.specs.Answers.{AnswersHaveTypes}
+use Rattle.ncs_machine.specs.Host.{EngineView, host, no_table}
+use Rattle.ncs_machine.specs.Stored.{StatesFit, KindFits, BegunFits, EngineKeepsFits, LinesKeepFits, BeginKeepsFits, TurnKeepsFits, TurnDoneKeepsFits, UnapplyKeepsFits}
 use Rattle.module_player.specs.CodePlays.{code_runner, ending_of, run_of}
-use Rattle.play_meaning.specs.Together.{whole}
 use Rattle.command_meaning.specs.CodeEnds.{CodeEnd, Ends, named_ending, event_ending, turn_ending, kind_ending, entry_ending, ends_after, next_ends, code_ends, AreStacked, CheckedPlaysGoOn, CheckedPlaysHaveNoFault}
-use Rattle.command_meaning.proofs.Answers.{can_be_called}
+use Rattle.ncs_machine.specs.HostLemmas.{host_is_sound, named_listed}
+use Rattle.ncs_machine.specs.FitLemmas.{new_fits}
 
 -- ---- a table of shapes for each script
 
@@ -47,77 +35,6 @@ all_meet header [] h number script is = absurd cc
 all_meet header (s ∷ scripts) h zero script is =
     let same : s ≡ script = cc in subst (λ (x : Script). MeetsRules header x.code h.0.0) same h.0.1
 all_meet header (s ∷ scripts) h (suc number) script is = all_meet header scripts h.1 number script is
-
--- ---- a world in which nothing but events is planned
-
-module _ (scripts : List Script) (tables : Tables) where
-  put_by : (first : Bool) (e a : Entry Saved) (rest : List (Entry Saved)) → EntryFits scripts tables e → EntryFits scripts tables a
-      → AllByRecursion (EntryFits scripts tables) rest → AllByRecursion (EntryFits scripts tables) (put_entry e rest)
-      → AllByRecursion (EntryFits scripts tables) (if first then a ∷ put_entry e rest else e ∷ a ∷ rest)
-  put_by true e a rest one here all more = (here, more)
-  put_by false e a rest one here all more = (one, (here, all))
-
-  put_fits : (e : Entry Saved) (entries : List (Entry Saved)) → EntryFits scripts tables e → AllByRecursion (EntryFits scripts tables) entries
-      → AllByRecursion (EntryFits scripts tables) (put_entry e entries)
-  put_fits e [] one all = (one, tt)
-  put_fits e (a ∷ rest) one all = put_by (is_before a e) e a rest one all.0 all.1 (put_fits e rest one all.1)
-
-  planned_fit : (events : List Planned) (w : World Saved) → StatesFit scripts tables w → StatesFit scripts tables (fold with_planned w events)
-  planned_fit [] w f = f
-  planned_fit (e ∷ events) w f = planned_fit events (with_planned w e) (record {
-    agenda = put_fits (record { due = e.due; number = w.agenda.next; kind = Event e.object e.script (pos 0) }) w.agenda.entries tt f.agenda;
-    queues = f.queues;
-  })
-
-  idle_fit : (n : ℕ) → AllByRecursion (ThingsFit scripts tables) (replicate n idle)
-  idle_fit zero = tt
-  idle_fit (suc n) = (tt, idle_fit n)
-
-  new_fits : (area : PlainArea) (random : List ℕ) (events : List Planned) (version : ℕ) → StatesFit scripts tables (new_world area random events version)
-  new_fits area random events version = planned_fit events (still area random version) (record { agenda = tt; queues = idle_fit (length area.objects) })
-
--- ---- the engine's answers
-
-has_type : (t : Ty) (o : Option Value) → IsOfType t o → HasType t o
-has_type Void None h = h
-has_type Void (Some v) h = h
-has_type Int None h = h
-has_type Int (Some v) h = h
-has_type Text None h = h
-has_type Text (Some v) h = h
-has_type Object None h = h
-has_type Object (Some v) h = h
-has_type Effect None h = h
-has_type Effect (Some v) h = h
-has_type EventTy None h = h
-has_type EventTy (Some v) h = h
-has_type Action None h = h
-has_type Action (Some v) h = h
-has_type (Struct n) None h = h
-has_type (Struct n) (Some v) h = h
-has_type Refused None h = h
-has_type Refused (Some v) h = h
-
-host_is_sound : (scripts : List Script) (tables : Tables) (e : EngineView) (first : World Saved) → TablesTypeExecuteScript → AnswersHaveTypes Saved → IsTable e.table
-    → AllMeet e.table scripts tables → IsWellStackedHost (host scripts e) tables first
-unfolding host
-host_is_sound scripts tables e first types answers table meets = record {
-  scripts = meets;
-  execute = types e.table table;
-  typed = λ number caller r values action world listed callable fit fits reached.
-      has_type r.result (engine_answer e number caller values action world).value
-      (answers e.table e.cell number r (call caller values action) world table listed (can_be_called r callable));
-}
-
--- ---- scripts by their names
-
-first_listed : (scripts : List Script) (p : Script → Bool) (number : ℕ) → position p scripts ≡ Some number → IsListed scripts number
-first_listed [] p number h = absurd cc
-first_listed (s ∷ scripts) p number h =
-    let q = position-Some p (s ∷ scripts) number s h in (get_or (s ∷ scripts) number s, slice_get-get_or (s ∷ scripts) number s q.0)
-
-named_listed : (scripts : List Script) (name : List ℕ) (number : ℕ) → script_named scripts name ≡ Some number → IsListed scripts number
-named_listed scripts name number h = first_listed scripts (λ s. bytes_eq (map to_ascii_lowercase name) s.name) number h
 
 -- ---- entries
 

@@ -1,13 +1,11 @@
 -- The world of a plan: no state is stored in it, and no line is kept.
-use Rattle.std.proofs.Common.{◌≡◌, ◌<◌, ◌≤◌, ◌+◌, ◌^◌, ℕ, zero, suc, pos, Bool, true, false, List, [], ◌∷◌, length, map, if◌then◌else◌, refl, sym, ap, ◌∙◌, subst, arith}
-use Rattle.std.specs.Prelude.{replicate, Result, Ok, Err, IfOk}
+use Rattle.std.proofs.Common.{◌≡◌, ◌<◌, ◌≤◌, ◌+◌, ◌^◌, ℕ, suc, pos, List, [], ◌∷◌, length, map, refl, sym, ap, ◌∙◌, subst, arith}
+use Rattle.std.specs.Prelude.{Result, Ok, Err, IfOk}
 use Rattle.nwq_value.specs.Limits.{event_limit}
 use Rattle.command_work.specs.declared.status.Status.{Status}
 use Rattle.std.specs.List.{AllByRecursion, fold}
 use Rattle.area_rules.specs.Area.{PlainArea}
-use Rattle.delay_agenda.specs.declared.entry.Entry.{Entry}
 use Rattle.delay_agenda.specs.declared.entry.Kind.TheVariants.{Event}
-use Rattle.delay_agenda.specs.Order.{put_entry, is_before}
 use Rattle.plan_text.specs.declared.plan.Line.{Line}
 use Rattle.plan_text.specs.declared.plan.Plan.{Plan}
 use Rattle.plan_text.specs.Plans.{IsPlan}
@@ -15,9 +13,10 @@ use Rattle.saved_state.specs.declared.saved.Saved.{Saved}
 use Rattle.stack_rules.specs.Fits.{Tables}
 use Rattle.machine_rules.specs.Machine.{Script}
 use Rattle.world_rules.specs.World.{World}
-use Rattle.world_rules.specs.Turns.{Planned, still, with_planned, idle}
+use Rattle.world_rules.specs.Turns.{Planned, still, with_planned}
 use Rattle.ncs_machine.specs.Stored.{StatesFit, ThingsFit, EntryFits}
 use Rattle.play_worlds.specs.Worlds.{begun_by, plan_world}
+use Rattle.ncs_machine.specs.FitLemmas.{put_fits, idle_fit}
 
 -- ---- what a plan's events leave as it was
 
@@ -36,33 +35,18 @@ next_number (e ∷ events) w = next_number events (with_planned w e) ∙ omega a
 -- ---- captured states
 
 module _ (scripts : List Script) (tables : Tables) where
-  put_by : (first : Bool) (e a : Entry Saved) (rest : List (Entry Saved)) → EntryFits scripts tables e → EntryFits scripts tables a
-      → AllByRecursion (EntryFits scripts tables) rest → AllByRecursion (EntryFits scripts tables) (put_entry e rest)
-      → AllByRecursion (EntryFits scripts tables) (if first then a ∷ put_entry e rest else e ∷ a ∷ rest)
-  put_by true e a rest one here all more = (here, more)
-  put_by false e a rest one here all more = (one, (here, all))
-
-  put_fits : (e : Entry Saved) (entries : List (Entry Saved)) → EntryFits scripts tables e → AllByRecursion (EntryFits scripts tables) entries
-      → AllByRecursion (EntryFits scripts tables) (put_entry e entries)
-  put_fits e [] one all = (one, tt)
-  put_fits e (a ∷ rest) one all = put_by (is_before a e) e a rest one all.0 all.1 (put_fits e rest one all.1)
-
   events_fit : (events : List Planned) (w : World Saved) → AllByRecursion (EntryFits scripts tables) w.agenda.entries
       → AllByRecursion (EntryFits scripts tables) (fold with_planned w events).agenda.entries
   events_fit [] w all = all
   events_fit (e ∷ events) w all =
       events_fit events (with_planned w e)
-      (put_fits (record { due = e.due; number = w.agenda.next; kind = Event e.object e.script (pos 0) }) w.agenda.entries tt all)
-
-  idle_fit : (n : ℕ) → AllByRecursion (ThingsFit scripts tables) (replicate n idle)
-  idle_fit zero = tt
-  idle_fit (suc n) = (tt, idle_fit n)
+      (put_fits scripts tables (record { due = e.due; number = w.agenda.next; kind = Event e.object e.script (pos 0) }) w.agenda.entries tt all)
 
   plan_fits : (area : PlainArea) (plan : Plan) → StatesFit scripts tables (plan_world area plan)
   plan_fits area plan = record {
     agenda = events_fit (map (begun_by area) plan.events) (still area plan.random plan.version) tt;
     queues = subst (AllByRecursion (ThingsFit scripts tables)) (sym (still_things (map (begun_by area) plan.events) (still area plan.random plan.version)))
-        (idle_fit (length area.objects));
+        (idle_fit scripts tables (length area.objects));
   }
 
 -- ---- the world of a plan

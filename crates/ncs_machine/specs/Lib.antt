@@ -4,3 +4,5 @@ pub mod Endings
 pub mod Steps
 pub mod Names
 pub mod Leading
+pub mod HostLemmas
+pub mod FitLemmas

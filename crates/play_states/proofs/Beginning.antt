@@ -1,55 +1,23 @@
 -- The first entries of a plan have a state.
-use Rattle.std.proofs.Common.{◌<◌, ◌≤◌, ◌+◌, ◌*◌, ◌-◌, ℕ, zero, suc, Bool, true, false, List, [], ◌∷◌, refl, sym, subst, arith}
-use Rattle.std.specs.Prelude.{min, pos, map, length, replicate, if◌then◌else◌}
+use Rattle.std.proofs.Common.{◌<◌, ◌≤◌, ◌+◌, ◌*◌, ◌-◌, ℕ, List, [], ◌∷◌, refl, sym, subst, arith}
+use Rattle.std.specs.Prelude.{min, map}
 use Rattle.std.specs.List.{AllByRecursion, fold}
 use Rattle.std.proofs.Math.Nat.{mul-le-mul_left, mul-le-mul_right}
 use Rattle.nwq_value.specs.Limits.{time_limit}
 use Rattle.gff_tree.specs.Whole.{PlainGff}
-use Rattle.area_rules.specs.Area.{PlainArea, area_of}
+use Rattle.area_rules.specs.Area.{area_of}
 use Rattle.area_rules.specs.Laws.{ObjectsAreDistinct}
 use Rattle.delay_agenda.specs.declared.entry.Entry.{Entry}
-use Rattle.delay_agenda.specs.declared.entry.Kind.TheVariants.{Event}
-use Rattle.delay_agenda.specs.Order.{put_entry, is_before}
 use Rattle.plan_text.specs.Plans.{limits_of}
 use Rattle.saved_state.specs.declared.saved.Saved.{Saved}
-use Rattle.machine_rules.specs.Machine.{Script}
-use Rattle.stack_rules.specs.Fits.{Tables}
 use Rattle.world_rules.specs.World.{World}
-use Rattle.world_rules.specs.Turns.{Planned, idle, new_world, still, with_planned}
-use Rattle.ncs_machine.specs.Stored.{StatesFit, EntryFits, ThingsFit}
+use Rattle.world_rules.specs.Turns.{Planned, still, with_planned}
 use Rattle.play_worlds.specs.Worlds.{begun_by, plan_world}
 use Rattle.play_worlds.specs.Fresh.{IsFresh, PlanWorldsAreFresh}
 use Rattle.play_save.specs.Rules.{IsAreaOf, count_limit}
 use Rattle.play_save.specs.Written.{KeepsObjects}
 use Rattle.play_states.specs.Resting.{FirstEntriesHaveStates, PlaysComeToStates, PlaysCountFew}
-
--- ---- a world in which nothing but events is planned
-
-module _ (scripts : List Script) (tables : Tables) where
-  put_by : (first : Bool) (e a : Entry Saved) (rest : List (Entry Saved)) → EntryFits scripts tables e → EntryFits scripts tables a
-      → AllByRecursion (EntryFits scripts tables) rest → AllByRecursion (EntryFits scripts tables) (put_entry e rest)
-      → AllByRecursion (EntryFits scripts tables) (if first then a ∷ put_entry e rest else e ∷ a ∷ rest)
-  put_by true e a rest one here all more = (here, more)
-  put_by false e a rest one here all more = (one, (here, all))
-
-  put_fits : (e : Entry Saved) (entries : List (Entry Saved)) → EntryFits scripts tables e → AllByRecursion (EntryFits scripts tables) entries
-      → AllByRecursion (EntryFits scripts tables) (put_entry e entries)
-  put_fits e [] one all = (one, tt)
-  put_fits e (a ∷ rest) one all = put_by (is_before a e) e a rest one all.0 all.1 (put_fits e rest one all.1)
-
-  planned_fit : (events : List Planned) (w : World Saved) → StatesFit scripts tables w → StatesFit scripts tables (fold with_planned w events)
-  planned_fit [] w f = f
-  planned_fit (e ∷ events) w f = planned_fit events (with_planned w e) (record {
-    agenda = put_fits (record { due = e.due; number = w.agenda.next; kind = Event e.object e.script (pos 0) }) w.agenda.entries tt f.agenda;
-    queues = f.queues;
-  })
-
-  idle_fit : (n : ℕ) → AllByRecursion (ThingsFit scripts tables) (replicate n idle)
-  idle_fit zero = tt
-  idle_fit (suc n) = (tt, idle_fit n)
-
-  new_fits : (area : PlainArea) (random : List ℕ) (events : List Planned) (version : ℕ) → StatesFit scripts tables (new_world area random events version)
-  new_fits area random events version = planned_fit events (still area random version) (record { agenda = tt; queues = idle_fit (length area.objects) })
+use Rattle.ncs_machine.specs.FitLemmas.{new_fits}
 
 -- its area is that of its tree
 planned_area : (events : List Planned) (w : World Saved) → KeepsObjects w.area → KeepsObjects (fold with_planned w events).area

@@ -24,7 +24,8 @@ use Rattle.module_player.specs.CodePlays.{code_runner, played_before}
 use Rattle.play_save.specs.Rules.{IsAreaOf, count_limit}
 use Rattle.play_save.specs.Written.{PlaysHaveStates}
 use Rattle.play_states.specs.Resting.{play_from, PlaysRest, PlaysComeToStates}
-use Rattle.play_states.proofs.Keeping.{KeepsFit, host_is_sound, plays_kept}
+use Rattle.ncs_machine.specs.HostLemmas.{host_is_sound}
+use Rattle.play_states.proofs.Keeping.{KeepsFit, plays_kept}
 
 -- ---- a table of shapes for each script
 
