@@ -239,7 +239,7 @@ call_acts header scripts tables code f s offset meets m = record {
     goes_on callee given is gives = subst (GoesOnBehindCall (tables f.script) s.entry (next_place f.place (ops.Jsr offset)) s.shape m.rest)
         (ap (λ (c : Callee). c.given) (sym is) ∙ gives) m.goes_on
 
-    waits : (callee : Callee) (given : List Slot) → (tables f.script).called_shape (jump_place f.place offset) ≡ Some callee → callee.given ≡ Some given
+    waits : (callee : Callee) (given : List Slot) → (tables f.script).called (jump_place f.place offset) ≡ Some callee → callee.given ≡ Some given
         → Waits (tables f.script) (AreWaiting (tables f.script) f.calls) (next_place f.place (ops.Jsr offset)) given (m.rest ++ s.below)
         (from_base (outlines f.stack.cells)) f.stack.bp (length f.pending)
     waits callee given known gives = record {
