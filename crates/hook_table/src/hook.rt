@@ -26,8 +26,8 @@ pub struct Known {
 pub struct Hook {
     pub known: Known,
     call: Call,
-    ghost callable: { (args : _) → types_of args.now ≡ known.params → Call.pre call args },
-    ghost answers: { (args : _) (v : _) → types_of args.now ≡ known.params
+    ghost callable: { (args : _) → types_of_values args.now ≡ known.params → Call.pre call args },
+    ghost answers: { (args : _) (v : _) → types_of_values args.now ≡ known.params
         → Call.post call args (Ok v)
         → IsAnswer known.tables known.name known.result args.now v } by { Prim.hlevel answer_sets },
 }

@@ -213,7 +213,7 @@ impl Machine {
         requires few { length scripts.now < 2 ^ 32 }
         ensures room { world.old.room ≤ world.new.room }
         ensures kept { OnErr result (world.new.world ≡ world.old.world) }
-        ensures script_begun { (e : EngineView) → OnOk result
+        ensures begun { (e : EngineView) → OnOk result
             (script_begun (host (scripts_of scripts.now) e)
             (script_named (scripts_of scripts.now) name.now) name.now target
             self.old.running (state self.old world.old.world)

@@ -231,7 +231,7 @@ impl Sight {
     /// A block begins.
     pub fn enter(&mut self) -> Mark
         ensures mark { result ≡ mark_of self.old }
-        ensures scope_entered { (table : EngineTable)
+        ensures entered { (table : EngineTable)
             → in_sight table self.new ≡ scope_entered (in_sight table self.old) }
     {
         let mark = self.mark();
@@ -269,7 +269,7 @@ impl Sight {
     /// A function with this result begins.
     pub fn begin(&mut self, ty: Option<Ty>) -> Mark
         ensures mark { result ≡ mark_of self.old }
-        ensures function_begun { (table : EngineTable)
+        ensures begun { (table : EngineTable)
             → in_sight table self.new ≡ function_begun (in_sight table self.old) ty }
     {
         let mark = self.mark();
