@@ -8,7 +8,7 @@ use Rattle.std.proofs.lemmas.Bool.{false≢true, and_parts}
 use Rattle.std.proofs.lemmas.Option.{none-some, same_Some}
 use Rattle.nwq_value.specs.Engine.{IsRoutine}
 use Rattle.nwq_value.specs.Header.{header_routines}
-use Rattle.nwq_value.specs.Roles.{Signature, PureAsHeader, header_signatures, types_of_values as parameter_types}
+use Rattle.nwq_value.specs.Roles.{Signature, PureAsHeader, header_signatures, types_of as parameter_types}
 use Rattle.nwq_value.specs.declared.engine.Param.{Param}
 use Rattle.nwq_value.specs.declared.engine.Role.{Role}
 use Rattle.nwq_value.specs.declared.engine.Role.TheVariants as role
