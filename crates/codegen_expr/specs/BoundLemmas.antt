@@ -14,7 +14,7 @@ use Rattle.emission_rules.specs.Expressions.{count_arguments}
 
 -- ---- more functions have labels
 
-callee_grows : (n m count : ℕ) (f : Callee) → n ≤ m → IsCallee n count f → IsCallee m count f
+pub callee_grows : (n m count : ℕ) (f : Callee) → n ≤ m → IsCallee n count f → IsCallee m count f
 callee_grows n m count (InUnit f) le is = omega arith
 callee_grows n m count (Engine routine) le is = is
 
