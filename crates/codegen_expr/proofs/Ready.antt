@@ -21,7 +21,7 @@ use Rattle.emission_rules.specs.Layout.{Layout}
 use Rattle.emission_rules.specs.Expressions.{Shortcut, labels, all_labels, shortcut, shortcut_labels, is_set, cells_first, result_room, argument_labels, count_arguments, arguments_cells, call_line}
 use Rattle.codegen_expr.specs.Emitted.{AreReady, CanBeEmitted}
 use Rattle.codegen_expr.specs.Parts.{offsets}
-use Rattle.codegen_expr.specs.BoundLemmas.{grows, type_few}
+use Rattle.codegen_expr.specs.BoundLemmas.{callee_grows, grows, type_few}
 
 -- ---- cells and weights
 
