@@ -153,7 +153,7 @@ localized_stands loc low are short =
     record {
       head = omega (arith, long);
       str_ref = sym (ap (number_in 4) apart ∙ (word_reads loc.str_ref (second ++ rest) ∙ low_is loc.str_ref low));
-      count = sym length_prefixed;
+      count = sym counted;
       parts = subst (λ (bs : List ℕ). PartsStand bs loc.parts) (sym behind) (parts_stand loc.parts are (omega (arith, long)));
     }
 
