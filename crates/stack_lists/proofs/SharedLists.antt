@@ -2,6 +2,7 @@
 use Rattle.std.proofs.Common.{arith, ◌≡◌, ◌≤◌, ◌<◌, ◌+◌, ◌-◌, ℕ, zero, suc, List, [], ◌∷◌, ◌++◌, length, Option, None, Some, slice_get, sym, subst, inl, inr, ◌∙◌, ap, refl}
 use Rattle.std.proofs.lemmas.Bool.{cases_lt}
 use Rattle.stack_lists.specs.declared.lists.Node.{Node}
+use Rattle.stack_lists.specs.Budget.{most_numbers}
 use Rattle.stack_lists.specs.Shared.{with_node, read_within, read, AreOlder, Grows}
 
 one_before : (number k : ℕ) → 0 < number → k ≡ number - 1 → number ≡ suc k
@@ -118,6 +119,11 @@ module _ {A : Type 0} where
   pub pushed_inside : (nodes after : List (Node A)) (n : Node A) → after ≡ nodes ++ n ∷ [] → length nodes + 1 ≤ length after
   pushed_inside nodes after n is = subst (λ xs. length nodes + 1 ≤ length xs) (sym is) (omega (arith, length_one nodes n))
 
-pub ruleset pushing = (grows_one, older_one, pushed_reads, pushed_inside)
+  -- where there was a number for one more
+  pub numbers_one : (nodes after : List (Node A)) (n : Node A) (count : ℕ) → after ≡ nodes ++ n ∷ [] → count ≡ length nodes → count < most_numbers
+      → length after ≤ most_numbers
+  numbers_one nodes after n count is e h = subst (λ xs. length xs ≤ most_numbers) (sym is) (omega (arith, length_one nodes n, e, h))
+
+pub ruleset pushing = (grows_one, older_one, pushed_reads, pushed_inside, numbers_one)
 
 pub ruleset popping = (pop_top, pop_older, pop_inside, pop_none, read_zero)

@@ -1,7 +1,9 @@
 ghost use Rattle.std.specs.Prelude.{◌≡◌, ◌≤◌, ◌<◌, [], ◌∷◌, length, IfOk, OnErr, IfSome};
 ghost use Rattle.std.specs.Prelude.{MatchOption, ◌++◌, ◌↔◌, IsTrue};
+ghost use Rattle.stack_lists.specs.Budget.{most_numbers};
 ghost use Rattle.stack_lists.specs.Shared.{Grows, read};
 
+use crate::budget::number_left;
 use nwq_value::{Items, NoMemory};
 use std::alloc::Global;
 use std::marker::Model;
@@ -26,11 +28,13 @@ impl<T> Model for Lists<T> {
 
     ghost Value = { List (Node T) };
 
+    ghost use Rattle.std.specs.Prelude.{◌≤◌, length};
     ghost use Rattle.stack_lists.specs.Shared.{AreOlder};
+    ghost use Rattle.stack_lists.specs.Budget.{most_numbers};
 
     ghost view = { λ l. l.nodes };
 
-    ghost invariant = { λ l. AreOlder l.nodes };
+    ghost invariant = { λ l. AreOlder l.nodes × (length l.nodes ≤ most_numbers) };
 }
 
 impl<T> Lists<T> {
@@ -45,13 +49,15 @@ impl<T> Lists<T> {
     /// How many nodes there are.
     pub fn len(&self) -> usize
         ensures count { result ≡ length self.now }
+        ensures few { result ≤ most_numbers }
     {
         self.nodes.len()
     }
 }
 
 impl<T: Copy> Lists<T> {
-    /// The list of an item on top of a list.
+    /// The list of an item on top of a list. `NoMemory` comes where memory is refused, and past
+    /// 2^32 - 1 nodes.
     #[tactic(auto, using(crate::proofs::SharedLists::pushing))]
     pub fn push(&mut self, below: u32, item: T) -> Result<u32, NoMemory>
         requires inside { below ≤ length self.old }
@@ -63,9 +69,7 @@ impl<T: Copy> Lists<T> {
         ensures err { OnErr result (self.new ≡ self.old) }
     {
         let count = self.nodes.len();
-        if count >= u32::MAX as usize {
-            return Err(NoMemory);
-        }
+        number_left(count)?;
         self.nodes.push(Node { item, below })?;
         Ok(count as u32 + 1)
     }
