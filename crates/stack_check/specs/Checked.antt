@@ -13,7 +13,7 @@ use Rattle.stack_rules.specs.Rules.{MeetsRules}
 use Rattle.stack_lists.specs.declared.held.Heap.{Heap}
 use Rattle.stack_check.specs.declared.facts.Trial.{Trial}
 use Rattle.stack_check.specs.declared.facts.Facts.{Facts}
-use Rattle.stack_lists.specs.Budget.{most}
+use Rattle.stack_lists.specs.Budget.{most, most_numbers}
 use Rattle.stack_check.specs.Facts.{given_found, trial_table, total}
 use Rattle.stack_check.specs.Inference.{window}
 
@@ -34,6 +34,7 @@ kept_table c = trial_table c.heap c.facts
 pub record IsWithinBudget (c : CheckedCode) : Type 0 where
   pub rows : length c.facts.rows ≤ most
   pub nodes : length c.heap.slots ≤ most
+  pub saved : length c.heap.saved ≤ most_numbers
 
 -- what was found of a trial: what its routine gives, and its window
 abbrev pub found_of : Heap → Trial → ℕ

@@ -9,30 +9,38 @@ ghost use Rattle.stack_check.specs.Inference.{AllIn, BeginsAlike, Calls, IsCall,
 ghost use Rattle.stack_check.specs.Inference.{RowIs, Sees, TrialIn, Within, window};
 
 use crate::facts::{Facts, Trial, Unseen, begin};
+use crate::judged::Judged;
 use crate::reach::{Found, follow};
 use crate::see::see;
 use crate::seen::Seen;
-use ncs_file::Code;
-use nwq_value::{NoMemory, Table};
+use nwq_value::NoMemory;
 use stack_lists::{Heap, Held, Spot, Todo, with_cells};
 use stack_shape::{Entry, Reach};
 use std::alloc::Global;
 
+/// A shape that was found at a call of a routine, and the place behind the call.
+#[derive(Clone, Copy)]
+pub struct FoundCall {
+    pub from: Found,
+    pub target: u32,
+    pub next: u32,
+}
+
 /// A call of a routine that has no trial yet.
 #[tactic(auto, using(crate::proofs::CallSteps::first))]
 fn call_first(
-    code: &Code,
-    table: &Table,
+    judged: &Judged<'_>,
     heap: &Heap,
     facts: &mut Facts,
     todo: &mut Todo,
     from: Found,
     target: u32,
 ) -> Result<(), NoMemory>
-    requires keeps { Keeps table.now code.now heap.now facts.old }
+    requires keeps { Keeps judged.now.table.now judged.now.code.now heap.now facts.old }
     requires row { row_in facts.old.rows from.trial from.place ≡ Some from.held }
-    requires op { IsCall code.now from.place target }
-    ensures keeps { IfOk result (λ _. Keeps table.now code.now heap.now facts.new) }
+    requires op { IsCall judged.now.code.now from.place target }
+    ensures keeps { IfOk result (λ _. Keeps judged.now.table.now judged.now.code.now heap.now
+        facts.new) }
     ensures takes { IfOk result (λ _. FindsMore facts.old facts.new) }
 {
     let unseen = Unseen {
@@ -47,7 +55,7 @@ fn call_first(
         unseen,
         at_first: unseen,
     };
-    begin(code, table, heap, facts, todo, trial)
+    begin(judged, heap, facts, todo, trial)
 }
 
 /// How many slots of the lists of a trial were looked at.
@@ -135,44 +143,40 @@ fn is_found(
 #[tactic(auto, using(crate::proofs::Following::handing))]
 fn call_given(
     alloc: Global,
-    code: &Code,
-    table: &Table,
+    judged: &Judged<'_>,
     heap: &mut Heap,
     facts: &mut Facts,
     todo: &mut Todo,
-    from: Found,
-    target: u32,
-    next: u32,
+    at: FoundCall,
     callee: Trial,
     given: u32,
 ) -> Result<Seen, NoMemory>
-    requires keeps { Keeps table.now code.now heap.old facts.old }
-    requires row { row_in facts.old.rows from.trial from.place ≡ Some from.held }
-    requires op { IsCall code.now from.place target }
-    requires next { next ≡ from.place + 6 }
-    requires calls { Calls facts.old target callee }
+    requires keeps { Keeps judged.now.table.now judged.now.code.now heap.old facts.old }
+    requires row { row_in facts.old.rows at.from.trial at.from.place ≡ Some at.from.held }
+    requires op { IsCall judged.now.code.now at.from.place at.target }
+    requires next { at.next ≡ at.from.place + 6 }
+    requires calls { Calls facts.old at.target callee }
     requires given { callee.given ≡ Some given }
-    requires begins { BeginsAlike heap.old from.held callee }
-    requires within { Within heap.old facts.old from.trial (shape_of heap.old from.held)
+    requires begins { BeginsAlike heap.old at.from.held callee }
+    requires within { Within heap.old facts.old at.from.trial (shape_of heap.old at.from.held)
         (window heap.old callee) }
-    ensures sees { IfOk result (λ seen. Sees table.now code.now heap.old heap.new facts.old
-        facts.new
-        from.trial from.place from.held seen) }
+    ensures sees { IfOk result (λ seen. Sees judged.now.table.now judged.now.code.now heap.old
+        heap.new facts.old facts.new at.from.trial at.from.place at.from.held seen) }
     ensures waits { IfOk result (λ seen. NothingNew todo.old todo.new seen) }
 {
     let count = (heap.slots.depth(given) - callee.unseen.cells) as usize;
     let rest = heap
         .slots
-        .lower(from.held.cells, window(heap, callee).cells);
-    if is_found(heap, facts, from, next, given, count, rest)? {
+        .lower(at.from.held.cells, window(heap, callee).cells);
+    if is_found(heap, facts, at.from, at.next, given, count, rest)? {
         return Ok(Seen::Quiet);
     }
-    let now = with_cells(alloc, heap, from.held, given, count, rest)?;
+    let now = with_cells(alloc, heap, at.from.held, given, count, rest)?;
     let spot = Spot {
-        trial: from.trial,
-        place: next,
+        trial: at.from.trial,
+        place: at.next,
     };
-    let seen = follow(code, table, heap, facts, todo, spot, now)?;
+    let seen = follow(judged, heap, facts, todo, spot, now)?;
     Ok(seen)
 }
 
@@ -180,38 +184,32 @@ fn call_given(
 #[tactic(auto, using(crate::proofs::Following::handing))]
 fn call_known(
     alloc: Global,
-    code: &Code,
-    table: &Table,
+    judged: &Judged<'_>,
     heap: &mut Heap,
     facts: &mut Facts,
     todo: &mut Todo,
-    from: Found,
-    target: u32,
-    next: u32,
+    at: FoundCall,
     callee: Trial,
 ) -> Result<Seen, NoMemory>
-    requires keeps { Keeps table.now code.now heap.old facts.old }
-    requires row { row_in facts.old.rows from.trial from.place ≡ Some from.held }
-    requires op { IsCall code.now from.place target }
-    requires next { next ≡ from.place + 6 }
-    requires calls { Calls facts.old target callee }
-    ensures sees { IfOk result (λ seen. Sees table.now code.now heap.old heap.new facts.old
-        facts.new
-        from.trial from.place from.held seen) }
+    requires keeps { Keeps judged.now.table.now judged.now.code.now heap.old facts.old }
+    requires row { row_in facts.old.rows at.from.trial at.from.place ≡ Some at.from.held }
+    requires op { IsCall judged.now.code.now at.from.place at.target }
+    requires next { at.next ≡ at.from.place + 6 }
+    requires calls { Calls facts.old at.target callee }
+    ensures sees { IfOk result (λ seen. Sees judged.now.table.now judged.now.code.now heap.old
+        heap.new facts.old facts.new at.from.trial at.from.place at.from.held seen) }
     ensures waits { IfOk result (λ seen. NothingNew todo.old todo.new seen) }
 {
-    if !begins(heap, from.held, callee)? {
+    if !begins(heap, at.from.held, callee)? {
         return Ok(Seen::Bad);
     }
-    if see(code, table, heap, facts, todo, from, window(heap, callee))? {
+    if see(judged, heap, facts, todo, at.from, window(heap, callee))? {
         return Ok(Seen::Changed);
     }
     match callee.given {
         None => Ok(Seen::Quiet),
         Some(given) => {
-            let seen = call_given(
-                alloc, code, table, heap, facts, todo, from, target, next, callee, given,
-            )?;
+            let seen = call_given(alloc, judged, heap, facts, todo, at, callee, given)?;
             Ok(seen)
         }
     }
@@ -221,37 +219,31 @@ fn call_known(
 #[tactic(auto, using(crate::proofs::Following::handing))]
 pub fn call(
     alloc: Global,
-    code: &Code,
-    table: &Table,
+    judged: &Judged<'_>,
     heap: &mut Heap,
     facts: &mut Facts,
     todo: &mut Todo,
-    from: Found,
-    target: u32,
-    next: u32,
+    at: FoundCall,
 ) -> Result<Seen, NoMemory>
-    requires keeps { Keeps table.now code.now heap.old facts.old }
-    requires row { row_in facts.old.rows from.trial from.place ≡ Some from.held }
-    requires op { IsCall code.now from.place target }
-    requires next { next ≡ from.place + 6 }
-    ensures sees { IfOk result (λ seen. Sees table.now code.now heap.old heap.new facts.old
-        facts.new
-        from.trial from.place from.held seen) }
+    requires keeps { Keeps judged.now.table.now judged.now.code.now heap.old facts.old }
+    requires row { row_in facts.old.rows at.from.trial at.from.place ≡ Some at.from.held }
+    requires op { IsCall judged.now.code.now at.from.place at.target }
+    requires next { at.next ≡ at.from.place + 6 }
+    ensures sees { IfOk result (λ seen. Sees judged.now.table.now judged.now.code.now heap.old
+        heap.new facts.old facts.new at.from.trial at.from.place at.from.held seen) }
     ensures waits { IfOk result (λ seen. NothingNew todo.old todo.new seen) }
 {
     let spot = Spot {
-        trial: from.trial,
-        place: from.place,
+        trial: at.from.trial,
+        place: at.from.place,
     };
-    todo.add_call(target, spot)?;
-    match counting(facts, target) {
+    todo.add_call(at.target, spot)?;
+    match counting(facts, at.target) {
         None => {
-            call_first(code, table, heap, facts, todo, from, target)?;
+            call_first(judged, heap, facts, todo, at.from, at.target)?;
             Ok(Seen::Changed)
         }
-        Some(callee) => call_known(
-            alloc, code, table, heap, facts, todo, from, target, next, callee,
-        ),
+        Some(callee) => call_known(alloc, judged, heap, facts, todo, at, callee),
     }
 }
 

@@ -3,7 +3,7 @@ ghost use Rattle.stack_rules.specs.Tables.{ShapeTable};
 ghost use Rattle.stack_rules.specs.Fits.{Fits};
 ghost use Rattle.stack_rules.specs.Rules.{MeetsRules, WellStacked};
 ghost use Rattle.stack_check.specs.Checked.{IsWithinBudget, StoredStand, kept_table, most_turns};
-ghost use Rattle.stack_lists.specs.Budget.{most};
+ghost use Rattle.stack_lists.specs.Budget.{most, most_numbers};
 ghost use Rattle.stack_check.specs.declared.fault.CheckFault.TheVariants.{Unstacked};
 
 use crate::facts::Facts;
@@ -56,14 +56,17 @@ impl Drop for Checked {
 fn bounded(heap: &Heap, facts: &Facts)
     ensures rows { length facts.now.rows ≤ most }
     ensures nodes { length heap.now.slots ≤ most }
+    ensures saved { length heap.now.saved ≤ most_numbers }
 {
     let _rows = facts.rows.len();
     let _nodes = heap.slots.len();
+    let _saved = heap.saved.len();
 }
 
 /// The code with a table of shapes that meets the rules under this header, or `Unstacked` exactly
-/// where there is none. `NoMemory` comes where memory is refused, and past 2^25 rows or nodes of
-/// lists. The code is dropped on a refusal.
+/// where there is none. `NoMemory` comes where memory is refused, past 2^25 rows or nodes of lists of
+/// slots, and past 2^32 - 1 nodes of saved lists, or of lists of calls. The code is dropped on a
+/// refusal.
 #[tactic(auto, using(crate::proofs::Ending::checking))]
 pub fn check(alloc: Global, code: Code, table: &Table) -> Result<Checked, CheckFault>
     // What was handed in is kept.

@@ -5,8 +5,8 @@ ghost use Rattle.stack_check.specs.Inference.{TrialBegins, Formed, GivenOwed, Ke
 ghost use Rattle.stack_check.specs.Inference.{TrialAdded, TrialIn, UnseenOwed};
 ghost use Rattle.stack_check.specs.Inference.{CurrentSet};
 
-use ncs_file::Code;
-use nwq_value::{Items, NoMemory, Table};
+use crate::judged::Judged;
+use nwq_value::{Items, NoMemory};
 use stack_lists::{Heap, Held, Places, Rows, Spot, Todo, room};
 use stack_shape::Entry;
 
@@ -101,23 +101,22 @@ fn add_trial(facts: &mut Facts, trial: Trial) -> Result<u32, NoMemory>
 
 /// Begins a trial that compares with every table.
 pub fn begin(
-    code: &Code,
-    table: &Table,
+    judged: &Judged<'_>,
     heap: &Heap,
     facts: &mut Facts,
     todo: &mut Todo,
     trial: Trial,
 ) -> Result<(), NoMemory>
-    requires keeps { Keeps table.now code.now heap.now facts.old }
+    requires keeps { Keeps judged.now.table.now judged.now.code.now heap.now facts.old }
     requires entry { trial.entry ≢ Start }
     requires place { first_place trial.entry < 2 ^ 32 }
-    requires begins { TrialBegins table.now code.now heap.now trial }
+    requires begins { TrialBegins judged.now.table.now judged.now.code.now heap.now trial }
     requires inside { TrialIn heap.now trial }
-    ensures keeps { IfOk result (λ _. Keeps table.now code.now heap.now facts.new) }
+    ensures keeps { IfOk result (λ _. Keeps judged.now.table.now judged.now.code.now heap.now
+        facts.new) }
     ensures takes { IfOk result (λ _. FindsMore facts.old facts.new) }
 {
-    let _ = code;
-    let _ = table;
+    let _ = judged;
     let _ = heap;
     let number = add_trial(facts, trial)?;
     let place = first_place(trial.entry);
@@ -130,21 +129,21 @@ pub fn begin(
 
 /// Keeps what a routine gives.
 pub fn give(
-    code: &Code,
-    table: &Table,
+    judged: &Judged<'_>,
     heap: &Heap,
     facts: &mut Facts,
     number: u32,
     given: u32,
 ) -> Result<(), NoMemory>
-    requires keeps { Keeps table.now code.now heap.now facts.old }
-    requires owed { GivenOwed table.now code.now heap.now facts.old number given }
+    requires keeps { Keeps judged.now.table.now judged.now.code.now heap.now facts.old }
+    requires owed { GivenOwed judged.now.table.now judged.now.code.now heap.now facts.old number
+        given }
     requires inside { given ≤ length heap.now.slots }
-    ensures keeps { IfOk result (λ _. Keeps table.now code.now heap.now facts.new) }
+    ensures keeps { IfOk result (λ _. Keeps judged.now.table.now judged.now.code.now heap.now
+        facts.new) }
     ensures takes { IfOk result (λ _. FindsMore facts.old facts.new) }
 {
-    let _ = code;
-    let _ = table;
+    let _ = judged;
     let _ = heap;
     match facts.trials.get(number as usize) {
         None => unreachable!(),
@@ -166,23 +165,22 @@ pub fn give(
 /// Keeps that more of a trial's lists was looked at.
 #[tactic(auto, using(crate::proofs::Seeing::narrowing))]
 pub fn narrow(
-    code: &Code,
-    table: &Table,
+    judged: &Judged<'_>,
     heap: &Heap,
     facts: &mut Facts,
     number: u32,
     trial: Trial,
     unseen: Unseen,
 )
-    requires keeps { Keeps table.now code.now heap.now facts.old }
+    requires keeps { Keeps judged.now.table.now judged.now.code.now heap.now facts.old }
     requires trial { slice_get facts.old.trials number ≡ Some trial }
     requires less { SeesMore trial.unseen unseen }
-    requires owed { UnseenOwed table.now code.now heap.now facts.old number trial unseen }
-    ensures keeps { Keeps table.now code.now heap.now facts.new }
+    requires owed { UnseenOwed judged.now.table.now judged.now.code.now heap.now facts.old number
+        trial unseen }
+    ensures keeps { Keeps judged.now.table.now judged.now.code.now heap.now facts.new }
     ensures takes { FindsMore facts.old facts.new }
 {
-    let _ = code;
-    let _ = table;
+    let _ = judged;
     let _ = heap;
     let trial = Trial {
         entry: trial.entry,

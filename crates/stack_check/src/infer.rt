@@ -7,6 +7,7 @@ ghost use Rattle.stack_check.specs.Inference.{IsFound, Keeps, NothingNew, SeesAl
 ghost use Rattle.stack_check.specs.Inference.{SeesRow, SeesTurn, WhereQuiet};
 
 use crate::facts::{Facts, Trial, Unseen};
+use crate::judged::Judged;
 use crate::reach::Found;
 use crate::seen::Seen;
 use crate::visit::visit;
@@ -20,25 +21,23 @@ use std::alloc::Global;
 #[tactic(auto, using(crate::proofs::Passing::looking))]
 fn look(
     alloc: Global,
-    code: &Code,
-    table: &Table,
+    judged: &Judged<'_>,
     heap: &mut Heap,
     facts: &mut Facts,
     todo: &mut Todo,
     trial: u32,
     place: u32,
 ) -> Result<Seen, NoMemory>
-    requires keeps { Keeps table.now code.now heap.old facts.old }
-    ensures sees { IfOk result (λ seen. SeesRow table.now code.now heap.old heap.new facts.old
-        facts.new
-        trial place seen) }
+    requires keeps { Keeps judged.now.table.now judged.now.code.now heap.old facts.old }
+    ensures sees { IfOk result (λ seen. SeesRow judged.now.table.now judged.now.code.now heap.old
+        heap.new facts.old facts.new trial place seen) }
     ensures waits { IfOk result (λ seen. NothingNew todo.old todo.new seen) }
 {
     match facts.rows.find(trial, place) {
         None => Ok(Seen::Quiet),
         Some(held) => {
             let from = Found { trial, place, held };
-            let seen = visit(alloc, code, table, heap, facts, todo, from)?;
+            let seen = visit(alloc, judged, heap, facts, todo, from)?;
             Ok(seen)
         }
     }
@@ -49,21 +48,18 @@ fn look(
 #[tactic(auto, using(crate::proofs::Ending::draining))]
 fn drain(
     alloc: Global,
-    code: &Code,
-    table: &Table,
+    judged: &Judged<'_>,
     heap: &mut Heap,
     facts: &mut Facts,
     todo: &mut Todo,
 ) -> Result<Seen, NoMemory>
-    requires keeps { Keeps table.now code.now heap.old facts.old }
-    ensures sees { IfOk result (λ seen. SeesDrained table.now code.now heap.old heap.new facts.old
-        facts.new seen) }
+    requires keeps { Keeps judged.now.table.now judged.now.code.now heap.old facts.old }
+    ensures sees { IfOk result (λ seen. SeesDrained judged.now.table.now judged.now.code.now
+        heap.old heap.new facts.old facts.new seen) }
     ensures none { IfOk result (λ seen. WhereQuiet seen (waiting todo.new ≡ [])) }
 {
     while let Some(spot) = todo.next() {
-        let seen = look(
-            alloc, code, table, heap, facts, todo, spot.trial, spot.place,
-        )?;
+        let seen = look(alloc, judged, heap, facts, todo, spot.trial, spot.place)?;
         match seen {
             Seen::Quiet => {}
             Seen::Changed => return Ok(Seen::Changed),
@@ -78,15 +74,14 @@ fn drain(
 #[tactic(auto, using(crate::proofs::Passing::passing))]
 fn pass(
     alloc: Global,
-    code: &Code,
-    table: &Table,
+    judged: &Judged<'_>,
     heap: &mut Heap,
     facts: &mut Facts,
     todo: &mut Todo,
 ) -> Result<Seen, NoMemory>
-    requires keeps { Keeps table.now code.now heap.old facts.old }
-    ensures sees { IfOk result (λ seen. SeesAll table.now code.now heap.old heap.new facts.old
-        facts.new seen) }
+    requires keeps { Keeps judged.now.table.now judged.now.code.now heap.old facts.old }
+    ensures sees { IfOk result (λ seen. SeesAll judged.now.table.now judged.now.code.now heap.old
+        heap.new facts.old facts.new seen) }
 {
     let mut number = 0;
     'rows: loop {
@@ -97,7 +92,7 @@ fn pass(
             }
             Some(row) => row,
         };
-        let seen = look(alloc, code, table, heap, facts, todo, row.trial, row.place)?;
+        let seen = look(alloc, judged, heap, facts, todo, row.trial, row.place)?;
         match seen {
             Seen::Quiet => {}
             Seen::Changed => return Ok(Seen::Changed),
@@ -111,26 +106,25 @@ fn pass(
 #[tactic(auto, using(crate::proofs::Ending::turning))]
 fn turn(
     alloc: Global,
-    code: &Code,
-    table: &Table,
+    judged: &Judged<'_>,
     heap: &mut Heap,
     facts: &mut Facts,
     todo: &mut Todo,
     turns: &mut u64,
 ) -> Result<Seen, NoMemory>
-    requires keeps { Keeps table.now code.now heap.old facts.old }
+    requires keeps { Keeps judged.now.table.now judged.now.code.now heap.old facts.old }
     requires few { turns.old < 2 ^ 63 }
-    ensures sees { IfOk result (λ seen. SeesTurn table.now code.now heap.new facts.old
-        facts.new seen) }
+    ensures sees { IfOk result (λ seen. SeesTurn judged.now.table.now judged.now.code.now heap.new
+        facts.old facts.new seen) }
     ensures turns { turns.new ≡ turns.old + 1 }
 {
     *turns += 1;
-    let seen = drain(alloc, code, table, heap, facts, todo)?;
+    let seen = drain(alloc, judged, heap, facts, todo)?;
     match seen {
         Seen::Changed => Ok(Seen::Changed),
         Seen::Bad => Ok(Seen::Bad),
         Seen::Quiet => {
-            let seen = pass(alloc, code, table, heap, facts, todo)?;
+            let seen = pass(alloc, judged, heap, facts, todo)?;
             Ok(seen)
         }
     }
@@ -138,12 +132,12 @@ fn turn(
 
 /// What is known before anything was looked at: a script starts with nothing on its stack.
 #[tactic(auto, using(crate::proofs::Ending::starting))]
-fn first_facts(alloc: Global, code: &Code, table: &Table, heap: &Heap) -> Result<Facts, NoMemory>
-    ensures keeps { IfOk result (λ facts. Keeps table.now code.now heap.now facts) }
+fn first_facts(alloc: Global, judged: &Judged<'_>, heap: &Heap) -> Result<Facts, NoMemory>
+    ensures keeps { IfOk result (λ facts. Keeps judged.now.table.now judged.now.code.now heap.now
+        facts) }
     ensures begins { IfOk result (λ facts. (found facts ≡ 1) × (left facts < 2 ^ 62)) }
 {
-    let _ = code;
-    let _ = table;
+    let _ = judged;
     let _ = heap;
     let held = Held {
         cells: 0,
@@ -184,18 +178,18 @@ pub struct Kept {
 #[tactic(auto, using(crate::proofs::Ending::ending))]
 fn settle(
     alloc: Global,
-    code: &Code,
-    table: &Table,
+    judged: &Judged<'_>,
     heap: &mut Heap,
     facts: &mut Facts,
     todo: &mut Todo,
     turns: &mut u64,
 ) -> Result<bool, NoMemory>
-    requires keeps { Keeps table.now code.now heap.old facts.old }
+    requires keeps { Keeps judged.now.table.now judged.now.code.now heap.old facts.old }
     requires begins { turns.old + left facts.old < 2 ^ 63 }
-    ensures found { IfOk result (λ found. found ≡ true → IsFound table.now code.now heap.new
-        facts.new) }
-    ensures none { IfOk result (λ found. found ≡ false → WellStacked table.now code.now → ⊥) }
+    ensures found { IfOk result (λ found. found ≡ true → IsFound judged.now.table.now
+        judged.now.code.now heap.new facts.new) }
+    ensures none { IfOk result (λ found. found ≡ false → WellStacked judged.now.table.now
+        judged.now.code.now → ⊥) }
     // A turn that isn't the last one finds something.
     ensures turns { IfOk result (λ is_found. is_found ≡ true → turns.new + found facts.old
         ≤ turns.old + found facts.new + 1) }
@@ -205,7 +199,7 @@ fn settle(
         place: 13,
     })?;
     'work: loop {
-        match turn(alloc, code, table, heap, facts, todo, turns)? {
+        match turn(alloc, judged, heap, facts, todo, turns)? {
             Seen::Quiet => return Ok(true),
             Seen::Bad => return Ok(false),
             Seen::Changed => {}
@@ -225,7 +219,8 @@ pub fn infer(alloc: Global, code: &Code, table: &Table) -> Result<Option<Kept>, 
     };
     // What is owned is dropped by calls, since a drop that is left to the end of a scope is dear to
     // prove.
-    match first_facts(alloc, code, table, &heap) {
+    let judged = Judged { code, table };
+    match first_facts(alloc, &judged, &heap) {
         Err(error) => {
             drop(heap);
             Err(error)
@@ -239,8 +234,7 @@ pub fn infer(alloc: Global, code: &Code, table: &Table) -> Result<Option<Kept>, 
             let mut todo = Todo::new(alloc);
             let found = settle(
                 alloc,
-                code,
-                table,
+                &judged,
                 &mut kept.heap,
                 &mut kept.facts,
                 &mut todo,

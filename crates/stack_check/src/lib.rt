@@ -16,6 +16,7 @@ mod facts;
 mod fault;
 mod fits;
 mod infer;
+mod judged;
 mod laws;
 mod leads;
 mod reach;

@@ -8,11 +8,11 @@ ghost use Rattle.stack_check.specs.Inference.{Visited, WhereQuiet, after_change,
 ghost use Rattle.machine_rules.specs.Act.{next_place};
 
 use crate::facts::Facts;
+use crate::judged::Judged;
 use crate::leads::Lead;
 use crate::seen::Seen;
 use ncs_code::Op;
-use ncs_file::Code;
-use nwq_value::{NoMemory, Table};
+use nwq_value::NoMemory;
 use stack_lists::{Heap, Held, Spot, Todo, same_shape};
 use stack_shape::rules_look_from_the_top;
 
@@ -57,26 +57,26 @@ fn note(todo: &mut Todo, seen: Seen, spot: Spot) -> Result<(), NoMemory>
 /// Reaches a shape that every table has at the place.
 #[tactic(auto, using(crate::proofs::Following::following))]
 pub fn follow(
-    code: &Code,
-    table: &Table,
+    judged: &Judged<'_>,
     heap: &Heap,
     facts: &mut Facts,
     todo: &mut Todo,
     spot: Spot,
     held: Held,
 ) -> Result<Seen, NoMemory>
-    requires keeps { Keeps table.now code.now heap.now facts.old }
-    requires owed { Owed table.now code.now heap.now facts.old spot.trial spot.place held }
+    requires keeps { Keeps judged.now.table.now judged.now.code.now heap.now facts.old }
+    requires owed { Owed judged.now.table.now judged.now.code.now heap.now facts.old spot.trial
+        spot.place held }
     requires inside { IsIn heap.now held }
-    ensures keeps { IfOk result (λ seen. Visited table.now code.now heap.now facts.new seen) }
+    ensures keeps { IfOk result (λ seen. Visited judged.now.table.now judged.now.code.now heap.now
+        facts.new seen) }
     ensures kept { IfOk result (λ _. RowsKept facts.old facts.new) }
     ensures takes { IfOk result (λ seen. Takes facts.old facts.new seen) }
     ensures quiet { IfOk result (λ seen. WhereQuiet seen ((facts.new ≡ facts.old)
         × RowIs heap.now facts.old spot.trial spot.place (shape_of heap.now held))) }
     ensures waits { IfOk result (λ seen. NothingNew todo.old todo.new seen) }
 {
-    let _ = code;
-    let _ = table;
+    let _ = judged;
     let seen = reach(heap, facts, spot.trial, spot.place, held)?;
     note(todo, seen, spot)?;
     Ok(seen)
@@ -88,6 +88,14 @@ pub struct Found {
     pub trial: u32,
     pub place: u32,
     pub held: Held,
+}
+
+/// A shape that was found at an instruction, and the place behind that.
+#[derive(Clone, Copy)]
+pub struct FoundOp<'a> {
+    pub from: Found,
+    pub op: &'a Op<'a>,
+    pub next: u32,
 }
 
 pub fn after_change(seen: Seen) -> Seen
@@ -102,75 +110,68 @@ pub fn after_change(seen: Seen) -> Seen
 
 /// Reaches the shape after an instruction at one of the places to which it leads.
 fn lead_to(
-    code: &Code,
-    table: &Table,
+    judged: &Judged<'_>,
     heap: &Heap,
     facts: &mut Facts,
     todo: &mut Todo,
-    from: Found,
-    op: &Op<'_>,
+    at: &FoundOp<'_>,
     after: Held,
     lead: Lead,
     place: u32,
 ) -> Result<Seen, NoMemory>
-    requires keeps { Keeps table.now code.now heap.now facts.old }
-    requires step { IsStep table.now code.now heap.now facts.old from.trial from.place from.held
-        (plain op.now) after }
-    requires lead { lead ≡ leads_of from.place (next_place from.place (plain op.now)) (plain
-        op.now) }
+    requires keeps { Keeps judged.now.table.now judged.now.code.now heap.now facts.old }
+    requires step { IsStep judged.now.table.now judged.now.code.now heap.now facts.old
+        at.now.from.trial at.now.from.place at.now.from.held (plain at.now.op.now) after }
+    requires lead { lead ≡ leads_of at.now.from.place (next_place at.now.from.place (plain
+        at.now.op.now)) (plain at.now.op.now) }
     requires led { IsLed lead place }
-    ensures keeps { IfOk result (λ seen. Visited table.now code.now heap.now facts.new seen) }
+    ensures keeps { IfOk result (λ seen. Visited judged.now.table.now judged.now.code.now heap.now
+        facts.new seen) }
     ensures kept { IfOk result (λ _. RowsKept facts.old facts.new) }
     ensures takes { IfOk result (λ seen. Takes facts.old facts.new seen) }
     ensures quiet { IfOk result (λ seen. WhereQuiet seen ((facts.new ≡ facts.old)
-        × RowIs heap.now facts.old from.trial place (shape_of heap.now after))) }
+        × RowIs heap.now facts.old at.now.from.trial place (shape_of heap.now after))) }
     ensures waits { IfOk result (λ seen. NothingNew todo.old todo.new seen) }
 {
     rules_look_from_the_top();
-    let _ = op;
     let _ = lead;
-    let trial = from.trial;
-    follow(code, table, heap, facts, todo, Spot { trial, place }, after)
+    let trial = at.from.trial;
+    follow(judged, heap, facts, todo, Spot { trial, place }, after)
 }
 
 /// Reaches the shape after an instruction wherever it leads.
 #[tactic(auto, using(crate::proofs::Following::leading, crate::proofs::Following::handing))]
 pub fn lead(
-    code: &Code,
-    table: &Table,
+    judged: &Judged<'_>,
     heap: &Heap,
     facts: &mut Facts,
     todo: &mut Todo,
-    from: Found,
-    op: &Op<'_>,
+    at: &FoundOp<'_>,
     after: Held,
     lead: Lead,
 ) -> Result<Seen, NoMemory>
-    requires keeps { Keeps table.now code.now heap.now facts.old }
-    requires step { IsStep table.now code.now heap.now facts.old from.trial from.place from.held
-        (plain op.now) after }
-    requires lead { lead ≡ leads_of from.place (next_place from.place (plain op.now)) (plain
-        op.now) }
-    ensures keeps { IfOk result (λ seen. Visited table.now code.now heap.now facts.new seen) }
+    requires keeps { Keeps judged.now.table.now judged.now.code.now heap.now facts.old }
+    requires step { IsStep judged.now.table.now judged.now.code.now heap.now facts.old
+        at.now.from.trial at.now.from.place at.now.from.held (plain at.now.op.now) after }
+    requires lead { lead ≡ leads_of at.now.from.place (next_place at.now.from.place (plain
+        at.now.op.now)) (plain at.now.op.now) }
+    ensures keeps { IfOk result (λ seen. Visited judged.now.table.now judged.now.code.now heap.now
+        facts.new seen) }
     ensures kept { IfOk result (λ _. RowsKept facts.old facts.new) }
     ensures takes { IfOk result (λ seen. Takes facts.old facts.new seen) }
     ensures quiet { IfOk result (λ seen. WhereQuiet seen ((facts.new ≡ facts.old)
-        × AllLed heap.now facts.old from.trial lead (shape_of heap.now after))) }
+        × AllLed heap.now facts.old at.now.from.trial lead (shape_of heap.now after))) }
     ensures waits { IfOk result (λ seen. NothingNew todo.old todo.new seen) }
 {
     match lead {
-        Lead::One(place) => lead_to(code, table, heap, facts, todo, from, op, after, lead, place),
+        Lead::One(place) => lead_to(judged, heap, facts, todo, at, after, lead, place),
         Lead::Two(first, second) => {
-            let seen = lead_to(code, table, heap, facts, todo, from, op, after, lead, first)?;
+            let seen = lead_to(judged, heap, facts, todo, at, after, lead, first)?;
             match seen {
                 Seen::Bad => Ok(Seen::Bad),
-                Seen::Quiet => lead_to(
-                    code, table, heap, facts, todo, from, op, after, lead, second,
-                ),
+                Seen::Quiet => lead_to(judged, heap, facts, todo, at, after, lead, second),
                 Seen::Changed => {
-                    let seen = lead_to(
-                        code, table, heap, facts, todo, from, op, after, lead, second,
-                    )?;
+                    let seen = lead_to(judged, heap, facts, todo, at, after, lead, second)?;
                     Ok(after_change(seen))
                 }
             }

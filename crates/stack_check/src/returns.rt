@@ -7,18 +7,17 @@ ghost use Rattle.stack_lists.specs.Rows.{row_in};
 ghost use Rattle.stack_check.specs.Inference.{Keeps, NothingNew, Sees};
 
 use crate::facts::{Facts, Trial, give};
+use crate::judged::Judged;
 use crate::reach::Found;
 use crate::seen::Seen;
-use ncs_file::Code;
-use nwq_value::{NoMemory, Table};
+use nwq_value::NoMemory;
 use stack_lists::{Heap, Todo, same};
 use stack_shape::Entry;
 
 /// RETN of a called routine, with nothing saved or pending.
 #[tactic(auto, using(crate::proofs::ReturnSteps::giving))]
 fn return_cells(
-    code: &Code,
-    table: &Table,
+    judged: &Judged<'_>,
     heap: &Heap,
     facts: &mut Facts,
     todo: &mut Todo,
@@ -26,21 +25,20 @@ fn return_cells(
     trial: Trial,
     target: u32,
 ) -> Result<Seen, NoMemory>
-    requires keeps { Keeps table.now code.now heap.now facts.old }
+    requires keeps { Keeps judged.now.table.now judged.now.code.now heap.now facts.old }
     requires row { row_in facts.old.rows from.trial from.place ≡ Some from.held }
-    requires op { op_at code.now from.place ≡ Some Retn }
+    requires op { op_at judged.now.code.now from.place ≡ Some Retn }
     requires trial { slice_get facts.old.trials from.trial ≡ Some trial }
     requires entry { trial.entry ≡ Called target }
     requires saved { read heap.now.saved from.held.saved ≡ [] }
     requires pending { from.held.pending ≡ 0 }
-    ensures sees { IfOk result (λ seen. Sees table.now code.now heap.now heap.now facts.old
-        facts.new
-        from.trial from.place from.held seen) }
+    ensures sees { IfOk result (λ seen. Sees judged.now.table.now judged.now.code.now heap.now
+        heap.now facts.old facts.new from.trial from.place from.held seen) }
     ensures waits { IfOk result (λ seen. NothingNew todo.old todo.new seen) }
 {
     match trial.given {
         None => {
-            give(code, table, heap, facts, from.trial, from.held.cells)?;
+            give(judged, heap, facts, from.trial, from.held.cells)?;
             todo.add_callers(target)?;
             Ok(Seen::Changed)
         }
@@ -57,8 +55,7 @@ fn return_cells(
 /// RETN of a called routine.
 #[tactic(auto, using(crate::proofs::ReturnSteps::leaving))]
 fn return_called(
-    code: &Code,
-    table: &Table,
+    judged: &Judged<'_>,
     heap: &Heap,
     facts: &mut Facts,
     todo: &mut Todo,
@@ -66,14 +63,13 @@ fn return_called(
     trial: Trial,
     target: u32,
 ) -> Result<Seen, NoMemory>
-    requires keeps { Keeps table.now code.now heap.now facts.old }
+    requires keeps { Keeps judged.now.table.now judged.now.code.now heap.now facts.old }
     requires row { row_in facts.old.rows from.trial from.place ≡ Some from.held }
-    requires op { op_at code.now from.place ≡ Some Retn }
+    requires op { op_at judged.now.code.now from.place ≡ Some Retn }
     requires trial { slice_get facts.old.trials from.trial ≡ Some trial }
     requires entry { trial.entry ≡ Called target }
-    ensures sees { IfOk result (λ seen. Sees table.now code.now heap.now heap.now facts.old
-        facts.new
-        from.trial from.place from.held seen) }
+    ensures sees { IfOk result (λ seen. Sees judged.now.table.now judged.now.code.now heap.now
+        heap.now facts.old facts.new from.trial from.place from.held seen) }
     ensures waits { IfOk result (λ seen. NothingNew todo.old todo.new seen) }
 {
     if from.held.pending != 0 {
@@ -81,33 +77,31 @@ fn return_called(
     }
     match heap.saved.pop(from.held.saved) {
         Some((_top, _rest)) => Ok(Seen::Bad),
-        None => return_cells(code, table, heap, facts, todo, from, trial, target),
+        None => return_cells(judged, heap, facts, todo, from, trial, target),
     }
 }
 
 /// RETN.
 #[tactic(auto, using(crate::proofs::ReturnSteps::ending))]
 pub fn returned(
-    code: &Code,
-    table: &Table,
+    judged: &Judged<'_>,
     heap: &Heap,
     facts: &mut Facts,
     todo: &mut Todo,
     from: Found,
     trial: Trial,
 ) -> Result<Seen, NoMemory>
-    requires keeps { Keeps table.now code.now heap.now facts.old }
+    requires keeps { Keeps judged.now.table.now judged.now.code.now heap.now facts.old }
     requires row { row_in facts.old.rows from.trial from.place ≡ Some from.held }
-    requires op { op_at code.now from.place ≡ Some Retn }
+    requires op { op_at judged.now.code.now from.place ≡ Some Retn }
     requires trial { slice_get facts.old.trials from.trial ≡ Some trial }
-    ensures sees { IfOk result (λ seen. Sees table.now code.now heap.now heap.now facts.old
-        facts.new
-        from.trial from.place from.held seen) }
+    ensures sees { IfOk result (λ seen. Sees judged.now.table.now judged.now.code.now heap.now
+        heap.now facts.old facts.new from.trial from.place from.held seen) }
     ensures waits { IfOk result (λ seen. NothingNew todo.old todo.new seen) }
 {
     match trial.entry {
         Entry::Start => Ok(Seen::Quiet),
         Entry::Stored(_site) => Ok(Seen::Quiet),
-        Entry::Called(target) => return_called(code, table, heap, facts, todo, from, trial, target),
+        Entry::Called(target) => return_called(judged, heap, facts, todo, from, trial, target),
     }
 }

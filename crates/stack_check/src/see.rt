@@ -6,9 +6,9 @@ ghost use Rattle.stack_check.specs.Inference.{CallsAgain, IsThere, Keeps, LooksO
 ghost use Rattle.stack_check.specs.Inference.{narrowed, unseen_after};
 
 use crate::facts::{Facts, Trial, Unseen, narrow};
+use crate::judged::Judged;
 use crate::reach::Found;
-use ncs_file::Code;
-use nwq_value::{NoMemory, Table};
+use nwq_value::NoMemory;
 use stack_lists::{Heap, Held, Spot, Todo};
 use stack_shape::{Entry, Reach};
 
@@ -77,19 +77,20 @@ fn has_seen_all(trial: Trial) -> bool
 /// trial's routine took from its first caller, and no instruction had looked at them.
 #[tactic(auto, using(crate::proofs::Seeing::seeing))]
 pub fn see(
-    code: &Code,
-    table: &Table,
+    judged: &Judged<'_>,
     heap: &Heap,
     facts: &mut Facts,
     todo: &mut Todo,
     from: Found,
     reach: Reach,
 ) -> Result<bool, NoMemory>
-    requires keeps { Keeps table.now code.now heap.now facts.old }
+    requires keeps { Keeps judged.now.table.now judged.now.code.now heap.now facts.old }
     requires row { row_in facts.old.rows from.trial from.place ≡ Some from.held }
     requires looks { IsThere (shape_of heap.now from.held) reach }
-    requires owed { LooksOwed table.now code.now heap.now facts.old from.trial from.place reach }
-    ensures keeps { IfOk result (λ _. Keeps table.now code.now heap.now facts.new) }
+    requires owed { LooksOwed judged.now.table.now judged.now.code.now heap.now facts.old from.trial
+        from.place reach }
+    ensures keeps { IfOk result (λ _. Keeps judged.now.table.now judged.now.code.now heap.now
+        facts.new) }
     ensures more { IfOk result (λ more. more ≡ true → FindsMore facts.old facts.new) }
     ensures within { IfOk result (λ more. more ≡ false → (facts.new ≡ facts.old)
         × Within heap.now facts.old from.trial (shape_of heap.now from.held) reach) }
@@ -106,7 +107,7 @@ pub fn see(
             if same_unseen(unseen, trial.unseen) {
                 return Ok(false);
             }
-            narrow(code, table, heap, facts, from.trial, trial, unseen);
+            narrow(judged, heap, facts, from.trial, trial, unseen);
             look_again(todo, trial.entry)?;
             todo.add(Spot {
                 trial: from.trial,

@@ -15,16 +15,17 @@ ghost use Rattle.stack_check.specs.Inference.{IsPlain, IsStored, Keeps, NothingN
 ghost use Rattle.stack_check.specs.Inference.{SeesStep, Stores, Takes, Visited, WhereQuiet};
 ghost use Rattle.stack_check.specs.Inference.{leads_of};
 
-use crate::calls::call;
+use crate::calls::{FoundCall, call};
 use crate::facts::{Facts, Trial, Unseen, begin};
+use crate::judged::Judged;
 use crate::leads::{Kind, kind_of, leads_of};
-use crate::reach::{Found, after_change, follow, lead};
+use crate::reach::{Found, FoundOp, after_change, follow, lead};
 use crate::returns::returned;
 use crate::see::see;
 use crate::seen::Seen;
 use ncs_code::{Op, place_laws};
 use ncs_file::Code;
-use nwq_value::{NoMemory, Table};
+use nwq_value::NoMemory;
 use stack_lists::{Heap, Held, Spot, Todo, put_types, step, top};
 use stack_shape::{
     Entry, Slot, StoredTypes, reach_of, rules_look_from_the_top, rules_look_no_deeper, stored_types,
@@ -35,35 +36,34 @@ use std::alloc::Global;
 #[tactic(auto, using(crate::proofs::Visits::steps, crate::proofs::Following::handing))]
 fn visit_step(
     alloc: Global,
-    code: &Code,
-    table: &Table,
+    judged: &Judged<'_>,
     heap: &mut Heap,
     facts: &mut Facts,
     todo: &mut Todo,
-    from: Found,
-    op: &Op<'_>,
-    next: u32,
+    at: &FoundOp<'_>,
 ) -> Result<Seen, NoMemory>
-    requires keeps { Keeps table.now code.now heap.old facts.old }
-    requires row { row_in facts.old.rows from.trial from.place ≡ Some from.held }
-    requires op { op_at code.now from.place ≡ Some (plain op.now) }
-    requires one { IsOneStep (plain op.now) }
-    requires next { next ≡ next_place from.place (plain op.now) }
-    requires bound { from.place < 2 ^ 31 }
-    ensures sees { IfOk result (λ seen. SeesStep table.now code.now heap.old heap.new facts.old
-        facts.new from.trial from.place from.held (plain op.now) seen) }
+    requires keeps { Keeps judged.now.table.now judged.now.code.now heap.old facts.old }
+    requires row { row_in facts.old.rows at.now.from.trial at.now.from.place ≡ Some at.now.from.held }
+    requires op { op_at judged.now.code.now at.now.from.place ≡ Some (plain at.now.op.now) }
+    requires one { IsOneStep (plain at.now.op.now) }
+    requires next { at.now.next ≡ next_place at.now.from.place (plain at.now.op.now) }
+    requires bound { at.now.from.place < 2 ^ 31 }
+    ensures sees { IfOk result (λ seen. SeesStep judged.now.table.now judged.now.code.now heap.old
+        heap.new facts.old facts.new at.now.from.trial at.now.from.place at.now.from.held (plain
+        at.now.op.now) seen) }
     ensures waits { IfOk result (λ seen. NothingNew todo.old todo.new seen) }
 {
     rules_look_from_the_top();
     rules_look_no_deeper();
-    match step(alloc, op, table, heap, from.held)? {
+    match step(alloc, at.op, judged.table, heap, at.from.held)? {
         None => Ok(Seen::Bad),
         Some(after) => {
-            if see(code, table, heap, facts, todo, from, reach_of(op, table))? {
+            let reach = reach_of(at.op, judged.table);
+            if see(judged, heap, facts, todo, at.from, reach)? {
                 return Ok(Seen::Changed);
             }
-            let leads = leads_of(op, from.place, next);
-            let seen = lead(code, table, heap, facts, todo, from, op, after, leads)?;
+            let leads = leads_of(at.op, at.from.place, at.next);
+            let seen = lead(judged, heap, facts, todo, at, after, leads)?;
             Ok(seen)
         }
     }
@@ -98,20 +98,20 @@ fn stored_trial(facts: &Facts, site: u32) -> Option<u32>
 /// Reaches the shape with which the state resumes that is stored at a place.
 #[tactic(auto, using(crate::proofs::Storing::resuming))]
 fn resume(
-    code: &Code,
-    table: &Table,
+    judged: &Judged<'_>,
     heap: &Heap,
     facts: &mut Facts,
     todo: &mut Todo,
     site: u32,
     held: Held,
 ) -> Result<Seen, NoMemory>
-    requires keeps { Keeps table.now code.now heap.now facts.old }
-    requires owed { Resumes table.now code.now site (shape_of heap.now held) }
+    requires keeps { Keeps judged.now.table.now judged.now.code.now heap.now facts.old }
+    requires owed { Resumes judged.now.table.now judged.now.code.now site (shape_of heap.now held) }
     requires inside { IsIn heap.now held }
     requires first { (held.saved ≡ 0) × (held.pending ≡ 0) }
     requires bound { site < 2 ^ 31 }
-    ensures keeps { IfOk result (λ seen. Visited table.now code.now heap.now facts.new seen) }
+    ensures keeps { IfOk result (λ seen. Visited judged.now.table.now judged.now.code.now heap.now
+        facts.new seen) }
     ensures takes { IfOk result (λ seen. Takes facts.old facts.new seen) }
     ensures quiet { IfOk result (λ seen. WhereQuiet seen ((facts.new ≡ facts.old)
         × IsStored heap.now facts.old site (shape_of heap.now held))) }
@@ -127,7 +127,7 @@ fn resume(
                 unseen: Unseen { cells: 0, under: 0 },
                 at_first: Unseen { cells: 0, under: 0 },
             };
-            begin(code, table, heap, facts, todo, trial)?;
+            begin(judged, heap, facts, todo, trial)?;
             Ok(Seen::Changed)
         }
         Some(trial) => {
@@ -135,7 +135,7 @@ fn resume(
                 trial,
                 place: site + 16,
             };
-            let seen = follow(code, table, heap, facts, todo, spot, held)?;
+            let seen = follow(judged, heap, facts, todo, spot, held)?;
             Ok(seen)
         }
     }
@@ -144,26 +144,26 @@ fn resume(
 /// Stores a state of these types at a place.
 #[tactic(auto, using(crate::proofs::Storing::resumed))]
 fn store(
-    code: &Code,
-    table: &Table,
+    judged: &Judged<'_>,
     heap: &mut Heap,
     facts: &mut Facts,
     todo: &mut Todo,
     site: u32,
     types: &StoredTypes,
 ) -> Result<Seen, NoMemory>
-    requires keeps { Keeps table.now code.now heap.old facts.old }
-    requires owed { Resumes table.now code.now site (stored_shape types.now) }
+    requires keeps { Keeps judged.now.table.now judged.now.code.now heap.old facts.old }
+    requires owed { Resumes judged.now.table.now judged.now.code.now site (stored_shape types.now) }
     requires bound { site < 2 ^ 31 }
     ensures grows { IfOk result (λ _. HeapGrows heap.old heap.new) }
-    ensures keeps { IfOk result (λ seen. Visited table.now code.now heap.new facts.new seen) }
+    ensures keeps { IfOk result (λ seen. Visited judged.now.table.now judged.now.code.now heap.new
+        facts.new seen) }
     ensures takes { IfOk result (λ seen. Takes facts.old facts.new seen) }
     ensures quiet { IfOk result (λ seen. WhereQuiet seen ((facts.new ≡ facts.old)
         × IsStored heap.new facts.old site (stored_shape types.now))) }
     ensures waits { IfOk result (λ seen. NothingNew todo.old todo.new seen) }
 {
     let held = hold_stored(heap, types)?;
-    let seen = resume(code, table, heap, facts, todo, site, held)?;
+    let seen = resume(judged, heap, facts, todo, site, held)?;
     Ok(seen)
 }
 
@@ -171,37 +171,33 @@ fn store(
 #[tactic(auto, using(crate::proofs::Storing::storing, crate::proofs::Following::handing))]
 fn visit_store(
     alloc: Global,
-    code: &Code,
-    table: &Table,
+    judged: &Judged<'_>,
     heap: &mut Heap,
     facts: &mut Facts,
     todo: &mut Todo,
-    from: Found,
-    op: &Op<'_>,
+    at: &FoundOp<'_>,
     types: &StoredTypes,
-    next: u32,
 ) -> Result<Seen, NoMemory>
-    requires keeps { Keeps table.now code.now heap.old facts.old }
-    requires row { row_in facts.old.rows from.trial from.place ≡ Some from.held }
-    requires op { op_at code.now from.place ≡ Some (plain op.now) }
-    requires stores { Stores (plain op.now) (shape_of heap.old from.held) types.now }
-    requires next { next ≡ next_place from.place (plain op.now) }
-    requires bound { from.place < 2 ^ 31 }
-    ensures sees { IfOk result (λ seen. Sees table.now code.now heap.old heap.new facts.old
-        facts.new
-        from.trial from.place from.held seen) }
+    requires keeps { Keeps judged.now.table.now judged.now.code.now heap.old facts.old }
+    requires row { row_in facts.old.rows at.now.from.trial at.now.from.place ≡ Some at.now.from.held }
+    requires op { op_at judged.now.code.now at.now.from.place ≡ Some (plain at.now.op.now) }
+    requires stores { Stores (plain at.now.op.now) (shape_of heap.old at.now.from.held) types.now }
+    requires next { at.now.next ≡ next_place at.now.from.place (plain at.now.op.now) }
+    requires bound { at.now.from.place < 2 ^ 31 }
+    ensures sees { IfOk result (λ seen. Sees judged.now.table.now judged.now.code.now heap.old
+        heap.new facts.old facts.new at.now.from.trial at.now.from.place at.now.from.held seen) }
     ensures waits { IfOk result (λ seen. NothingNew todo.old todo.new seen) }
 {
     rules_look_from_the_top();
-    let first = visit_step(alloc, code, table, heap, facts, todo, from, op, next)?;
+    let first = visit_step(alloc, judged, heap, facts, todo, at)?;
     match first {
         Seen::Bad => Ok(Seen::Bad),
         Seen::Quiet => {
-            let seen = store(code, table, heap, facts, todo, from.place, types)?;
+            let seen = store(judged, heap, facts, todo, at.from.place, types)?;
             Ok(seen)
         }
         Seen::Changed => {
-            let seen = store(code, table, heap, facts, todo, from.place, types)?;
+            let seen = store(judged, heap, facts, todo, at.from.place, types)?;
             Ok(after_change(seen))
         }
     }
@@ -211,28 +207,24 @@ fn visit_store(
 #[tactic(auto, using(crate::proofs::Visits::plain_sees))]
 fn visit_plain(
     alloc: Global,
-    code: &Code,
-    table: &Table,
+    judged: &Judged<'_>,
     heap: &mut Heap,
     facts: &mut Facts,
     todo: &mut Todo,
-    from: Found,
-    op: &Op<'_>,
-    next: u32,
+    at: &FoundOp<'_>,
 ) -> Result<Seen, NoMemory>
-    requires keeps { Keeps table.now code.now heap.old facts.old }
-    requires row { row_in facts.old.rows from.trial from.place ≡ Some from.held }
-    requires op { op_at code.now from.place ≡ Some (plain op.now) }
-    requires one { IsOneStep (plain op.now) }
-    requires plain { IsPlain (plain op.now) }
-    requires next { next ≡ next_place from.place (plain op.now) }
-    requires bound { from.place < 2 ^ 31 }
-    ensures sees { IfOk result (λ seen. Sees table.now code.now heap.old heap.new facts.old
-        facts.new
-        from.trial from.place from.held seen) }
+    requires keeps { Keeps judged.now.table.now judged.now.code.now heap.old facts.old }
+    requires row { row_in facts.old.rows at.now.from.trial at.now.from.place ≡ Some at.now.from.held }
+    requires op { op_at judged.now.code.now at.now.from.place ≡ Some (plain at.now.op.now) }
+    requires one { IsOneStep (plain at.now.op.now) }
+    requires plain { IsPlain (plain at.now.op.now) }
+    requires next { at.now.next ≡ next_place at.now.from.place (plain at.now.op.now) }
+    requires bound { at.now.from.place < 2 ^ 31 }
+    ensures sees { IfOk result (λ seen. Sees judged.now.table.now judged.now.code.now heap.old
+        heap.new facts.old facts.new at.now.from.trial at.now.from.place at.now.from.held seen) }
     ensures waits { IfOk result (λ seen. NothingNew todo.old todo.new seen) }
 {
-    let seen = visit_step(alloc, code, table, heap, facts, todo, from, op, next)?;
+    let seen = visit_step(alloc, judged, heap, facts, todo, at)?;
     Ok(seen)
 }
 
@@ -240,39 +232,33 @@ fn visit_plain(
 #[tactic(auto, using(crate::proofs::Storing::stores_bad))]
 fn visit_stored(
     alloc: Global,
-    code: &Code,
-    table: &Table,
+    judged: &Judged<'_>,
     heap: &mut Heap,
     facts: &mut Facts,
     todo: &mut Todo,
-    from: Found,
-    op: &Op<'_>,
+    at: &FoundOp<'_>,
     globals: u32,
     locals: u32,
-    next: u32,
 ) -> Result<Seen, NoMemory>
-    requires keeps { Keeps table.now code.now heap.old facts.old }
-    requires row { row_in facts.old.rows from.trial from.place ≡ Some from.held }
-    requires op { op_at code.now from.place ≡ Some (plain op.now) }
-    requires store { plain op.now ≡ StoreState globals locals }
-    requires next { next ≡ next_place from.place (plain op.now) }
-    requires bound { from.place < 2 ^ 31 }
-    ensures sees { IfOk result (λ seen. Sees table.now code.now heap.old heap.new facts.old
-        facts.new
-        from.trial from.place from.held seen) }
+    requires keeps { Keeps judged.now.table.now judged.now.code.now heap.old facts.old }
+    requires row { row_in facts.old.rows at.now.from.trial at.now.from.place ≡ Some at.now.from.held }
+    requires op { op_at judged.now.code.now at.now.from.place ≡ Some (plain at.now.op.now) }
+    requires store { plain at.now.op.now ≡ StoreState globals locals }
+    requires next { at.now.next ≡ next_place at.now.from.place (plain at.now.op.now) }
+    requires bound { at.now.from.place < 2 ^ 31 }
+    ensures sees { IfOk result (λ seen. Sees judged.now.table.now judged.now.code.now heap.old
+        heap.new facts.old facts.new at.now.from.trial at.now.from.place at.now.from.held seen) }
     ensures waits { IfOk result (λ seen. NothingNew todo.old todo.new seen) }
 {
     rules_look_from_the_top();
     let types = {
-        let under = top(heap, from.held.under);
-        let cells = top(heap, from.held.cells);
+        let under = top(heap, at.from.held.under);
+        let cells = top(heap, at.from.held.cells);
         stored_types(alloc, globals, locals, &under, &cells)?
     };
     match types {
         None => Ok(Seen::Bad),
-        Some(types) => visit_store(
-            alloc, code, table, heap, facts, todo, from, op, &types, next,
-        ),
+        Some(types) => visit_store(alloc, judged, heap, facts, todo, at, &types),
     }
 }
 
@@ -292,26 +278,24 @@ fn end_of(code: &Code, op: &Op<'_>, place: u32, size: u32) -> u32
 /// RETN.
 #[tactic(auto, using(crate::proofs::Storing::trial_none))]
 fn visit_return(
-    code: &Code,
-    table: &Table,
+    judged: &Judged<'_>,
     heap: &Heap,
     facts: &mut Facts,
     todo: &mut Todo,
     from: Found,
 ) -> Result<Seen, NoMemory>
-    requires keeps { Keeps table.now code.now heap.now facts.old }
+    requires keeps { Keeps judged.now.table.now judged.now.code.now heap.now facts.old }
     requires row { row_in facts.old.rows from.trial from.place ≡ Some from.held }
-    requires op { op_at code.now from.place ≡ Some Retn }
-    ensures sees { IfOk result (λ seen. Sees table.now code.now heap.now heap.now facts.old
-        facts.new
-        from.trial from.place from.held seen) }
+    requires op { op_at judged.now.code.now from.place ≡ Some Retn }
+    ensures sees { IfOk result (λ seen. Sees judged.now.table.now judged.now.code.now heap.now
+        heap.now facts.old facts.new from.trial from.place from.held seen) }
     ensures waits { IfOk result (λ seen. NothingNew todo.old todo.new seen) }
 {
     match facts.trials.get(from.trial as usize) {
         None => unreachable!(),
         Some(trial) => {
             let trial = *trial;
-            returned(code, table, heap, facts, todo, from, trial)
+            returned(judged, heap, facts, todo, from, trial)
         }
     }
 }
@@ -320,8 +304,7 @@ fn visit_return(
 #[tactic(auto, using(crate::proofs::Storing::kinds))]
 fn visit_op(
     alloc: Global,
-    code: &Code,
-    table: &Table,
+    judged: &Judged<'_>,
     heap: &mut Heap,
     facts: &mut Facts,
     todo: &mut Todo,
@@ -329,23 +312,26 @@ fn visit_op(
     op: &Op<'_>,
     size: u32,
 ) -> Result<Seen, NoMemory>
-    requires keeps { Keeps table.now code.now heap.old facts.old }
+    requires keeps { Keeps judged.now.table.now judged.now.code.now heap.old facts.old }
     requires row { row_in facts.old.rows from.trial from.place ≡ Some from.held }
-    requires op { op_at code.now from.place ≡ Some (plain op.now) }
+    requires op { op_at judged.now.code.now from.place ≡ Some (plain op.now) }
     requires size { size ≡ op_size (plain op.now) }
-    ensures sees { IfOk result (λ seen. Sees table.now code.now heap.old heap.new facts.old
-        facts.new
-        from.trial from.place from.held seen) }
+    ensures sees { IfOk result (λ seen. Sees judged.now.table.now judged.now.code.now heap.old
+        heap.new facts.old facts.new from.trial from.place from.held seen) }
     ensures waits { IfOk result (λ seen. NothingNew todo.old todo.new seen) }
 {
-    let next = end_of(code, op, from.place, size);
+    let next = end_of(judged.code, op, from.place, size);
+    let at = FoundOp { from, op, next };
     match kind_of(op, from.place) {
-        Kind::Call(target) => call(alloc, code, table, heap, facts, todo, from, target, next),
-        Kind::Return => visit_return(code, table, heap, facts, todo, from),
-        Kind::Store(globals, locals) => visit_stored(
-            alloc, code, table, heap, facts, todo, from, op, globals, locals, next,
-        ),
-        Kind::Step => visit_plain(alloc, code, table, heap, facts, todo, from, op, next),
+        Kind::Call(target) => {
+            let at = FoundCall { from, target, next };
+            call(alloc, judged, heap, facts, todo, at)
+        }
+        Kind::Return => visit_return(judged, heap, facts, todo, from),
+        Kind::Store(globals, locals) => {
+            visit_stored(alloc, judged, heap, facts, todo, &at, globals, locals)
+        }
+        Kind::Step => visit_plain(alloc, judged, heap, facts, todo, &at),
     }
 }
 
@@ -354,22 +340,20 @@ fn visit_op(
 #[tactic(auto, using(crate::proofs::Storing::no_op_bad))]
 pub fn visit(
     alloc: Global,
-    code: &Code,
-    table: &Table,
+    judged: &Judged<'_>,
     heap: &mut Heap,
     facts: &mut Facts,
     todo: &mut Todo,
     from: Found,
 ) -> Result<Seen, NoMemory>
-    requires keeps { Keeps table.now code.now heap.old facts.old }
+    requires keeps { Keeps judged.now.table.now judged.now.code.now heap.old facts.old }
     requires row { row_in facts.old.rows from.trial from.place ≡ Some from.held }
-    ensures sees { IfOk result (λ seen. Sees table.now code.now heap.old heap.new facts.old
-        facts.new
-        from.trial from.place from.held seen) }
+    ensures sees { IfOk result (λ seen. Sees judged.now.table.now judged.now.code.now heap.old
+        heap.new facts.old facts.new from.trial from.place from.held seen) }
     ensures waits { IfOk result (λ seen. NothingNew todo.old todo.new seen) }
 {
-    match code.op_at(from.place) {
+    match judged.code.op_at(from.place) {
         None => Ok(Seen::Bad),
-        Some((op, size)) => visit_op(alloc, code, table, heap, facts, todo, from, &op, size),
+        Some((op, size)) => visit_op(alloc, judged, heap, facts, todo, from, &op, size),
     }
 }

@@ -6,5 +6,5 @@ pub returns : goal.returns
 returns c = record {
   keeps = keeps_trial _ _ _ c.args.facts.now _ c.args.trial c.requires.keeps c.in_ok-number.ensures.added c.requires.inside (λ e. absurd (c.requires.entry e))
       c.requires.begins;
-  takes = trial_left c.args.table.now c.args.code.now c.args.heap.now c.args.facts.now _ c.args.trial c.in_ok-number.ensures.added c.requires.begins;
+  takes = trial_left c.args.judged.now.table.now c.args.judged.now.code.now c.args.heap.now c.args.facts.now _ c.args.trial c.in_ok-number.ensures.added c.requires.begins;
 }

@@ -6,6 +6,6 @@ pub returns : goal.returns
 returns c = record {
   keeps = given_set _ _ _ c.args.facts.now _ c.args.number c.args.given c.in-Some.trial.now _ c.requires.keeps c.requires.owed c.requires.inside
       (sym c.in-Some.ensures.item) refl (ap (λ trials. record c.args.facts.now { trials = trials }) c.set.ensures.set);
-  takes = given_left c.args.table.now c.args.code.now c.args.heap.now c.args.facts.now _ c.args.number c.args.given c.in-Some.trial.now _ c.requires.owed
+  takes = given_left c.args.judged.now.table.now c.args.judged.now.code.now c.args.heap.now c.args.facts.now _ c.args.number c.args.given c.in-Some.trial.now _ c.requires.owed
       (sym c.in-Some.ensures.item) refl (ap (λ trials. record c.args.facts.now { trials = trials }) c.set.ensures.set);
 }

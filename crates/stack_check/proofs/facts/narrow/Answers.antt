@@ -4,10 +4,10 @@ use Rattle.stack_check.proofs.facts.narrow.Goals as goal
 
 pub returns-clause-keeps : goal.returns-clause-keeps
 returns-clause-keeps c =
-    narrow_keeps c.args.table.now c.args.code.now c.args.heap.now c.args.facts.now _ c.args.number c.args.trial _ c.args.unseen c.requires.keeps c.requires.trial
+    narrow_keeps c.args.judged.now.table.now c.args.judged.now.code.now c.args.heap.now c.args.facts.now _ c.args.number c.args.trial _ c.args.unseen c.requires.keeps c.requires.trial
     c.requires.less c.requires.owed refl (ap (λ trials. record c.args.facts.now { trials = trials }) c.set.ensures.set)
 
 pub returns-clause-takes : goal.returns-clause-takes
 returns-clause-takes c =
-    narrow_more c.args.table.now c.args.code.now c.args.heap.now c.args.facts.now _ c.args.number c.args.trial _ c.args.unseen c.requires.keeps c.requires.trial c.requires.less refl
+    narrow_more c.args.judged.now.table.now c.args.judged.now.code.now c.args.heap.now c.args.facts.now _ c.args.number c.args.trial _ c.args.unseen c.requires.keeps c.requires.trial c.requires.less refl
     (ap (λ trials. record c.args.facts.now { trials = trials }) c.set.ensures.set)

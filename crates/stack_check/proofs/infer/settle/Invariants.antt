@@ -4,7 +4,7 @@ use Rattle.stack_check.proofs.Ending.{TurnedSoFar}
 use Rattle.stack_check.proofs.infer.settle.Given as goal
 
 abbrev pub invariant-work : goal.invariant-work
-invariant-work l = Keeps l.table l.code l.heap l.facts × TurnedSoFar l.initial.turns l.initial.facts l.turns l.facts
+invariant-work l = Keeps l.judged.table.now l.judged.code.now l.heap l.facts × TurnedSoFar l.initial.turns l.initial.facts l.turns l.facts
 
 abbrev pub decreases-work : goal.decreases-work
 decreases-work l = left l.facts

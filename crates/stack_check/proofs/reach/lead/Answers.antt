@@ -11,8 +11,8 @@ pub returns-in-One-clause-quiet : goal.returns-in-One-clause-quiet
 returns-in-One-clause-quiet c =
     let shape = shape_of c.args.heap.now c.args.after in
     subst (λ lead. IfOk c.lead_to.result (λ seen. WhereQuiet seen ((c.lead_to.new.facts ≡ c.args.facts.now)
-    × AllLed c.args.heap.now c.args.facts.now c.args.from.trial lead shape))) (sym c.in-One.is)
-    (IfOk-weaker c.lead_to.result _ _ (λ seen q. one_led c.args.heap.now c.args.facts.now c.lead_to.new.facts c.args.from.trial c.in-One.place
+    × AllLed c.args.heap.now c.args.facts.now c.args.at.now.from.trial lead shape))) (sym c.in-One.is)
+    (IfOk-weaker c.lead_to.result _ _ (λ seen q. one_led c.args.heap.now c.args.facts.now c.lead_to.new.facts c.args.at.now.from.trial c.in-One.place
     shape seen q) c.lead_to.ensures.quiet)
 
 pub lead_to-requires-in-Quiet-clause-step : goal.lead_to-requires-in-Quiet-clause-step
@@ -30,11 +30,11 @@ pub returns-in-Quiet-clause-quiet : goal.returns-in-Quiet-clause-quiet
 returns-in-Quiet-clause-quiet c =
     let shape = shape_of c.args.heap.now c.args.after in
     let first = subst (λ seen. WhereQuiet seen ((c.lead_to-in-Two.new.facts ≡ c.args.facts.now)
-    × RowIs c.args.heap.now c.args.facts.now c.args.from.trial c.in-Two.first shape)) c.in-Quiet.is c.in_ok-seen-in-Two.ensures.quiet in
+    × RowIs c.args.heap.now c.args.facts.now c.args.at.now.from.trial c.in-Two.first shape)) c.in-Quiet.is c.in_ok-seen-in-Two.ensures.quiet in
     subst (λ lead. IfOk c.lead_to-in-Quiet.result (λ seen. WhereQuiet seen ((c.lead_to-in-Quiet.new.facts ≡ c.args.facts.now)
-    × AllLed c.args.heap.now c.args.facts.now c.args.from.trial lead shape))) (sym c.in-Two.is)
+    × AllLed c.args.heap.now c.args.facts.now c.args.at.now.from.trial lead shape))) (sym c.in-Two.is)
     (IfOk-weaker c.lead_to-in-Quiet.result _ _ (λ seen q. two_quiet c.args.heap.now c.args.facts.now c.lead_to-in-Two.new.facts c.lead_to-in-Quiet.new.facts
-    c.args.from.trial c.in-Two.first c.in-Two.second shape seen first q) c.lead_to-in-Quiet.ensures.quiet)
+    c.args.at.now.from.trial c.in-Two.first c.in-Two.second shape seen first q) c.lead_to-in-Quiet.ensures.quiet)
 
 pub returns-in_ok-seen-in-Changed-clause-keeps : goal.returns-in_ok-seen-in-Changed-clause-keeps
 returns-in_ok-seen-in-Changed-clause-keeps c =
@@ -49,7 +49,7 @@ returns-in_ok-seen-in-Changed-clause-quiet c = changed_quiet c.in_ok-seen-in-Cha
 pub returns-in-Quiet-clause-takes : goal.returns-in-Quiet-clause-takes
 returns-in-Quiet-clause-takes c =
     let first = subst (λ seen. WhereQuiet seen ((c.lead_to-in-Two.new.facts ≡ c.args.facts.now)
-    × RowIs c.args.heap.now c.args.facts.now c.args.from.trial c.in-Two.first (shape_of c.args.heap.now c.args.after))) c.in-Quiet.is c.in_ok-seen-in-Two.ensures.quiet in
+    × RowIs c.args.heap.now c.args.facts.now c.args.at.now.from.trial c.in-Two.first (shape_of c.args.heap.now c.args.after))) c.in-Quiet.is c.in_ok-seen-in-Two.ensures.quiet in
     IfOk-weaker c.lead_to-in-Quiet.result _ (λ seen. Takes c.args.facts.now c.lead_to-in-Quiet.new.facts seen)
     (λ seen t. takes_next c.args.facts.now c.lead_to-in-Two.new.facts c.lead_to-in-Quiet.new.facts seen first.0 t) c.lead_to-in-Quiet.ensures.takes
 

@@ -5,7 +5,7 @@ use Rattle.stack_check.proofs.returns.return_cells.Goals as goal
 
 pub returns-then-same : goal.returns-then-same
 returns-then-same c = record {
-  sees = gives_quiet c.args.table.now c.args.code.now c.args.heap.now c.args.facts.now c.args.from.trial c.args.from.place c.args.target c.args.from.held
+  sees = gives_quiet c.args.judged.now.table.now c.args.judged.now.code.now c.args.heap.now c.args.facts.now c.args.from.trial c.args.from.place c.args.target c.args.from.held
       c.args.trial c.in-Some.given c.requires.keeps c.requires.op c.requires.trial c.requires.entry c.in-Some.is (c.same.ensures.0 c.if-same.true)
       c.requires.saved c.requires.pending;
   waits = refl;
@@ -13,7 +13,7 @@ returns-then-same c = record {
 
 pub returns-else-same : goal.returns-else-same
 returns-else-same c = record {
-  sees = gives_bad c.args.table.now c.args.code.now c.args.heap.now c.args.facts.now c.args.from.trial c.args.from.place c.args.target c.args.from.held
+  sees = gives_bad c.args.judged.now.table.now c.args.judged.now.code.now c.args.heap.now c.args.facts.now c.args.from.trial c.args.from.place c.args.target c.args.from.held
       c.args.trial c.in-Some.given c.requires.keeps c.requires.row c.requires.op c.requires.trial c.requires.entry c.in-Some.is
       (iff_false c.same.ensures c.if-same.false);
   waits = tt;

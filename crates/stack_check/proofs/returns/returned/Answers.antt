@@ -4,14 +4,14 @@ use Rattle.stack_check.proofs.returns.returned.Goals as goal
 
 pub returns-in-Start : goal.returns-in-Start
 returns-in-Start c = record {
-  sees = start_quiet c.args.table.now c.args.code.now c.args.heap.now c.args.facts.now c.args.from.trial c.args.from.place c.args.from.held c.args.trial
+  sees = start_quiet c.args.judged.now.table.now c.args.judged.now.code.now c.args.heap.now c.args.facts.now c.args.from.trial c.args.from.place c.args.from.held c.args.trial
       c.requires.keeps c.requires.op c.requires.trial c.in-Start.is;
   waits = refl;
 }
 
 pub returns-in-Stored : goal.returns-in-Stored
 returns-in-Stored c = record {
-  sees = stored_quiet c.args.table.now c.args.code.now c.args.heap.now c.args.facts.now c.args.from.trial c.args.from.place c.in-Stored._site c.args.from.held
+  sees = stored_quiet c.args.judged.now.table.now c.args.judged.now.code.now c.args.heap.now c.args.facts.now c.args.from.trial c.args.from.place c.in-Stored._site c.args.from.held
       c.args.trial c.requires.keeps c.requires.op c.requires.trial c.in-Stored.is;
   waits = refl;
 }

@@ -10,7 +10,7 @@ returns-then-has_seen_all-clause-within c =
     let whole = c.has_seen_all.ensures.0 c.if-has_seen_all.true in
     λ e. (
       Rattle.std.proofs.Common.refl,
-      see_within c.args.table.now c.args.code.now c.args.heap.now c.args.facts.now c.args.from.trial c.args.from.place c.args.from.held c.in-Some.trial.now c.args.reach
+      see_within c.args.judged.now.table.now c.args.judged.now.code.now c.args.heap.now c.args.facts.now c.args.from.trial c.args.from.place c.args.from.held c.in-Some.trial.now c.args.reach
           c.requires.keeps c.requires.row (sym c.in-Some.ensures.item) c.requires.looks
           (whole_same c.in-Some.trial.now.unseen (shape_of c.args.heap.now c.args.from.held) c.args.reach whole.0 whole.1),
     )
@@ -18,14 +18,14 @@ returns-then-has_seen_all-clause-within c =
 pub returns-then-same_unseen-clause-within : goal.returns-then-same_unseen-clause-within
 returns-then-same_unseen-clause-within c = λ e. (
   Rattle.std.proofs.Common.refl,
-  see_within c.args.table.now c.args.code.now c.args.heap.now c.args.facts.now c.args.from.trial c.args.from.place c.args.from.held c.in-Some.trial.now c.args.reach
+  see_within c.args.judged.now.table.now c.args.judged.now.code.now c.args.heap.now c.args.facts.now c.args.from.trial c.args.from.place c.args.from.held c.in-Some.trial.now c.args.reach
       c.requires.keeps c.requires.row (sym c.in-Some.ensures.item) c.requires.looks
       (sym c.unseen_after-unseen.ensures ∙ c.same_unseen.ensures.0 c.if-same_unseen.true),
 )
 
 pub narrow-requires-clause-owed : goal.narrow-requires-clause-owed
 narrow-requires-clause-owed c =
-    subst (λ u. UnseenOwed c.args.table.now c.args.code.now c.args.heap.now c.args.facts.now c.args.from.trial c.in-Some.trial.now u)
+    subst (λ u. UnseenOwed c.args.judged.now.table.now c.args.judged.now.code.now c.args.heap.now c.args.facts.now c.args.from.trial c.in-Some.trial.now u)
     (sym c.unseen_after-unseen.ensures)
-    (see_owed c.args.table.now c.args.code.now c.args.heap.now c.args.facts.now c.args.from.trial c.args.from.place c.args.from.held c.in-Some.trial.now c.args.reach
+    (see_owed c.args.judged.now.table.now c.args.judged.now.code.now c.args.heap.now c.args.facts.now c.args.from.trial c.args.from.place c.args.from.held c.in-Some.trial.now c.args.reach
     c.requires.row (sym c.in-Some.ensures.item) c.requires.owed)

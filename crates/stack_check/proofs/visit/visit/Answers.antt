@@ -3,7 +3,7 @@ use Rattle.stack_check.proofs.visit.visit.Goals as goal
 
 pub returns-in-None : goal.returns-in-None
 returns-in-None c = record {
-  sees = no_op_bad c.args.table.now c.args.code.now c.args.heap.now c.args.facts.now c.args.from.trial c.args.from.place c.args.from.held c.requires.keeps
+  sees = no_op_bad c.args.judged.now.table.now c.args.judged.now.code.now c.args.heap.now c.args.facts.now c.args.from.trial c.args.from.place c.args.from.held c.requires.keeps
       c.requires.row c.in-None.ensures.op;
   waits = tt;
 }

@@ -4,7 +4,7 @@ use Rattle.stack_check.proofs.visit.visit_op.Goals as goal
 
 pub call-requires-clause-op : goal.call-requires-clause-op
 call-requires-clause-op c =
-    call_stands c.args.code.now c.args.from.place (plain c.args.op.now) c.in-Call.target c.kind_of.result c.kind_of.ensures c.in-Call.is c.requires.op
+    call_stands c.args.judged.now.code.now c.args.from.place (plain c.args.op.now) c.in-Call.target c.kind_of.result c.kind_of.ensures c.in-Call.is c.requires.op
 
 pub call-requires-clause-next : goal.call-requires-clause-next
 call-requires-clause-next c =
@@ -13,7 +13,7 @@ call-requires-clause-next c =
 
 pub visit_return-requires-clause-op : goal.visit_return-requires-clause-op
 visit_return-requires-clause-op c =
-    return_stands c.args.code.now c.args.from.place (plain c.args.op.now) c.kind_of.result c.kind_of.ensures c.in-Return.is c.requires.op
+    return_stands c.args.judged.now.code.now c.args.from.place (plain c.args.op.now) c.kind_of.result c.kind_of.ensures c.in-Return.is c.requires.op
 
 pub visit_stored-requires-clause-store : goal.visit_stored-requires-clause-store
 visit_stored-requires-clause-store c =

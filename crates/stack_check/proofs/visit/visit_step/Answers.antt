@@ -10,60 +10,60 @@ use Rattle.stack_check.proofs.Steps.{looks_owed}
 use Rattle.stack_check.proofs.visit.visit_step.Goals as goal
 
 pub step-requires-clause-inside : goal.step-requires-clause-inside
-step-requires-clause-inside c = c.requires.keeps.inside.rows c.args.from.trial c.args.from.place c.args.from.held c.requires.row
+step-requires-clause-inside c = c.requires.keeps.inside.rows c.args.at.now.from.trial c.args.at.now.from.place c.args.at.now.from.held c.requires.row
 
 pub returns-in-None : goal.returns-in-None
 returns-in-None c = record {
-  sees = step_none c.rules_look_from_the_top.ensures.rules c.args.table.now c.args.code.now c.args.heap.now c.step.new.heap c.args.facts.now c.args.from.trial
-      c.args.from.place c.args.from.held (plain c.args.op.now) c.requires.keeps c.requires.row c.requires.op c.requires.one
-      (subst (λ o. AfterStep c.args.heap.now c.step.new.heap o (rule c.args.table.now (plain c.args.op.now) (shape_of c.args.heap.now c.args.from.held)))
+  sees = step_none c.rules_look_from_the_top.ensures.rules c.args.judged.now.table.now c.args.judged.now.code.now c.args.heap.now c.step.new.heap c.args.facts.now c.args.at.now.from.trial
+      c.args.at.now.from.place c.args.at.now.from.held (plain c.args.at.now.op.now) c.requires.keeps c.requires.row c.requires.op c.requires.one
+      (subst (λ o. AfterStep c.args.heap.now c.step.new.heap o (rule c.args.judged.now.table.now (plain c.args.at.now.op.now) (shape_of c.args.heap.now c.args.at.now.from.held)))
       c.in-None.is c.in_ok-step.ensures.after);
   waits = tt;
 }
 
 pub see-requires-clause-keeps : goal.see-requires-clause-keeps
 see-requires-clause-keeps c =
-    step_keeps c.args.table.now c.args.code.now c.args.heap.now c.step.new.heap c.args.facts.now c.in-Some.after
-    (rule c.args.table.now (plain c.args.op.now) (shape_of c.args.heap.now c.args.from.held)) c.requires.keeps
-    (subst (λ o. AfterStep c.args.heap.now c.step.new.heap o (rule c.args.table.now (plain c.args.op.now) (shape_of c.args.heap.now c.args.from.held))) c.in-Some.is
+    step_keeps c.args.judged.now.table.now c.args.judged.now.code.now c.args.heap.now c.step.new.heap c.args.facts.now c.in-Some.after
+    (rule c.args.judged.now.table.now (plain c.args.at.now.op.now) (shape_of c.args.heap.now c.args.at.now.from.held)) c.requires.keeps
+    (subst (λ o. AfterStep c.args.heap.now c.step.new.heap o (rule c.args.judged.now.table.now (plain c.args.at.now.op.now) (shape_of c.args.heap.now c.args.at.now.from.held))) c.in-Some.is
     c.in_ok-step.ensures.after)
 
 pub see-requires-clause-looks : goal.see-requires-clause-looks
 see-requires-clause-looks c =
-    subst (λ r. IsThere (shape_of c.step.new.heap c.args.from.held) r) (sym c.reach_of.ensures.reach)
-    (step_there c.rules_look_no_deeper.ensures.there c.args.table.now c.args.code.now c.args.heap.now c.step.new.heap c.args.facts.now c.args.from.trial c.args.from.place c.args.from.held
-    c.in-Some.after (plain c.args.op.now) c.requires.keeps c.requires.row
-    (subst (λ o. AfterStep c.args.heap.now c.step.new.heap o (rule c.args.table.now (plain c.args.op.now) (shape_of c.args.heap.now c.args.from.held))) c.in-Some.is
+    subst (λ r. IsThere (shape_of c.step.new.heap c.args.at.now.from.held) r) (sym c.reach_of-reach.ensures.reach)
+    (step_there c.rules_look_no_deeper.ensures.there c.args.judged.now.table.now c.args.judged.now.code.now c.args.heap.now c.step.new.heap c.args.facts.now c.args.at.now.from.trial c.args.at.now.from.place c.args.at.now.from.held
+    c.in-Some.after (plain c.args.at.now.op.now) c.requires.keeps c.requires.row
+    (subst (λ o. AfterStep c.args.heap.now c.step.new.heap o (rule c.args.judged.now.table.now (plain c.args.at.now.op.now) (shape_of c.args.heap.now c.args.at.now.from.held))) c.in-Some.is
     c.in_ok-step.ensures.after))
 
 pub see-requires-clause-owed : goal.see-requires-clause-owed
 see-requires-clause-owed c =
-    subst (λ r. LooksOwed c.args.table.now c.args.code.now c.step.new.heap c.args.facts.now c.args.from.trial c.args.from.place r) (sym c.reach_of.ensures.reach)
-    (looks_owed c.rules_look_no_deeper.ensures.there c.args.table.now c.args.code.now c.step.new.heap c.args.facts.now c.args.from.trial c.args.from.place (plain c.args.op.now) c.requires.op c.requires.one)
+    subst (λ r. LooksOwed c.args.judged.now.table.now c.args.judged.now.code.now c.step.new.heap c.args.facts.now c.args.at.now.from.trial c.args.at.now.from.place r) (sym c.reach_of-reach.ensures.reach)
+    (looks_owed c.rules_look_no_deeper.ensures.there c.args.judged.now.table.now c.args.judged.now.code.now c.step.new.heap c.args.facts.now c.args.at.now.from.trial c.args.at.now.from.place (plain c.args.at.now.op.now) c.requires.op c.requires.one)
 
 pub lead-requires-clause-step : goal.lead-requires-clause-step
 lead-requires-clause-step c =
     let w = c.in_ok-see-in-Some.ensures.within (search rules) in
-    subst (λ (f : Facts). IsStep c.args.table.now c.args.code.now c.step.new.heap f c.args.from.trial c.args.from.place c.args.from.held (plain c.args.op.now) c.in-Some.after) (sym w.0)
-    (step_is c.rules_look_from_the_top.ensures.rules c.rules_look_no_deeper.ensures.deep c.args.table.now c.args.code.now c.args.heap.now c.step.new.heap c.args.facts.now c.args.from.trial
-    c.args.from.place c.args.from.held c.in-Some.after (plain c.args.op.now) c.requires.keeps c.requires.row c.requires.op c.requires.one
-    (subst (λ o. AfterStep c.args.heap.now c.step.new.heap o (rule c.args.table.now (plain c.args.op.now) (shape_of c.args.heap.now c.args.from.held))) c.in-Some.is
+    subst (λ (f : Facts). IsStep c.args.judged.now.table.now c.args.judged.now.code.now c.step.new.heap f c.args.at.now.from.trial c.args.at.now.from.place c.args.at.now.from.held (plain c.args.at.now.op.now) c.in-Some.after) (sym w.0)
+    (step_is c.rules_look_from_the_top.ensures.rules c.rules_look_no_deeper.ensures.deep c.args.judged.now.table.now c.args.judged.now.code.now c.args.heap.now c.step.new.heap c.args.facts.now c.args.at.now.from.trial
+    c.args.at.now.from.place c.args.at.now.from.held c.in-Some.after (plain c.args.at.now.op.now) c.requires.keeps c.requires.row c.requires.op c.requires.one
+    (subst (λ o. AfterStep c.args.heap.now c.step.new.heap o (rule c.args.judged.now.table.now (plain c.args.at.now.op.now) (shape_of c.args.heap.now c.args.at.now.from.held))) c.in-Some.is
     c.in_ok-step.ensures.after)
-    (subst (λ r. Within c.step.new.heap c.args.facts.now c.args.from.trial (shape_of c.step.new.heap c.args.from.held) r) c.reach_of.ensures.reach w.1))
+    (subst (λ r. Within c.step.new.heap c.args.facts.now c.args.at.now.from.trial (shape_of c.step.new.heap c.args.at.now.from.held) r) c.reach_of-reach.ensures.reach w.1))
 
 pub returns-in_ok-seen-in-Some : goal.returns-in_ok-seen-in-Some
 returns-in_ok-seen-in-Some c =
     let w = c.in_ok-see-in-Some.ensures.within (search rules) in record {
-      sees = step_sees c.rules_look_from_the_top.ensures.rules c.rules_look_no_deeper.ensures.deep c.args.table.now c.args.code.now c.args.heap.now c.step.new.heap c.args.facts.now
-          c.lead.new.facts c.args.from.trial c.args.from.place c.args.from.held c.in-Some.after (plain c.args.op.now) c.leads_of-leads.result
+      sees = step_sees c.rules_look_from_the_top.ensures.rules c.rules_look_no_deeper.ensures.deep c.args.judged.now.table.now c.args.judged.now.code.now c.args.heap.now c.step.new.heap c.args.facts.now
+          c.lead.new.facts c.args.at.now.from.trial c.args.at.now.from.place c.args.at.now.from.held c.in-Some.after (plain c.args.at.now.op.now) c.leads_of-leads.result
           c.in_ok-seen-in-Some.seen c.requires.keeps c.requires.row c.requires.op c.requires.one
-          (subst (λ o. AfterStep c.args.heap.now c.step.new.heap o (rule c.args.table.now (plain c.args.op.now) (shape_of c.args.heap.now c.args.from.held))) c.in-Some.is
+          (subst (λ o. AfterStep c.args.heap.now c.step.new.heap o (rule c.args.judged.now.table.now (plain c.args.at.now.op.now) (shape_of c.args.heap.now c.args.at.now.from.held))) c.in-Some.is
           c.in_ok-step.ensures.after)
-          (c.leads_of-leads.ensures ∙ ap (λ next. leads_of c.args.from.place next (plain c.args.op.now)) c.requires.next)
-          (subst (λ r. Within c.step.new.heap c.args.facts.now c.args.from.trial (shape_of c.step.new.heap c.args.from.held) r) c.reach_of.ensures.reach w.1)
+          (c.leads_of-leads.ensures ∙ ap (λ next. leads_of c.args.at.now.from.place next (plain c.args.at.now.op.now)) c.requires.next)
+          (subst (λ r. Within c.step.new.heap c.args.facts.now c.args.at.now.from.trial (shape_of c.step.new.heap c.args.at.now.from.held) r) c.reach_of-reach.ensures.reach w.1)
           c.in_ok-seen-in-Some.ensures.keeps
           (subst (λ (f : Facts). WhereQuiet c.in_ok-seen-in-Some.seen ((c.lead.new.facts ≡ f)
-          × AllLed c.step.new.heap f c.args.from.trial c.leads_of-leads.result (shape_of c.step.new.heap c.in-Some.after))) w.0 c.in_ok-seen-in-Some.ensures.quiet)
+          × AllLed c.step.new.heap f c.args.at.now.from.trial c.leads_of-leads.result (shape_of c.step.new.heap c.in-Some.after))) w.0 c.in_ok-seen-in-Some.ensures.quiet)
           (subst (λ (f : Facts). Takes f c.lead.new.facts c.in_ok-seen-in-Some.seen) w.0 c.in_ok-seen-in-Some.ensures.takes);
       waits = waits_from c.args.todo.now c.see.new.todo c.lead.new.todo c.in_ok-seen-in-Some.seen (c.in_ok-see-in-Some.ensures.same (search rules)) c.in_ok-seen-in-Some.ensures.waits;
     }

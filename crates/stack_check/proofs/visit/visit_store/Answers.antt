@@ -8,7 +8,7 @@ use Rattle.stack_check.proofs.visit.visit_store.Goals as goal
 
 pub store-requires-clause-keeps : goal.store-requires-clause-keeps
 store-requires-clause-keeps c =
-    subst (λ (s : Seen). Visited c.args.table.now c.args.code.now c.visit_step.new.heap c.visit_step.new.facts s) c.in-Quiet.is c.in_ok-first.ensures.sees.keeps
+    subst (λ (s : Seen). Visited c.args.judged.now.table.now c.args.judged.now.code.now c.visit_step.new.heap c.visit_step.new.facts s) c.in-Quiet.is c.in_ok-first.ensures.sees.keeps
 
 pub store-requires-clause-owed : goal.store-requires-clause-owed
 store-requires-clause-owed c =
@@ -16,7 +16,7 @@ store-requires-clause-owed c =
 
 pub store-requires-in-Changed-clause-keeps : goal.store-requires-in-Changed-clause-keeps
 store-requires-in-Changed-clause-keeps c =
-    subst (λ (s : Seen). Visited c.args.table.now c.args.code.now c.visit_step.new.heap c.visit_step.new.facts s) c.in-Changed.is c.in_ok-first.ensures.sees.keeps
+    subst (λ (s : Seen). Visited c.args.judged.now.table.now c.args.judged.now.code.now c.visit_step.new.heap c.visit_step.new.facts s) c.in-Changed.is c.in_ok-first.ensures.sees.keeps
 
 pub store-requires-in-Changed-clause-owed : goal.store-requires-in-Changed-clause-owed
 store-requires-in-Changed-clause-owed c =
@@ -24,29 +24,29 @@ store-requires-in-Changed-clause-owed c =
 
 pub returns-in-Bad : goal.returns-in-Bad
 returns-in-Bad c = record {
-  sees = store_bad c.args.table.now c.args.code.now c.args.heap.now c.visit_step.new.heap c.args.facts.now c.visit_step.new.facts c.args.from.trial
-      c.args.from.place c.args.from.held (plain c.args.op.now)
-      (subst (λ (s : Seen). SeesStep c.args.table.now c.args.code.now c.args.heap.now c.visit_step.new.heap c.args.facts.now c.visit_step.new.facts
-      c.args.from.trial c.args.from.place c.args.from.held (plain c.args.op.now) s) c.in-Bad.is c.in_ok-first.ensures.sees);
+  sees = store_bad c.args.judged.now.table.now c.args.judged.now.code.now c.args.heap.now c.visit_step.new.heap c.args.facts.now c.visit_step.new.facts c.args.at.now.from.trial
+      c.args.at.now.from.place c.args.at.now.from.held (plain c.args.at.now.op.now)
+      (subst (λ (s : Seen). SeesStep c.args.judged.now.table.now c.args.judged.now.code.now c.args.heap.now c.visit_step.new.heap c.args.facts.now c.visit_step.new.facts
+      c.args.at.now.from.trial c.args.at.now.from.place c.args.at.now.from.held (plain c.args.at.now.op.now) s) c.in-Bad.is c.in_ok-first.ensures.sees);
   waits = tt;
 }
 
 pub returns-in_ok-seen-in-Quiet : goal.returns-in_ok-seen-in-Quiet
 returns-in_ok-seen-in-Quiet c = record {
-  sees = store_quiet c.rules_look_from_the_top.ensures.stores c.args.table.now c.args.code.now c.args.heap.now c.visit_step.new.heap _ c.args.facts.now c.visit_step.new.facts _ c.args.from.trial
-      c.args.from.place c.args.from.held (plain c.args.op.now) c.args.types.now c.in_ok-seen-in-Quiet.seen c.requires.keeps c.requires.stores
-      (subst (λ (s : Seen). SeesStep c.args.table.now c.args.code.now c.args.heap.now c.visit_step.new.heap c.args.facts.now c.visit_step.new.facts
-      c.args.from.trial c.args.from.place c.args.from.held (plain c.args.op.now) s) c.in-Quiet.is c.in_ok-first.ensures.sees)
+  sees = store_quiet c.rules_look_from_the_top.ensures.stores c.args.judged.now.table.now c.args.judged.now.code.now c.args.heap.now c.visit_step.new.heap _ c.args.facts.now c.visit_step.new.facts _ c.args.at.now.from.trial
+      c.args.at.now.from.place c.args.at.now.from.held (plain c.args.at.now.op.now) c.args.types.now c.in_ok-seen-in-Quiet.seen c.requires.keeps c.requires.stores
+      (subst (λ (s : Seen). SeesStep c.args.judged.now.table.now c.args.judged.now.code.now c.args.heap.now c.visit_step.new.heap c.args.facts.now c.visit_step.new.facts
+      c.args.at.now.from.trial c.args.at.now.from.place c.args.at.now.from.held (plain c.args.at.now.op.now) s) c.in-Quiet.is c.in_ok-first.ensures.sees)
       c.in_ok-seen-in-Quiet.ensures.grows c.in_ok-seen-in-Quiet.ensures.keeps c.in_ok-seen-in-Quiet.ensures.quiet c.in_ok-seen-in-Quiet.ensures.takes;
   waits = waits_then c.args.todo.now c.visit_step.new.todo c.store.new.todo c.in_ok-first.first c.in_ok-seen-in-Quiet.seen c.in_ok-first.ensures.waits c.in-Quiet.is c.in_ok-seen-in-Quiet.ensures.waits;
 }
 
 pub returns-in_ok-seen-in-Changed : goal.returns-in_ok-seen-in-Changed
 returns-in_ok-seen-in-Changed c = record {
-  sees = store_changed c.args.table.now c.args.code.now c.args.heap.now c.visit_step.new.heap _ c.args.facts.now c.visit_step.new.facts _ c.args.from.trial
-      c.args.from.place c.args.from.held (plain c.args.op.now) _ c.in_ok-seen-in-Changed.seen _
-      (subst (λ (s : Seen). SeesStep c.args.table.now c.args.code.now c.args.heap.now c.visit_step.new.heap c.args.facts.now c.visit_step.new.facts
-      c.args.from.trial c.args.from.place c.args.from.held (plain c.args.op.now) s) c.in-Changed.is c.in_ok-first.ensures.sees)
+  sees = store_changed c.args.judged.now.table.now c.args.judged.now.code.now c.args.heap.now c.visit_step.new.heap _ c.args.facts.now c.visit_step.new.facts _ c.args.at.now.from.trial
+      c.args.at.now.from.place c.args.at.now.from.held (plain c.args.at.now.op.now) _ c.in_ok-seen-in-Changed.seen _
+      (subst (λ (s : Seen). SeesStep c.args.judged.now.table.now c.args.judged.now.code.now c.args.heap.now c.visit_step.new.heap c.args.facts.now c.visit_step.new.facts
+      c.args.at.now.from.trial c.args.at.now.from.place c.args.at.now.from.held (plain c.args.at.now.op.now) s) c.in-Changed.is c.in_ok-first.ensures.sees)
       c.in_ok-seen-in-Changed.ensures.grows c.in_ok-seen-in-Changed.ensures.keeps c.in_ok-seen-in-Changed.ensures.quiet c.in_ok-seen-in-Changed.ensures.takes
       c.after_change.ensures;
   waits = waits_changed c.args.todo.now c.store-in-Changed.new.todo c.in_ok-seen-in-Changed.seen c.after_change.result c.after_change.ensures;

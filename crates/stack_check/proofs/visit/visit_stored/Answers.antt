@@ -5,10 +5,10 @@ use Rattle.stack_check.proofs.visit.visit_stored.Goals as goal
 
 pub returns-in-None : goal.returns-in-None
 returns-in-None c = record {
-  sees = stores_none c.rules_look_from_the_top.ensures.rules c.args.table.now c.args.code.now c.args.heap.now c.args.facts.now c.args.from.trial c.args.from.place
-      c.args.from.held (plain c.args.op.now) c.args.globals c.args.locals c.requires.keeps c.requires.row c.requires.op c.requires.store
+  sees = stores_none c.rules_look_from_the_top.ensures.rules c.args.judged.now.table.now c.args.judged.now.code.now c.args.heap.now c.args.facts.now c.args.at.now.from.trial c.args.at.now.from.place
+      c.args.at.now.from.held (plain c.args.at.now.op.now) c.args.globals c.args.locals c.requires.keeps c.requires.row c.requires.op c.requires.store
       (sym c.in-None.is ∙ types_on_tops c.in_ok-types.types c.args.globals c.args.locals c.top-under.result.lists.now c.top-cells.result.lists.now
-      c.args.heap.now.slots c.top-under.result.number c.top-cells.result.number c.args.from.held.under c.args.from.held.cells c.in_ok-types.ensures.types
+      c.args.heap.now.slots c.top-under.result.number c.top-cells.result.number c.args.at.now.from.held.under c.args.at.now.from.held.cells c.in_ok-types.ensures.types
       c.top-under.ensures.lists c.top-under.ensures.number c.top-cells.ensures.lists c.top-cells.ensures.number);
   waits = tt;
 }
