@@ -9,11 +9,12 @@ ghost use Rattle.command_work.specs.Calls.{DoesOn, TalliesOn, IsName};
 ghost use Rattle.command_play.specs.Games.{plays_area, plays_scripts, plays_under, plays};
 ghost use Rattle.command_play.specs.Tellings.{IsGameFile, StopsGame};
 
-use crate::play::{PlaySetting, play_plan};
+use crate::play::play_plan;
 use crate::remarks::Remarks;
 use command_sources::read_table;
 use command_work::Status;
 use hook_table::Hooks;
+use ncs_machine::PlaySetting;
 use nwq_outside::{Files, Sink};
 use nwq_value::Table;
 use plan_text::Plan;
@@ -86,8 +87,8 @@ fn play_scripts<F: Files, S: Sink>(
         Err(status) => Err(status),
         Ok(scripts) => {
             let setting = PlaySetting {
-                table,
                 scripts: &scripts,
+                table,
                 hooks,
             };
             play_area(

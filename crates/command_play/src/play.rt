@@ -14,20 +14,10 @@ use crate::telling::tell_end;
 use area_tree::Area;
 use command_plays::play_lines;
 use command_work::Status;
-use hook_table::Hooks;
-use ncs_machine::Scripts;
+use ncs_machine::PlaySetting;
 use nwq_outside::{Files, Sink};
-use nwq_value::Table;
 use plan_text::Plan;
 use std::alloc::Global;
-
-/// What a plan's scripts are played with: a header's table, all that are listed, and hooks.
-#[derive(Clone, Copy)]
-pub(crate) struct PlaySetting<'a> {
-    pub table: &'a Table,
-    pub scripts: &'a Scripts,
-    pub hooks: &'a Hooks,
-}
 
 /// Plays a plan over an area.
 #[tactic(auto, using(crate::proofs::PlayLemmas::plays_in, crate::proofs::StopLemmas::stops))]

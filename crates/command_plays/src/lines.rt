@@ -15,8 +15,8 @@ use crate::telling::told_whole;
 use area_tree::Area;
 use command_work::Status;
 use hook_table::Hooks;
-use module_player::{Played, play};
-use ncs_machine::Scripts;
+use module_player::{PlayLimits, Played, play};
+use ncs_machine::{PlaySetting, Scripts};
 use nwq_outside::Sink;
 use nwq_value::{NoMemory, Table};
 use plan_text::Plan;
@@ -53,17 +53,17 @@ fn play_out<S: Sink>(
     ensures counts { TalliesPuts S.faults result out.old out.new }
     ensures only { IfErr result CutsShort }
 {
-    let played = play(
-        alloc,
+    let setting = PlaySetting {
         scripts,
-        world,
-        hooks,
         table,
-        plan.limit,
-        plan.entries,
-        plan.until,
-        out,
-    );
+        hooks,
+    };
+    let limits = PlayLimits {
+        instructions: plan.limit,
+        entries: plan.entries,
+        until: plan.until,
+    };
+    let played = play(alloc, &setting, world, limits, out);
     told_whole(played)
 }
 

@@ -17,8 +17,8 @@ use crate::telling::told_uncut;
 use area_tree::Area;
 use command_work::Status;
 use hook_table::Hooks;
-use module_player::{Played, play_on};
-use ncs_machine::Scripts;
+use module_player::{PlayLimits, Played, play_on};
+use ncs_machine::{PlaySetting, Scripts};
 use nwq_outside::Sink;
 use nwq_value::{NoMemory, Table};
 use plan_text::Plan;
@@ -31,20 +31,19 @@ use world_core::World;
 /// all. The lines are put as they come.
 fn play_some<S: Sink>(
     alloc: Global,
-    table: &Table,
-    scripts: &Scripts,
+    setting: &PlaySetting<'_>,
     world: &mut World<Saved>,
-    hooks: &Hooks,
     limits: (u64, u64, u64),
     stop: u64,
     taken: u64,
     done: u64,
     out: &mut S,
 ) -> Result<Played, Status>
-    requires few { length scripts.now < 2 ^ 32 }
-    requires meets { AllMeet table.now (scripts_of scripts.now) (tables_of scripts.now) }
-    requires hooks { AreServing (map (λ h. h.known) hooks.now.all.items) }
-    requires fit { FitListed scripts.now world.old.world }
+    requires few { length setting.now.scripts.now < 2 ^ 32 }
+    requires meets { AllMeet setting.now.table.now (scripts_of setting.now.scripts.now)
+        (tables_of setting.now.scripts.now) }
+    requires hooks { AreServing (map (λ h. h.known) setting.now.hooks.now.all.items) }
+    requires fit { FitListed setting.now.scripts.now world.old.world }
     requires quiet { world.old.world.trace ≡ [] }
     requires next { world.old.world.agenda.next < 2 ^ 61 }
     requires limit { limits.0 ≤ instruction_limit }
@@ -54,22 +53,28 @@ fn play_some<S: Sink>(
     requires within { taken ≤ limits.1 }
     requires done { done < 2 ^ 61 }
     ensures told { IfOk result (λ answer. cut_of answer.how ≡ None) }
-    ensures ending { IfOk result (λ answer. IsEnding answer (played_on
-        (cells_of (map (λ h. h.known) hooks.now.all.items)) table.now limits
-        (scripts_of scripts.now) stop taken done world.old.world) world.new.world) }
-    ensures trace { IsTrue S.tells → TakesLines S.taken (played_on
-        (cells_of (map (λ h. h.known) hooks.now.all.items)) table.now limits
-        (scripts_of scripts.now) stop taken done world.old.world) out.old result out.new }
+    ensures ending { IfOk result (λ answer. IsEnding answer
+        (played_on (cells_of (map (λ h. h.known) setting.now.hooks.now.all.items))
+        setting.now.table.now limits (scripts_of setting.now.scripts.now) stop taken done
+        world.old.world) world.new.world) }
+    ensures trace { IsTrue S.tells → TakesLines S.taken
+        (played_on (cells_of (map (λ h. h.known) setting.now.hooks.now.all.items))
+        setting.now.table.now limits (scripts_of setting.now.scripts.now) stop taken done
+        world.old.world) out.old result out.new }
     ensures counts { TalliesPuts S.faults result out.old out.new }
-    ensures fit { OnOk result (FitListed scripts.now world.new.world) }
+    ensures fit { OnOk result (FitListed setting.now.scripts.now world.new.world) }
     ensures posted { OnOk result
         (world.new.world.agenda.next ≤ world.old.world.agenda.next + 2 ^ 45) }
     ensures executed { IfOk result (λ answer. answer.instructions ≤ done + 2 ^ 45) }
     ensures only { IfErr result CutsShort }
 {
-    let played = play_on(
-        alloc, scripts, world, hooks, table, limits.0, limits.1, limits.2, stop, taken, done, out,
-    );
+    let (instructions, entries, until) = limits;
+    let limits = PlayLimits {
+        instructions,
+        entries,
+        until,
+    };
+    let played = play_on(alloc, setting, world, limits, stop, taken, done, out);
     told_uncut(played)
 }
 
@@ -77,20 +82,19 @@ fn play_some<S: Sink>(
 /// all. The lines are put as they come; the answer is the last world, and how this part ended.
 pub fn play_part<S: Sink>(
     alloc: Global,
-    table: &Table,
-    scripts: &Scripts,
+    setting: &PlaySetting<'_>,
     world: World<Saved>,
-    hooks: &Hooks,
     limits: (u64, u64, u64),
     stop: u64,
     taken: u64,
     done: u64,
     out: &mut S,
 ) -> Result<(World<Saved>, Played), Status>
-    requires few { length scripts.now < 2 ^ 32 }
-    requires meets { AllMeet table.now (scripts_of scripts.now) (tables_of scripts.now) }
-    requires hooks { AreServing (map (λ h. h.known) hooks.now.all.items) }
-    requires fit { FitListed scripts.now world.world }
+    requires few { length setting.now.scripts.now < 2 ^ 32 }
+    requires meets { AllMeet setting.now.table.now (scripts_of setting.now.scripts.now)
+        (tables_of setting.now.scripts.now) }
+    requires hooks { AreServing (map (λ h. h.known) setting.now.hooks.now.all.items) }
+    requires fit { FitListed setting.now.scripts.now world.world }
     requires quiet { world.world.trace ≡ [] }
     requires next { world.world.agenda.next < 2 ^ 61 }
     requires limit { limits.0 ≤ instruction_limit }
@@ -100,16 +104,18 @@ pub fn play_part<S: Sink>(
     requires within { taken ≤ limits.1 }
     requires done { done < 2 ^ 61 }
     ensures told { IfOk result (λ answer. cut_of answer.1.how ≡ None) }
-    ensures ending { IfOk result (λ answer. IsEnding answer.1 (played_on
-        (cells_of (map (λ h. h.known) hooks.now.all.items)) table.now limits
-        (scripts_of scripts.now) stop taken done world.world) answer.0.world) }
+    ensures ending { IfOk result (λ answer. IsEnding answer.1
+        (played_on (cells_of (map (λ h. h.known) setting.now.hooks.now.all.items))
+        setting.now.table.now limits (scripts_of setting.now.scripts.now) stop taken done
+        world.world) answer.0.world) }
     // The sink took this part's lines, or a prefix of them where it was cut short.
-    ensures trace { IsTrue S.tells → TakesLines S.taken (played_on
-        (cells_of (map (λ h. h.known) hooks.now.all.items)) table.now limits
-        (scripts_of scripts.now) stop taken done world.world) out.old result out.new }
+    ensures trace { IsTrue S.tells → TakesLines S.taken
+        (played_on (cells_of (map (λ h. h.known) setting.now.hooks.now.all.items))
+        setting.now.table.now limits (scripts_of setting.now.scripts.now) stop taken done
+        world.world) out.old result out.new }
     ensures counts { TalliesPuts S.faults result out.old out.new }
     // What the world keeps, so that it can be saved: how much at most was posted, and executed.
-    ensures fit { IfOk result (λ answer. FitListed scripts.now answer.0.world) }
+    ensures fit { IfOk result (λ answer. FitListed setting.now.scripts.now answer.0.world) }
     ensures posted { IfOk result (λ answer.
         answer.0.world.agenda.next ≤ world.world.agenda.next + 2 ^ 45) }
     ensures executed { IfOk result (λ answer. answer.1.instructions ≤ done + 2 ^ 45) }
@@ -117,7 +123,7 @@ pub fn play_part<S: Sink>(
 {
     let mut world = world;
     match play_some(
-        alloc, table, scripts, &mut world, hooks, limits, stop, taken, done, out,
+        alloc, setting, &mut world, limits, stop, taken, done, out,
     ) {
         Err(status) => {
             drop(world);
@@ -162,8 +168,13 @@ pub fn play_first<S: Sink>(
 {
     let limits = (plan.limit, plan.entries, plan.until);
     let stop = entries.min(plan.entries);
+    let setting = PlaySetting {
+        scripts,
+        table,
+        hooks,
+    };
     match world_of(alloc, area, plan) {
         Err(NoMemory) => Err(Status::Memory),
-        Ok(world) => play_part(alloc, table, scripts, world, hooks, limits, stop, 0, 0, out),
+        Ok(world) => play_part(alloc, &setting, world, limits, stop, 0, 0, out),
     }
 }

@@ -19,8 +19,8 @@ use command_files::load_checked;
 use command_plays::{list_one, told_whole};
 use command_work::Status;
 use hook_table::Hooks;
-use module_player::play;
-use ncs_machine::Scripts;
+use module_player::{PlayLimits, play};
+use ncs_machine::{PlaySetting, Scripts};
 use nwq_outside::Sink;
 use nwq_value::{NoMemory, Table};
 use play_worlds::first_world;
@@ -61,17 +61,17 @@ fn play_world<S: Sink>(
     ensures only { IfErr result (Refusing Status.Limit) }
 {
     let mut world = world;
-    let played = play(
-        alloc,
+    let setting = PlaySetting {
         scripts,
-        &mut world,
-        hooks,
         table,
-        INSTRUCTIONS,
-        ENTRIES,
-        UNTIL,
-        out,
-    );
+        hooks,
+    };
+    let limits = PlayLimits {
+        instructions: INSTRUCTIONS,
+        entries: ENTRIES,
+        until: UNTIL,
+    };
+    let played = play(alloc, &setting, &mut world, limits, out);
     match told_whole(played) {
         Err(status) => {
             drop(world);

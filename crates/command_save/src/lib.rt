@@ -15,4 +15,4 @@ mod saving;
 mod written;
 
 pub use resume::resume_play;
-pub use save::save_play;
+pub use save::{SaveWords, save_play};

@@ -14,6 +14,7 @@ use command_play::{Remarks, tell_end};
 use command_plays::play_part;
 use command_work::{AreaFlaw, Status, read_file, refuse_area};
 use hook_table::Hooks;
+use ncs_machine::PlaySetting;
 use nwq_outside::{Files, Sink};
 use nwq_value::NoMemory;
 use play_save::{Opened, State, StateFault, read_state};
@@ -96,8 +97,13 @@ fn play_rest<F: Files, S: Sink>(
         done,
     } = opened;
     let stop = limits.1 + 1;
+    let setting = PlaySetting {
+        scripts: &scripts,
+        table: &table,
+        hooks,
+    };
     match play_part(
-        alloc, &table, &scripts, world, hooks, limits, stop, taken, done, out,
+        alloc, &setting, world, limits, stop, taken, done, out,
     ) {
         Err(status) => {
             drop(table);

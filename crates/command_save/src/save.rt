@@ -14,17 +14,27 @@ ghost use Rattle.command_save.specs.Saves.{saves, saves_area, saves_plan, saves_
 ghost use Rattle.command_save.specs.Saves.{saves_under};
 
 use crate::inputs::{AreaFile, HeaderFile, read_area_file, read_header};
-use crate::saving::save_broken;
+use crate::saving::{BrokenPlay, ListedPlan, save_broken};
 use command_plays::play_first;
 use command_work::Status;
 use hook_table::Hooks;
 use module_player::plays_can_rest;
-use ncs_machine::Scripts;
 use nwq_outside::{Files, Sink};
 use plan_text::Plan;
 use play_inputs::{list_scripts, read_plan_file};
 use play_worlds::plan_worlds_are_fresh;
 use std::alloc::Global;
+
+/// What the words of a save name: header, area, plan, how many entries are taken, and the file in
+/// which the state is left.
+#[derive(Clone, Copy)]
+pub struct SaveWords<'a> {
+    pub header: &'a str,
+    pub area: &'a str,
+    pub plan: &'a str,
+    pub entries: u64,
+    pub state: &'a str,
+}
 
 /// Plays so many entries of a plan over an area, and saves the play.
 #[tactic(auto, using(crate::proofs::PartLemmas::parts))]
@@ -32,26 +42,27 @@ fn save_plan<F: Files, S: Sink>(
     alloc: Global,
     header: HeaderFile,
     area: AreaFile,
-    plan: &Plan,
-    scripts: &Scripts,
-    entries: u64,
+    listed: &ListedPlan<'_>,
+    words: SaveWords<'_>,
     hooks: &Hooks,
-    name: &str,
     files: &mut F,
     out: &mut S,
 ) -> Result<(), Status>
-    requires few { length scripts.now < 2 ^ 32 }
-    requires meets { AllMeet header.table (scripts_of scripts.now) (tables_of scripts.now) }
-    requires listed { MayList header.text scripts.now }
+    requires few { length listed.now.scripts.now < 2 ^ 32 }
+    requires meets { AllMeet header.table (scripts_of listed.now.scripts.now)
+        (tables_of listed.now.scripts.now) }
+    requires listed { MayList header.text listed.now.scripts.now }
     requires hooks { AreServing (map (λ h. h.known) hooks.now.all.items) }
-    requires plan { IsPlan plan.now }
-    requires some { 1 ≤ entries }
+    requires plan { IsPlan listed.now.plan.now }
+    requires some { 1 ≤ words.entries }
     requires area { IsAreaOf area.area.tree area.bytes }
-    ensures does { IsTrue F.tells → IsTrue S.tells → DoesOn F.contents S.taken (saves_plan
-        (cells_of (map (λ h. h.known) hooks.now.all.items)) header plan.now (scripts_of scripts.now)
-        entries name.now area) files.old out.old result files.new out.new }
+    ensures does { IsTrue F.tells → IsTrue S.tells → DoesOn F.contents S.taken
+        (saves_plan (cells_of (map (λ h. h.known) hooks.now.all.items)) header listed.now.plan.now
+        (scripts_of listed.now.scripts.now) words.entry.entries words.entry.state.now area)
+        files.old out.old result files.new out.new }
     ensures counts { TalliesOn F.counts S.faults result files.old out.old files.new out.new }
-    ensures names { KeepsBut (IsName name.now) (F.contents files.old) (F.contents files.new) }
+    ensures names { KeepsBut (IsName words.entry.state.now) (F.contents files.old)
+        (F.contents files.new) }
     ensures only { IfErr result StopsGame }
 {
     plays_can_rest();
@@ -61,10 +72,10 @@ fn save_plan<F: Files, S: Sink>(
         alloc,
         &header.table,
         area,
-        plan,
-        scripts,
+        listed.plan,
+        listed.scripts,
         hooks,
-        entries,
+        words.entries,
         out,
     ) {
         Err(status) => {
@@ -72,9 +83,19 @@ fn save_plan<F: Files, S: Sink>(
             drop(bytes);
             Err(status)
         }
-        Ok((world, played)) => save_broken(
-            alloc, header, bytes, plan, scripts, world, &played, name, files, out,
-        ),
+        Ok((world, played)) => {
+            let broken = BrokenPlay { world, played };
+            save_broken(
+                alloc,
+                header,
+                bytes,
+                listed,
+                broken,
+                words.state,
+                files,
+                out,
+            )
+        }
     }
 }
 
@@ -83,36 +104,34 @@ fn save_plan<F: Files, S: Sink>(
 fn save_area<F: Files, S: Sink>(
     alloc: Global,
     header: HeaderFile,
-    area: &str,
-    plan: &Plan,
-    entries: u64,
-    name: &str,
-    scripts: &Scripts,
+    listed: &ListedPlan<'_>,
+    words: SaveWords<'_>,
     hooks: &Hooks,
     files: &mut F,
     out: &mut S,
 ) -> Result<(), Status>
-    requires few { length scripts.now < 2 ^ 32 }
-    requires meets { AllMeet header.table (scripts_of scripts.now) (tables_of scripts.now) }
-    requires listed { MayList header.text scripts.now }
+    requires few { length listed.now.scripts.now < 2 ^ 32 }
+    requires meets { AllMeet header.table (scripts_of listed.now.scripts.now)
+        (tables_of listed.now.scripts.now) }
+    requires listed { MayList header.text listed.now.scripts.now }
     requires hooks { AreServing (map (λ h. h.known) hooks.now.all.items) }
-    requires plan { IsPlan plan.now }
-    requires some { 1 ≤ entries }
-    ensures does { IsTrue F.tells → IsTrue S.tells → DoesOn F.contents S.taken (saves_area
-        (cells_of (map (λ h. h.known) hooks.now.all.items)) header area.now plan.now entries
-        name.now (scripts_of scripts.now)) files.old out.old result files.new out.new }
+    requires plan { IsPlan listed.now.plan.now }
+    requires some { 1 ≤ words.entries }
+    ensures does { IsTrue F.tells → IsTrue S.tells → DoesOn F.contents S.taken
+        (saves_area (cells_of (map (λ h. h.known) hooks.now.all.items)) header words.entry.area.now
+        listed.now.plan.now words.entry.entries words.entry.state.now
+        (scripts_of listed.now.scripts.now)) files.old out.old result files.new out.new }
     ensures counts { TalliesOn F.counts S.faults result files.old out.old files.new out.new }
-    ensures names { KeepsBut (IsName name.now) (F.contents files.old) (F.contents files.new) }
+    ensures names { KeepsBut (IsName words.entry.state.now) (F.contents files.old)
+        (F.contents files.new) }
     ensures only { IfErr result StopsGame }
 {
-    match read_area_file(alloc, area, files, out) {
+    match read_area_file(alloc, words.area, files, out) {
         Err(status) => {
             drop(header);
             Err(status)
         }
-        Ok(area) => save_plan(
-            alloc, header, area, plan, scripts, entries, hooks, name, files, out,
-        ),
+        Ok(area) => save_plan(alloc, header, area, listed, words, hooks, files, out),
     }
 }
 
@@ -121,10 +140,8 @@ fn save_area<F: Files, S: Sink>(
 #[tactic(auto, using(crate::proofs::StepLemmas::steps, crate::proofs::StopLemmas::stops, crate::proofs::ListLemmas::keeps), unfolding(crate::specs::Saves::saves_scripts))]
 fn save_scripts<F: Files, S: Sink>(
     alloc: Global,
-    area: &str,
+    words: SaveWords<'_>,
     plan: &Plan,
-    entries: u64,
-    name: &str,
     header: HeaderFile,
     hooks: &Hooks,
     files: &mut F,
@@ -133,12 +150,14 @@ fn save_scripts<F: Files, S: Sink>(
     requires header { IsHeaderOf header.text header.table }
     requires hooks { AreServing (map (λ h. h.known) hooks.now.all.items) }
     requires plan { IsPlan plan.now }
-    requires some { 1 ≤ entries }
-    ensures does { IsTrue F.tells → IsTrue S.tells → DoesOn F.contents S.taken (saves_scripts
-        (cells_of (map (λ h. h.known) hooks.now.all.items)) area.now plan.now entries name.now
-        header) files.old out.old result files.new out.new }
+    requires some { 1 ≤ words.entries }
+    ensures does { IsTrue F.tells → IsTrue S.tells → DoesOn F.contents S.taken
+        (saves_scripts (cells_of (map (λ h. h.known) hooks.now.all.items)) words.entry.area.now
+        plan.now words.entry.entries words.entry.state.now header) files.old out.old result
+        files.new out.new }
     ensures counts { TalliesOn F.counts S.faults result files.old out.old files.new out.new }
-    ensures names { KeepsBut (IsGameFile name.now) (F.contents files.old) (F.contents files.new) }
+    ensures names { KeepsBut (IsGameFile words.entry.state.now) (F.contents files.old)
+        (F.contents files.new) }
     ensures only { IfErr result StopsGame }
 {
     match list_scripts(alloc, &header.table, plan.scripts.as_slice(), files, out) {
@@ -146,9 +165,13 @@ fn save_scripts<F: Files, S: Sink>(
             drop(header);
             Err(status)
         }
-        Ok(scripts) => save_area(
-            alloc, header, area, plan, entries, name, &scripts, hooks, files, out,
-        ),
+        Ok(scripts) => {
+            let listed = ListedPlan {
+                plan,
+                scripts: &scripts,
+            };
+            save_area(alloc, header, &listed, words, hooks, files, out)
+        }
     }
 }
 
@@ -157,10 +180,7 @@ fn save_scripts<F: Files, S: Sink>(
 #[tactic(auto, using(crate::proofs::StepLemmas::steps, crate::proofs::StopLemmas::stops), unfolding(crate::specs::Saves::saves_under))]
 fn save_under<F: Files, S: Sink>(
     alloc: Global,
-    header: &str,
-    area: &str,
-    entries: u64,
-    name: &str,
+    words: SaveWords<'_>,
     plan: &Plan,
     hooks: &Hooks,
     files: &mut F,
@@ -168,49 +188,46 @@ fn save_under<F: Files, S: Sink>(
 ) -> Result<(), Status>
     requires hooks { AreServing (map (λ h. h.known) hooks.now.all.items) }
     requires plan { IsPlan plan.now }
-    requires some { 1 ≤ entries }
-    ensures does { IsTrue F.tells → IsTrue S.tells → DoesOn F.contents S.taken (saves_under
-        (cells_of (map (λ h. h.known) hooks.now.all.items)) header.now area.now entries name.now
-        plan.now) files.old out.old result files.new out.new }
+    requires some { 1 ≤ words.entries }
+    ensures does { IsTrue F.tells → IsTrue S.tells → DoesOn F.contents S.taken
+        (saves_under (cells_of (map (λ h. h.known) hooks.now.all.items)) words.entry.header.now
+        words.entry.area.now words.entry.entries words.entry.state.now plan.now) files.old out.old
+        result files.new out.new }
     ensures counts { TalliesOn F.counts S.faults result files.old out.old files.new out.new }
-    ensures names { KeepsBut (IsGameFile name.now) (F.contents files.old) (F.contents files.new) }
+    ensures names { KeepsBut (IsGameFile words.entry.state.now) (F.contents files.old)
+        (F.contents files.new) }
     ensures only { IfErr result StopsGame }
 {
-    match read_header(alloc, header, files, out) {
+    match read_header(alloc, words.header, files, out) {
         Err(status) => Err(status),
-        Ok(header) => save_scripts(alloc, area, plan, entries, name, header, hooks, files, out),
+        Ok(header) => save_scripts(alloc, words, plan, header, hooks, files, out),
     }
 }
 
 /// Plays so many entries of a plan over an area, under the header that a word names, and saves the
-/// play in the file `state`.
+/// play in the file of the state.
 #[tactic(auto, using(crate::proofs::StepLemmas::steps, crate::proofs::StopLemmas::stops), unfolding(crate::specs::Saves::saves))]
 pub fn save_play<F: Files, S: Sink>(
     alloc: Global,
-    header: &str,
-    area: &str,
-    plan: &str,
-    entries: u64,
-    state: &str,
+    words: SaveWords<'_>,
     hooks: &Hooks,
     files: &mut F,
     out: &mut S,
 ) -> Result<(), Status>
     requires hooks { AreServing (map (λ h. h.known) hooks.now.all.items) }
-    requires some { 1 ≤ entries }
-    ensures does { IsTrue F.tells → IsTrue S.tells → DoesOn F.contents S.taken (saves
-        (cells_of (map (λ h. h.known) hooks.now.all.items)) header.now area.now plan.now entries
-        state.now) files.old out.old result files.new out.new }
+    requires some { 1 ≤ words.entries }
+    ensures does { IsTrue F.tells → IsTrue S.tells → DoesOn F.contents S.taken
+        (saves (cells_of (map (λ h. h.known) hooks.now.all.items)) words.entry.header.now
+        words.entry.area.now words.entry.plan.now words.entry.entries words.entry.state.now)
+        files.old out.old result files.new out.new }
     ensures counts { TalliesOn F.counts S.faults result files.old out.old files.new out.new }
     // The files of bytecode of scripts, and the file of the state, alone are written.
-    ensures names { KeepsBut (IsGameFile state.now)
+    ensures names { KeepsBut (IsGameFile words.entry.state.now)
         (F.contents files.old) (F.contents files.new) }
     ensures only { IfErr result StopsGame }
 {
-    match read_plan_file(alloc, plan, files, out) {
+    match read_plan_file(alloc, words.plan, files, out) {
         Err(status) => Err(status),
-        Ok(plan) => save_under(
-            alloc, header, area, entries, state, &plan, hooks, files, out,
-        ),
+        Ok(plan) => save_under(alloc, words, &plan, hooks, files, out),
     }
 }

@@ -31,6 +31,20 @@ use saved_state::Saved;
 use std::alloc::Global;
 use world_core::World;
 
+/// A plan, and its scripts as they are listed.
+#[derive(Clone, Copy)]
+pub(crate) struct ListedPlan<'a> {
+    pub plan: &'a Plan,
+    pub scripts: &'a Scripts,
+}
+
+/// A play that was broken off: its world there, and how far it has come.
+#[derive(Drop)]
+pub(crate) struct BrokenPlay {
+    pub world: World<Saved>,
+    pub played: Played,
+}
+
 /// The text of a header, where it has one.
 fn text_of(header: HeaderFile) -> Option<Vec<u8>>
     ensures text { option_map (λ text. text.items) result ≡ header.text }
@@ -49,26 +63,27 @@ fn take_state(
     alloc: Global,
     header: HeaderFile,
     file: Items<u8>,
-    plan: &Plan,
-    scripts: &Scripts,
-    world: World<Saved>,
-    played: &Played,
+    listed: &ListedPlan<'_>,
+    broken: BrokenPlay,
 ) -> Result<State, NoMemory>
-    requires plan { IsPlan plan.now }
-    requires listed { MayList header.text scripts.now }
-    requires rests { MayRest scripts.now file world.world }
-    requires come { MayCount (limits_of plan.now) world.world
-        played.now.entries played.now.instructions }
-    ensures state { (p : Progress SavedView) → IsProgress played.now world.world p →
-        IfOk result (λ s. IsStateAt header file plan.now (scripts_of scripts.now) p s) }
-    ensures taken { IfOk result (λ s. s.taken ≡ played.now.entries) }
+    requires plan { IsPlan listed.now.plan.now }
+    requires listed { MayList header.text listed.now.scripts.now }
+    requires rests { MayRest listed.now.scripts.now file broken.world.world }
+    requires come { MayCount (limits_of listed.now.plan.now) broken.world.world
+        broken.played.entries broken.played.instructions }
+    ensures state { (p : Progress SavedView) → IsProgress broken.played broken.world.world p → IfOk
+        result (λ s. IsStateAt header file listed.now.plan.now (scripts_of listed.now.scripts.now) p
+        s) }
+    ensures taken { IfOk result (λ s. s.taken ≡ broken.played.entries) }
 {
+    let BrokenPlay { world, played } = broken;
+    let plan = listed.plan;
     let limits = (plan.limit, plan.entries, plan.until);
     let header = text_of(header);
     let state = State::of(
         alloc,
         header,
-        scripts,
+        listed.scripts,
         file.into_vec(),
         world,
         limits,
@@ -85,31 +100,29 @@ fn save_state<F: Files, S: Sink>(
     alloc: Global,
     header: HeaderFile,
     file: Items<u8>,
-    plan: &Plan,
-    scripts: &Scripts,
-    world: World<Saved>,
-    played: &Played,
+    listed: &ListedPlan<'_>,
+    broken: BrokenPlay,
     name: &str,
     files: &mut F,
     out: &mut S,
 ) -> Result<(), Status>
-    requires plan { IsPlan plan.now }
-    requires listed { MayList header.text scripts.now }
-    requires rests { MayRest scripts.now file world.world }
-    requires come { MayCount (limits_of plan.now) world.world
-        played.now.entries played.now.instructions }
-    ensures does { IsTrue F.tells → IsTrue S.tells → (p : Progress SavedView) →
-        IsProgress played.now world.world p →
-        Does (saves_at header file plan.now (scripts_of scripts.now) name.now p)
-        (F.contents files.old) (S.taken out.old)
+    requires plan { IsPlan listed.now.plan.now }
+    requires listed { MayList header.text listed.now.scripts.now }
+    requires rests { MayRest listed.now.scripts.now file broken.world.world }
+    requires come { MayCount (limits_of listed.now.plan.now) broken.world.world
+        broken.played.entries broken.played.instructions }
+    ensures does { IsTrue F.tells → IsTrue S.tells → (p : Progress SavedView) → IsProgress
+        broken.played broken.world.world p → Does (saves_at header file listed.now.plan.now
+        (scripts_of listed.now.scripts.now) name.now p) (F.contents files.old) (S.taken out.old)
         result (F.contents files.new) (S.taken out.new) }
     ensures counts { TalliesOn F.counts S.faults result files.old out.old files.new out.new }
     ensures names { KeepsBut (IsName name.now) (F.contents files.old) (F.contents files.new) }
     ensures only { IfErr result (Refusing Status.Area) }
 {
-    match take_state(alloc, header, file, plan, scripts, world, played) {
+    let entries = broken.played.entries;
+    match take_state(alloc, header, file, listed, broken) {
         Err(NoMemory) => Err(Status::Memory),
-        Ok(state) => write_state(alloc, name, &state, played.entries, files, out),
+        Ok(state) => write_state(alloc, name, &state, entries, files, out),
     }
 }
 
@@ -145,36 +158,34 @@ pub(crate) fn save_broken<F: Files, S: Sink>(
     alloc: Global,
     header: HeaderFile,
     file: Items<u8>,
-    plan: &Plan,
-    scripts: &Scripts,
-    world: World<Saved>,
-    played: &Played,
+    listed: &ListedPlan<'_>,
+    broken: BrokenPlay,
     name: &str,
     files: &mut F,
     out: &mut S,
 ) -> Result<(), Status>
-    requires plan { IsPlan plan.now }
-    requires listed { MayList header.text scripts.now }
-    requires told { cut_of played.now.how ≡ None }
-    requires broken { WhereBroken played.now.how
-        (MaySave scripts.now file (limits_of plan.now) world.world played.now) }
-    ensures does { IsTrue F.tells → IsTrue S.tells → (p : PlayedView SavedView) →
-        IsEnding played.now p world.world →
-        Does (saves_by p.ending header file plan.now (scripts_of scripts.now) name.now p)
-        (F.contents files.old) (S.taken out.old)
+    requires plan { IsPlan listed.now.plan.now }
+    requires listed { MayList header.text listed.now.scripts.now }
+    requires told { cut_of broken.played.how ≡ None }
+    requires broken { WhereBroken broken.played.how (MaySave listed.now.scripts.now file
+        (limits_of listed.now.plan.now) broken.world.world broken.played) }
+    ensures does { IsTrue F.tells → IsTrue S.tells → (p : PlayedView SavedView) → IsEnding
+        broken.played p broken.world.world → Does (saves_by p.ending header file listed.now.plan.now
+        (scripts_of listed.now.scripts.now) name.now p) (F.contents files.old) (S.taken out.old)
         result (F.contents files.new) (S.taken out.new) }
     ensures counts { TalliesOn F.counts S.faults result files.old out.old files.new out.new }
     ensures names { KeepsBut (IsName name.now) (F.contents files.old) (F.contents files.new) }
     ensures only { IfErr result StopsGame }
 {
-    match played.how {
-        How::Done | How::EntryStop | How::Pause => save_state(
-            alloc, header, file, plan, scripts, world, played, name, files, out,
-        ),
+    match broken.played.how {
+        How::Done | How::EntryStop | How::Pause => {
+            save_state(alloc, header, file, listed, broken, name, files, out)
+        }
         How::InstrStop => {
             drop(header);
             drop(file);
-            tell_stopped(alloc, world, scripts, played, out)
+            let BrokenPlay { world, played } = broken;
+            tell_stopped(alloc, world, listed.scripts, &played, out)
         }
         How::Fault | How::NoMemory => unreachable!(),
     }

@@ -21,9 +21,8 @@ ghost use Rattle.module_player.specs.Scenes.{FitIn, IsSet, host_in, runner_in};
 ghost use Rattle.module_player.specs.Scenes.{scene, scripts_in, tables_in};
 
 use crate::scripts::{Ended, run_scripts};
-use crate::setting::PlaySetting;
 use delay_agenda::{Entry, Kind};
-use ncs_machine::{Begin, entries_keep_fits, script_named};
+use ncs_machine::{Begin, PlaySetting, entries_keep_fits, script_named};
 use nwq_value::{NoMemory, Text};
 use saved_state::Saved;
 use std::alloc::Global;

@@ -9,13 +9,14 @@
 mod closing;
 mod entry;
 mod laws;
+mod limits;
 mod played;
 mod plays;
 mod scripts;
-mod setting;
 mod turn;
 
 pub use closing::{end_text, put_end_line};
 pub use laws::plays_can_rest;
+pub use limits::PlayLimits;
 pub use played::{How, Played};
 pub use plays::{play, play_on};

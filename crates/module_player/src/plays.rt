@@ -17,13 +17,11 @@ ghost use Rattle.module_player.specs.Cuts.{IsCutShort, WhereCut, cut_lines};
 ghost use Rattle.module_player.specs.Scenes.{FitIn, IsSet, host_in, runner_in, scene};
 ghost use Rattle.module_player.specs.declared.played.How.TheVariants as answer;
 
+use crate::limits::PlayLimits;
 use crate::played::{How, Played};
-use crate::setting::PlaySetting;
 use crate::turn::{TurnOutcome, turn};
-use hook_table::Hooks;
-use ncs_machine::Scripts;
+use ncs_machine::PlaySetting;
 use nwq_outside::Sink;
-use nwq_value::Table;
 use saved_state::Saved;
 use std::alloc::Global;
 use world_core::World;
@@ -51,9 +49,7 @@ fn play_from<S: Sink>(
     alloc: Global,
     setting: &PlaySetting<'_>,
     world: &mut World<Saved>,
-    limit: u64,
-    entries: u64,
-    until: u64,
+    limits: PlayLimits,
     stop: u64,
     taken: u64,
     done: u64,
@@ -65,50 +61,58 @@ fn play_from<S: Sink>(
         setting.now.hooks.now.all.items)) world.old.world }
     requires quiet { world.old.world.trace ≡ [] }
     requires next { world.old.world.agenda.next < 2 ^ 61 }
-    requires limit { limit ≤ instruction_limit }
-    requires entries { entries ≤ entry_limit }
-    requires until { until ≤ time_limit }
+    requires limit { limits.instructions ≤ instruction_limit }
+    requires entries { limits.entries ≤ entry_limit }
+    requires until { limits.until ≤ time_limit }
     requires taken { taken < stop }
-    requires within { taken ≤ entries }
+    requires within { taken ≤ limits.entries }
     requires done { done < 2 ^ 61 }
     ensures played { HasPlayed (scene setting.now.scripts.now setting.now.table.now
-        (map (λ h. h.known)
-        setting.now.hooks.now.all.items)) result (played_before taken done world.old.world)
-        (play_on (runner_in (scene setting.now.scripts.now setting.now.table.now (map (λ h. h.known)
-        setting.now.hooks.now.all.items)) limit)
-        (record { entries = entries; until = until; stop = stop })
+        (map (λ h. h.known) setting.now.hooks.now.all.items)) result (played_before taken done
+        world.old.world) (play_on (runner_in (scene setting.now.scripts.now setting.now.table.now
+        (map (λ h. h.known) setting.now.hooks.now.all.items)) limits.instructions)
+        (record { entries = limits.entries; until = limits.until; stop = stop })
         (played_before taken done world.old.world)) S.tells (S.taken out.old) (S.taken out.new)
         (S.faults out.old) (S.faults out.new) world.new.world }
     ensures cut { WhereCut result.how (IsCutShort (host_in (scene setting.now.scripts.now
-        setting.now.table.now (map (λ h. h.known) setting.now.hooks.now.all.items))) limit until
-        (play_on (runner_in (scene setting.now.scripts.now setting.now.table.now
-        (map (λ h. h.known) setting.now.hooks.now.all.items)) limit)
-        (record { entries = entries; until = until; stop = result.entries })
+        setting.now.table.now (map (λ h. h.known) setting.now.hooks.now.all.items)))
+        limits.instructions limits.until (play_on (runner_in (scene setting.now.scripts.now
+        setting.now.table.now (map (λ h. h.known) setting.now.hooks.now.all.items))
+        limits.instructions)
+        (record { entries = limits.entries; until = limits.until; stop = result.entries })
         (played_before taken done world.old.world)) result.entries result.instructions
         world.new.world) }
-    ensures told { IsTrue S.tells → WhereCut result.how (TookPrefix (cut_lines (host_in (scene
-        setting.now.scripts.now setting.now.table.now (map (λ h. h.known)
-        setting.now.hooks.now.all.items))) limit until (play_on (runner_in (scene
-        setting.now.scripts.now setting.now.table.now (map (λ h. h.known)
-        setting.now.hooks.now.all.items)) limit)
-        (record { entries = entries; until = until; stop = result.entries })
-        (played_before taken done world.old.world))) (S.taken out.old ++ trace_text (play_on
-        (runner_in (scene setting.now.scripts.now setting.now.table.now (map (λ h. h.known)
-        setting.now.hooks.now.all.items)) limit)
-        (record { entries = entries; until = until; stop = result.entries })
+    ensures told { IsTrue S.tells → WhereCut result.how
+        (TookPrefix (cut_lines (host_in (scene setting.now.scripts.now setting.now.table.now
+        (map (λ h. h.known) setting.now.hooks.now.all.items))) limits.instructions limits.until
+        (play_on (runner_in (scene setting.now.scripts.now setting.now.table.now
+        (map (λ h. h.known) setting.now.hooks.now.all.items)) limits.instructions)
+        (record { entries = limits.entries; until = limits.until; stop = result.entries })
+        (played_before taken done world.old.world))) (S.taken out.old ++ trace_text
+        (play_on (runner_in (scene setting.now.scripts.now setting.now.table.now
+        (map (λ h. h.known) setting.now.hooks.now.all.items)) limits.instructions)
+        (record { entries = limits.entries; until = limits.until; stop = result.entries })
         (played_before taken done world.old.world)).last.trace) (S.taken out.new)) }
 {
     let mut count = done;
     let mut text = Vec::new(alloc);
     for number in taken..stop {
-        if number == entries {
+        if number == limits.entries {
             return Played {
-                how: last_end(world, until),
+                how: last_end(world, limits.until),
                 entries: number,
                 instructions: count,
             };
         }
-        match turn(alloc, setting, world, limit, until, &mut text, out) {
+        match turn(
+            alloc,
+            setting,
+            world,
+            limits.instructions,
+            limits.until,
+            &mut text,
+            out,
+        ) {
             TurnOutcome::Goes(n) => count += n,
             TurnOutcome::Stops(n) => {
                 return Played {
@@ -152,162 +156,151 @@ fn play_from<S: Sink>(
 /// and an entry without lines puts nothing. The first put that fails ends the call.
 pub fn play_on<S: Sink>(
     alloc: Global,
-    scripts: &Scripts,
+    setting: &PlaySetting<'_>,
     world: &mut World<Saved>,
-    hooks: &Hooks,
-    table: &Table,
-    limit: u64,
-    entries: u64,
-    until: u64,
+    limits: PlayLimits,
     stop: u64,
     taken: u64,
     done: u64,
     out: &mut S,
 ) -> Played
-    requires few { length scripts.now < 2 ^ 32 }
-    requires meets { AllMeet table.now (scripts_of scripts.now) (tables_of scripts.now) }
-    requires hooks { AreServing (map (λ h. h.known) hooks.now.all.items) }
-    requires fit { StatesFit (scripts_of scripts.now) (tables_of scripts.now) world.old.world }
+    requires few { length setting.now.scripts.now < 2 ^ 32 }
+    requires meets { AllMeet setting.now.table.now (scripts_of setting.now.scripts.now)
+        (tables_of setting.now.scripts.now) }
+    requires hooks { AreServing (map (λ h. h.known) setting.now.hooks.now.all.items) }
+    requires fit { StatesFit (scripts_of setting.now.scripts.now)
+        (tables_of setting.now.scripts.now) world.old.world }
     requires quiet { world.old.world.trace ≡ [] }
     requires next { world.old.world.agenda.next < 2 ^ 61 }
-    requires limit { limit ≤ instruction_limit }
-    requires entries { entries ≤ entry_limit }
-    requires until { until ≤ time_limit }
+    requires limit { limits.instructions ≤ instruction_limit }
+    requires entries { limits.entries ≤ entry_limit }
+    requires until { limits.until ≤ time_limit }
     requires taken { taken < stop }
-    requires within { taken ≤ entries }
+    requires within { taken ≤ limits.entries }
     requires done { done < 2 ^ 61 }
     // How the play ends, after how many entries and instructions, and in which world.
-    ensures ending { EndsAs result.how (code_play_on (host_of scripts.now table.now
-        (map (λ h. h.known) hooks.now.all.items)) limit entries until stop taken done
-        world.old.world).ending }
-    ensures entries { WherePlayed result.how (result.entries
-        ≡ (code_play_on (host_of scripts.now table.now
-        (map (λ h. h.known) hooks.now.all.items)) limit entries until stop taken done
-        world.old.world).last.entries) }
-    ensures instructions { WherePlayed result.how (result.instructions
-        ≡ (code_play_on (host_of scripts.now table.now
-        (map (λ h. h.known) hooks.now.all.items)) limit entries until stop taken done
-        world.old.world).last.count) }
-    ensures world { WherePlayed result.how (world.new.world
-        ≡ (code_play_on (host_of scripts.now table.now
-        (map (λ h. h.known) hooks.now.all.items)) limit entries until stop taken done
-        world.old.world).last.world) }
+    ensures ending { EndsAs result.how (code_play_on (host_of setting.now.scripts.now
+        setting.now.table.now (map (λ h. h.known) setting.now.hooks.now.all.items))
+        limits.instructions limits.entries limits.until stop taken done world.old.world).ending }
+    ensures entries { WherePlayed result.how (result.entries ≡ (code_play_on
+        (host_of setting.now.scripts.now setting.now.table.now
+        (map (λ h. h.known) setting.now.hooks.now.all.items)) limits.instructions limits.entries
+        limits.until stop taken done world.old.world).last.entries) }
+    ensures instructions { WherePlayed result.how (result.instructions ≡ (code_play_on
+        (host_of setting.now.scripts.now setting.now.table.now
+        (map (λ h. h.known) setting.now.hooks.now.all.items)) limits.instructions limits.entries
+        limits.until stop taken done world.old.world).last.count) }
+    ensures world { WherePlayed result.how (world.new.world ≡ (code_play_on
+        (host_of setting.now.scripts.now setting.now.table.now
+        (map (λ h. h.known) setting.now.hooks.now.all.items)) limits.instructions limits.entries
+        limits.until stop taken done world.old.world).last.world) }
     // The sink took the play's lines, or a prefix of them where the play was cut short.
     ensures trace { IsTrue S.tells → TakesTrace result.how
-        (trace_text (code_play_on (host_of scripts.now table.now
-        (map (λ h. h.known) hooks.now.all.items)) limit entries until stop taken done
-        world.old.world).last.trace)
-        (S.taken out.old) (S.taken out.new) }
+        (trace_text (code_play_on (host_of setting.now.scripts.now setting.now.table.now
+        (map (λ h. h.known) setting.now.hooks.now.all.items)) limits.instructions limits.entries
+        limits.until stop taken done world.old.world).last.trace) (S.taken out.old)
+        (S.taken out.new) }
     ensures faults { CountsPlay result.how (S.faults out.old) (S.faults out.new) }
     // What the world keeps, so that its text can be put, and the play can go on.
-    ensures fit { WherePlayed result.how (StatesFit (scripts_of scripts.now)
-        (tables_of scripts.now) world.new.world) }
+    ensures fit { WherePlayed result.how (StatesFit (scripts_of setting.now.scripts.now)
+        (tables_of setting.now.scripts.now) world.new.world) }
     ensures quiet { WherePlayed result.how (world.new.world.trace ≡ []) }
     ensures next { WherePlayed result.how (world.new.world.agenda.next < 2 ^ 62) }
     // Where it was cut short: the entries that are counted were finished, as if the play were
     // broken off behind them, and the world is the one there, or that of the next entry: not begun,
     // stopped after some of its instructions, or done. The sink took a prefix of that entry's
     // lines.
-    ensures cut { WhereCut result.how (IsCutShort (host_of scripts.now table.now
-        (map (λ h. h.known) hooks.now.all.items)) limit until (code_play_on (host_of scripts.now
-        table.now (map (λ h. h.known) hooks.now.all.items)) limit entries until result.entries
-        taken done world.old.world) result.entries result.instructions world.new.world) }
-    ensures told { IsTrue S.tells → WhereCut result.how (TookPrefix (cut_lines (host_of scripts.now
-        table.now (map (λ h. h.known) hooks.now.all.items)) limit until (code_play_on (host_of
-        scripts.now table.now (map (λ h. h.known) hooks.now.all.items)) limit entries until
-        result.entries taken done world.old.world)) (S.taken out.old ++ trace_text (code_play_on
-        (host_of scripts.now table.now (map (λ h. h.known) hooks.now.all.items)) limit entries
-        until result.entries taken done world.old.world).last.trace) (S.taken out.new)) }
+    ensures cut { WhereCut result.how (IsCutShort (host_of setting.now.scripts.now
+        setting.now.table.now (map (λ h. h.known) setting.now.hooks.now.all.items))
+        limits.instructions limits.until (code_play_on (host_of setting.now.scripts.now
+        setting.now.table.now (map (λ h. h.known) setting.now.hooks.now.all.items))
+        limits.instructions limits.entries limits.until result.entries taken done world.old.world)
+        result.entries result.instructions world.new.world) }
+    ensures told { IsTrue S.tells → WhereCut result.how
+        (TookPrefix (cut_lines (host_of setting.now.scripts.now setting.now.table.now
+        (map (λ h. h.known) setting.now.hooks.now.all.items)) limits.instructions limits.until
+        (code_play_on (host_of setting.now.scripts.now setting.now.table.now
+        (map (λ h. h.known) setting.now.hooks.now.all.items)) limits.instructions limits.entries
+        limits.until result.entries taken done world.old.world)) (S.taken out.old ++ trace_text
+        (code_play_on (host_of setting.now.scripts.now setting.now.table.now
+        (map (λ h. h.known) setting.now.hooks.now.all.items)) limits.instructions limits.entries
+        limits.until result.entries taken done world.old.world).last.trace) (S.taken out.new)) }
     // How much at most was posted, and executed.
     ensures posted { WherePlayed result.how
         (world.new.world.agenda.next ≤ world.old.world.agenda.next + 2 ^ 45) }
     ensures executed { WherePlayed result.how (result.instructions ≤ done + 2 ^ 45) }
 {
-    let setting = PlaySetting {
-        scripts,
-        table,
-        hooks,
-    };
-    play_from(
-        alloc, &setting, world, limit, entries, until, stop, taken, done, out,
-    )
+    play_from(alloc, setting, world, limits, stop, taken, done, out)
 }
 
 /// Plays until no entry is due, or as many were taken as may be.
 #[tactic(auto, using(crate::proofs::Whole::never_pauses))]
 pub fn play<S: Sink>(
     alloc: Global,
-    scripts: &Scripts,
+    setting: &PlaySetting<'_>,
     world: &mut World<Saved>,
-    hooks: &Hooks,
-    table: &Table,
-    limit: u64,
-    entries: u64,
-    until: u64,
+    limits: PlayLimits,
     out: &mut S,
 ) -> Played
-    requires few { length scripts.now < 2 ^ 32 }
-    requires meets { AllMeet table.now (scripts_of scripts.now) (tables_of scripts.now) }
-    requires hooks { AreServing (map (λ h. h.known) hooks.now.all.items) }
-    requires fit { StatesFit (scripts_of scripts.now) (tables_of scripts.now) world.old.world }
+    requires few { length setting.now.scripts.now < 2 ^ 32 }
+    requires meets { AllMeet setting.now.table.now (scripts_of setting.now.scripts.now)
+        (tables_of setting.now.scripts.now) }
+    requires hooks { AreServing (map (λ h. h.known) setting.now.hooks.now.all.items) }
+    requires fit { StatesFit (scripts_of setting.now.scripts.now)
+        (tables_of setting.now.scripts.now) world.old.world }
     requires quiet { world.old.world.trace ≡ [] }
     requires next { world.old.world.agenda.next < 2 ^ 61 }
-    requires limit { limit ≤ instruction_limit }
-    requires entries { entries ≤ entry_limit }
-    requires until { until ≤ time_limit }
+    requires limit { limits.instructions ≤ instruction_limit }
+    requires entries { limits.entries ≤ entry_limit }
+    requires until { limits.until ≤ time_limit }
     // How the play ends, after how many entries and instructions, and in which world.
-    ensures ending { EndsAs result.how (code_play (host_of scripts.now table.now
-        (map (λ h. h.known) hooks.now.all.items)) limit entries until world.old.world).ending }
-    ensures entries { WherePlayed result.how (result.entries
-        ≡ (code_play (host_of scripts.now table.now
-        (map (λ h. h.known) hooks.now.all.items))
-        limit entries until world.old.world).last.entries) }
-    ensures instructions { WherePlayed result.how (result.instructions
-        ≡ (code_play (host_of scripts.now table.now
-        (map (λ h. h.known) hooks.now.all.items)) limit entries until world.old.world).last.count) }
-    ensures world { WherePlayed result.how (world.new.world
-        ≡ (code_play (host_of scripts.now table.now
-        (map (λ h. h.known) hooks.now.all.items)) limit entries until world.old.world).last.world) }
+    ensures ending { EndsAs result.how (code_play (host_of setting.now.scripts.now
+        setting.now.table.now (map (λ h. h.known) setting.now.hooks.now.all.items))
+        limits.instructions limits.entries limits.until world.old.world).ending }
+    ensures entries { WherePlayed result.how (result.entries ≡ (code_play
+        (host_of setting.now.scripts.now setting.now.table.now
+        (map (λ h. h.known) setting.now.hooks.now.all.items)) limits.instructions limits.entries
+        limits.until world.old.world).last.entries) }
+    ensures instructions { WherePlayed result.how (result.instructions ≡ (code_play
+        (host_of setting.now.scripts.now setting.now.table.now
+        (map (λ h. h.known) setting.now.hooks.now.all.items)) limits.instructions limits.entries
+        limits.until world.old.world).last.count) }
+    ensures world { WherePlayed result.how (world.new.world ≡ (code_play
+        (host_of setting.now.scripts.now setting.now.table.now
+        (map (λ h. h.known) setting.now.hooks.now.all.items)) limits.instructions limits.entries
+        limits.until world.old.world).last.world) }
     // The sink took the play's lines, or a prefix of them where the play was cut short.
     ensures trace { IsTrue S.tells → TakesTrace result.how
-        (trace_text (code_play (host_of scripts.now table.now
-        (map (λ h. h.known) hooks.now.all.items)) limit entries until world.old.world).last.trace)
-        (S.taken out.old) (S.taken out.new) }
+        (trace_text (code_play (host_of setting.now.scripts.now setting.now.table.now
+        (map (λ h. h.known) setting.now.hooks.now.all.items)) limits.instructions limits.entries
+        limits.until world.old.world).last.trace) (S.taken out.old) (S.taken out.new) }
     ensures faults { CountsPlay result.how (S.faults out.old) (S.faults out.new) }
     // What the world keeps, so that its text can be put, and the play can go on.
-    ensures fit { WherePlayed result.how (StatesFit (scripts_of scripts.now)
-        (tables_of scripts.now) world.new.world) }
+    ensures fit { WherePlayed result.how (StatesFit (scripts_of setting.now.scripts.now)
+        (tables_of setting.now.scripts.now) world.new.world) }
     ensures quiet { WherePlayed result.how (world.new.world.trace ≡ []) }
     ensures next { WherePlayed result.how (world.new.world.agenda.next < 2 ^ 62) }
     // Where it was cut short: the entries that are counted were finished, as if the play were
     // broken off behind them, and the world is the one there, or that of the next entry: not begun,
     // stopped after some of its instructions, or done. The sink took a prefix of that entry's
     // lines.
-    ensures cut { WhereCut result.how (IsCutShort (host_of scripts.now table.now
-        (map (λ h. h.known) hooks.now.all.items)) limit until (code_play_on (host_of scripts.now
-        table.now (map (λ h. h.known) hooks.now.all.items)) limit entries until result.entries
-        0 0 world.old.world) result.entries result.instructions world.new.world) }
-    ensures told { IsTrue S.tells → WhereCut result.how (TookPrefix (cut_lines (host_of scripts.now
-        table.now (map (λ h. h.known) hooks.now.all.items)) limit until (code_play_on (host_of
-        scripts.now table.now (map (λ h. h.known) hooks.now.all.items)) limit entries until
-        result.entries 0 0 world.old.world)) (S.taken out.old ++ trace_text (code_play_on
-        (host_of scripts.now table.now (map (λ h. h.known) hooks.now.all.items)) limit entries
-        until result.entries 0 0 world.old.world).last.trace) (S.taken out.new)) }
+    ensures cut { WhereCut result.how (IsCutShort (host_of setting.now.scripts.now
+        setting.now.table.now (map (λ h. h.known) setting.now.hooks.now.all.items))
+        limits.instructions limits.until (code_play_on (host_of setting.now.scripts.now
+        setting.now.table.now (map (λ h. h.known) setting.now.hooks.now.all.items))
+        limits.instructions limits.entries limits.until result.entries 0 0 world.old.world)
+        result.entries result.instructions world.new.world) }
+    ensures told { IsTrue S.tells → WhereCut result.how
+        (TookPrefix (cut_lines (host_of setting.now.scripts.now setting.now.table.now
+        (map (λ h. h.known) setting.now.hooks.now.all.items)) limits.instructions limits.until
+        (code_play_on (host_of setting.now.scripts.now setting.now.table.now
+        (map (λ h. h.known) setting.now.hooks.now.all.items)) limits.instructions limits.entries
+        limits.until result.entries 0 0 world.old.world)) (S.taken out.old ++ trace_text
+        (code_play_on (host_of setting.now.scripts.now setting.now.table.now
+        (map (λ h. h.known) setting.now.hooks.now.all.items)) limits.instructions limits.entries
+        limits.until result.entries 0 0 world.old.world).last.trace) (S.taken out.new)) }
     // It isn't broken off.
     ensures whole { result.how ≢ answer.Pause }
 {
-    play_on(
-        alloc,
-        scripts,
-        world,
-        hooks,
-        table,
-        limit,
-        entries,
-        until,
-        entries + 1,
-        0,
-        0,
-        out,
-    )
+    play_on(alloc, setting, world, limits, limits.entries + 1, 0, 0, out)
 }

@@ -9,8 +9,7 @@ ghost use Rattle.module_player.specs.Cuts.{IsRunCut};
 ghost use Rattle.module_player.specs.Entries.{HasRun};
 ghost use Rattle.module_player.specs.Scenes.{FitIn, IsSet, host_in, scene, scripts_in, tables_in};
 
-use crate::setting::PlaySetting;
-use ncs_machine::{Begin, Ran, run};
+use ncs_machine::{Begin, PlaySetting, Ran, run};
 use nwq_value::NoMemory;
 use saved_state::Saved;
 use std::alloc::Global;
@@ -62,17 +61,7 @@ pub(crate) fn run_scripts(
         world.new.world) }
     ensures room { 1 ≤ world.new.room }
 {
-    let (ran, count, last) = run(
-        alloc,
-        setting.scripts,
-        script,
-        begin,
-        world,
-        setting.hooks,
-        setting.table,
-        object,
-        limit,
-    );
+    let (ran, count, last) = run(alloc, setting, script, begin, world, object, limit);
     match ran {
         Ran::Ended => Ok((Ended::Over, count)),
         Ran::Divide => Ok((Ended::Divided(last), count)),

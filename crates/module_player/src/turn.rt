@@ -18,9 +18,8 @@ ghost use Rattle.module_player.specs.Turns.{CountsNext, Takes, TakesText, Turns,
 ghost use Rattle.module_player.specs.Turns.{lines_text};
 
 use crate::entry::enter;
-use crate::setting::PlaySetting;
 use delay_agenda::Entry;
-use ncs_machine::entries_keep_fits;
+use ncs_machine::{PlaySetting, entries_keep_fits};
 use nwq_outside::{Done, Sink};
 use saved_state::Saved;
 use std::alloc::Global;

@@ -14,6 +14,7 @@ ghost use Rattle.world_core.specs.Calls.{AreServing};
 use crate::machine::{Machine, StepOutcome};
 use crate::scene::Scene;
 use crate::scripts::{Begin, Scripts};
+use crate::setting::PlaySetting;
 use hook_table::Hooks;
 use machine_frames::Frame;
 use nwq_value::Table;
@@ -96,48 +97,64 @@ fn run_machine(
 #[tactic(auto, using(crate::proofs::Beginning::begin_lemmas))]
 pub fn run(
     alloc: Global,
-    scripts: &Scripts,
+    setting: &PlaySetting<'_>,
     script: u32,
     begin: Begin,
     world: &mut World<Saved>,
-    hooks: &Hooks,
-    table: &Table,
     caller: u32,
     limit: u64,
 ) -> (Ran, u64, u32)
-    requires few { length scripts.now < 2 ^ 32 }
-    requires listed { script < length scripts.now }
-    requires stored { FitsBegin (scripts_of scripts.now) (tables_of scripts.now) begin }
+    requires few { length setting.now.scripts.now < 2 ^ 32 }
+    requires listed { script < length setting.now.scripts.now }
+    requires stored { FitsBegin (scripts_of setting.now.scripts.now)
+        (tables_of setting.now.scripts.now) begin }
     requires limit { limit ≤ instruction_limit }
     requires clock { world.old.world.clock < 2 ^ 62 }
     requires next { world.old.world.agenda.next < 2 ^ 62 }
     requires caller { caller ≤ count world.old.world }
-    requires meets { AllMeet table.now (scripts_of scripts.now)
-        (tables_of scripts.now) }
-    requires hooks { AreServing (map (λ h. h.known) hooks.now.all.items) }
+    requires meets { AllMeet setting.now.table.now (scripts_of setting.now.scripts.now)
+        (tables_of setting.now.scripts.now) }
+    requires hooks { AreServing (map (λ h. h.known) setting.now.hooks.now.all.items) }
     ensures room { world.old.room ≤ world.new.room }
     ensures run { IsRunOf result.0 result.1 result.2
-        (run_from (host (scripts_of scripts.now)
-        (engine_view table.now (map (λ h. h.known) hooks.now.all.items)))
+        (run_from (host (scripts_of setting.now.scripts.now)
+        (engine_view setting.now.table.now (map (λ h. h.known) setting.now.hooks.now.all.items)))
         limit script begin caller
         world.old.world)
-        (scripts_of scripts.now) (tables_of scripts.now)
+        (scripts_of setting.now.scripts.now) (tables_of setting.now.scripts.now)
         world.old.world world.new.world }
-    ensures cut { WhereCut result.0 (IsCut (host (scripts_of scripts.now)
-        (engine_view table.now (map (λ h. h.known) hooks.now.all.items))) result.1 result.2
-        (entry (first_frame script begin caller) world.old.world) world.new.world) }
+    ensures cut { WhereCut result.0 (IsCut (host (scripts_of setting.now.scripts.now)
+        (engine_view setting.now.table.now (map (λ h. h.known) setting.now.hooks.now.all.items)))
+        result.1 result.2 (entry (first_frame script begin caller) world.old.world)
+        world.new.world) }
 {
     entries_begin_safely();
     match begin {
         Begin::Start => {
             let mut machine = Machine::of(alloc, Frame::started(alloc, script, caller));
-            run_machine(alloc, scripts, &mut machine, world, hooks, table, limit)
+            run_machine(
+                alloc,
+                setting.scripts,
+                &mut machine,
+                world,
+                setting.hooks,
+                setting.table,
+                limit,
+            )
         }
         Begin::Stored(saved) => match Frame::continued(alloc, saved, caller) {
             Err(_) => (Ran::NoMemory, 0, caller),
             Ok(frame) => {
                 let mut machine = Machine::of(alloc, frame);
-                run_machine(alloc, scripts, &mut machine, world, hooks, table, limit)
+                run_machine(
+                    alloc,
+                    setting.scripts,
+                    &mut machine,
+                    world,
+                    setting.hooks,
+                    setting.table,
+                    limit,
+                )
             }
         },
     }

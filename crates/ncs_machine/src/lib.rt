@@ -12,6 +12,7 @@ mod laws;
 mod machine;
 mod scene;
 mod scripts;
+mod setting;
 mod step;
 
 pub use entry::{Ran, run};
@@ -19,3 +20,4 @@ pub use laws::{calls_keep_fits, entries_keep_fits, runs_lead};
 pub use machine::script_named;
 pub use scene::Scene;
 pub use scripts::{Begin, Loaded, Ready, Scripts};
+pub use setting::PlaySetting;

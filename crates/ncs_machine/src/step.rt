@@ -13,6 +13,7 @@ ghost use Rattle.ncs_machine.specs.Host.{engine_view, host, scripts_of};
 ghost use Rattle.ncs_machine.specs.Steps.{GoesWell, IsHalfway, Stays, next_of, state, world_behind};
 ghost use Rattle.world_core.specs.Calls.{AreServing, IsEarly};
 
+use crate::call::EngineCall;
 use crate::machine::{Machine, StepOutcome};
 use crate::scripts::Scripts;
 use decoded_code::Step;
@@ -60,8 +61,12 @@ impl Machine {
     {
         match decoded {
             Step::Action { routine, count } => {
-                let size = decoded.size();
-                self.call_engine(alloc, scripts, world, hooks, table, *routine, *count, size)?;
+                let call = EngineCall {
+                    number: *routine,
+                    count: *count,
+                    size: decoded.size(),
+                };
+                self.call_engine(alloc, scripts, world, hooks, table, call)?;
                 Ok(StepOutcome::Goes)
             }
             Step::Jsr { offset } => {

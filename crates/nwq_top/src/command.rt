@@ -11,7 +11,7 @@ use command_files::{assemble_file, check_file, disassemble_file, show_tree};
 use command_generate::generate;
 use command_play::{GameNames, Remarks, play_files};
 use command_run::run;
-use command_save::{resume_play, save_play};
+use command_save::{SaveWords, resume_play, save_play};
 use command_words::{Command, command_of};
 use command_work::{Status, refuse_form};
 use hook_table::Hooks;
@@ -71,7 +71,16 @@ pub fn command<F: Files, S: Sink>(
             entries,
             state,
             ..
-        } => save_play(alloc, header, area, plan, entries, state, hooks, files, out),
+        } => {
+            let save = SaveWords {
+                header,
+                area,
+                plan,
+                entries,
+                state,
+            };
+            save_play(alloc, save, hooks, files, out)
+        }
         Command::Resume { state, to, .. } => {
             resume_play(alloc, state, to, hooks, files, out, remarks)
         }

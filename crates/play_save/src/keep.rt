@@ -20,6 +20,13 @@ use std::alloc::Global;
 use world_core::WorldParts;
 use world_rules::Things;
 
+/// How far a play has come: how many entries it took, and how many instructions it executed.
+#[derive(Clone, Copy)]
+pub(crate) struct PlayCounts {
+    pub taken: u64,
+    pub done: u64,
+}
+
 /// The objects of a world, with their variables in its area.
 fn objects(alloc: Global, area: &Area, things: &[Things<Saved>]) -> Result<Items<Object>, NoMemory>
     requires counted { length things.now ≡ length area.now.objects }
@@ -71,8 +78,7 @@ pub(crate) fn keep(
     area: &Area,
     saved: WorldParts<Saved>,
     limits: (u64, u64, u64),
-    taken: u64,
-    done: u64,
+    counts: PlayCounts,
 ) -> Result<Parts, NoMemory>
     requires counted { length saved.objects ≡ length area.now.objects }
     requires queues { QueuesHaveValues saved.objects }
@@ -80,7 +86,7 @@ pub(crate) fn keep(
     ensures form { IfOk result (λ s. HasForm s) }
     ensures play { IfOk result (λ s. IsPlayOf s (option_map (λ text. text.items) heading.now)
         (script_parts listed.now) file.now limits) }
-    ensures come { IfOk result (λ s. HasCome s taken done) }
+    ensures come { IfOk result (λ s. HasCome s counts.taken counts.done) }
     ensures tells { IfOk result (λ s. Tells s (put_together area.now saved)) }
     ensures code { IfOk result (λ s. AllByRecursion (λ l. IsCode l.code.code) listed.now) }
 {
@@ -97,8 +103,8 @@ pub(crate) fn keep(
     let most = long(most);
     let until = long(until);
     let clock = long(clock);
-    let taken = long(taken);
-    let done = long(done);
+    let taken = long(counts.taken);
+    let done = long(counts.done);
     let number = agenda.next_number();
     let next = long(number);
     let entries = entries(alloc, agenda)?;

@@ -20,7 +20,7 @@ ghost use Rattle.play_save.specs.States.{script_parts};
 ghost use Rattle.play_save.specs.declared.fault.StateFault.TheVariants.{NoMemory as NoRoom};
 
 use crate::fault::StateFault;
-use crate::keep::keep;
+use crate::keep::{PlayCounts, keep};
 use crate::prepare::{Prepared, prepare};
 use crate::rules::test_parts;
 use crate::world::world;
@@ -110,8 +110,9 @@ impl State {
             Ok((objects, saved)) => {
                 objects.keeps();
                 let file = area.as_slice();
+                let counts = PlayCounts { taken, done };
                 let parts = keep(
-                    alloc, &header, scripts, file, &objects, saved, limits, taken, done,
+                    alloc, &header, scripts, file, &objects, saved, limits, counts,
                 )?;
                 Ok(State { parts })
             }

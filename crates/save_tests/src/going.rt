@@ -7,10 +7,10 @@ ghost use Rattle.ncs_machine.specs.Host.{scripts_of, tables_of};
 ghost use Rattle.ncs_machine.specs.Stored.{StatesFit};
 
 use hook_table::Hooks;
-use module_player::{Played, play_on};
-use ncs_machine::Scripts;
+use module_player::{PlayLimits, Played, play_on};
+use ncs_machine::PlaySetting;
 use nwq_outside::MemSink;
-use nwq_value::{NoMemory, Table};
+use nwq_value::NoMemory;
 use play_save::{Opened, State, put_state};
 use saved_state::Saved;
 use std::alloc::Global;
@@ -27,20 +27,20 @@ fn at_most(limit: u64) -> u64
 /// the entries taken and the instructions done; `None` where one of these numbers is too large.
 fn go_on_by(
     alloc: Global,
-    table: &Table,
-    scripts: &Scripts,
+    setting: &PlaySetting<'_>,
     world: &mut World<Saved>,
     limits: (u64, u64, u64),
     taken: u64,
     done: u64,
-    hooks: &Hooks,
     out: &mut MemSink,
 ) -> Option<Played>
-    requires few { length scripts.now < 2 ^ 32 }
-    requires meets { AllMeet table.now (scripts_of scripts.now) (tables_of scripts.now) }
-    requires fit { StatesFit (scripts_of scripts.now) (tables_of scripts.now) world.old.world }
+    requires few { length setting.now.scripts.now < 2 ^ 32 }
+    requires meets { AllMeet setting.now.table.now (scripts_of setting.now.scripts.now)
+        (tables_of setting.now.scripts.now) }
+    requires fit { StatesFit (scripts_of setting.now.scripts.now)
+        (tables_of setting.now.scripts.now) world.old.world }
     requires quiet { world.old.world.trace ≡ [] }
-    requires hooks { AreServing (map (λ h. h.known) hooks.now.all.items) }
+    requires hooks { AreServing (map (λ h. h.known) setting.now.hooks.now.all.items) }
 {
     let (limit, entries, until) = limits;
     if taken > entries || entries > 1_000_000 || until > 4_294_967_295 {
@@ -49,10 +49,14 @@ fn go_on_by(
     if done >= 1 << 61 || world.next_number() >= 1 << 61 {
         return None;
     }
-    let most = at_most(limit);
+    let limits = PlayLimits {
+        instructions: at_most(limit),
+        entries,
+        until,
+    };
     let stop = taken + 20;
     Some(play_on(
-        alloc, scripts, world, hooks, table, most, entries, until, stop, taken, done, out,
+        alloc, setting, world, limits, stop, taken, done, out,
     ))
 }
 
@@ -74,9 +78,12 @@ fn go_on(alloc: Global, opened: Opened, hooks: &Hooks, out: &mut MemSink) -> Opt
         taken,
         done,
     } = opened;
-    let played = go_on_by(
-        alloc, &table, &scripts, &mut world, limits, taken, done, hooks, out,
-    );
+    let setting = PlaySetting {
+        scripts: &scripts,
+        table: &table,
+        hooks,
+    };
+    let played = go_on_by(alloc, &setting, &mut world, limits, taken, done, out);
     drop(world);
     drop(scripts);
     drop(table);

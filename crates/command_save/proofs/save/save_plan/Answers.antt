@@ -9,15 +9,15 @@ use Rattle.command_save.proofs.save.save_plan.Goals as goal
 
 pub save_broken-requires-clause-broken : goal.save_broken-requires-clause-broken
 save_broken-requires-clause-broken g c =
-    may_save c.plays_can_rest.ensures.rest c.plan_worlds_are_fresh.ensures.fresh c.args.scripts.now c.args.header.table (map (λ h. h.known) c.args.hooks.now.all.items) c.args.area.area
-    c.args.area.bytes c.args.plan.now c.args.entries c.requires.plan c.requires.area c.in-Ok.world.world c.in-Ok.played c.in-Ok.ensures.ending c.in-Ok.ensures.fit c.in-Ok.ensures.next
+    may_save c.plays_can_rest.ensures.rest c.plan_worlds_are_fresh.ensures.fresh c.args.listed.now.scripts.now c.args.header.table (map (λ h. h.known) c.args.hooks.now.all.items) c.args.area.area
+    c.args.area.bytes c.args.listed.now.plan.now c.args.words.entries c.requires.plan c.requires.area c.in-Ok.world.world c.in-Ok.played c.in-Ok.ensures.ending c.in-Ok.ensures.fit c.in-Ok.ensures.next
     c.in-Ok.ensures.executed
 
 pub returns-in-Ok-clause-does : goal.returns-in-Ok-clause-does
 returns-in-Ok-clause-does g c = λ files_tell sink_tells.
     let cell = cells_of (map (λ h. h.known) c.args.hooks.now.all.items) in
-    let p = played_first cell c.args.header.table c.args.plan.now (scripts_of c.args.scripts.now) c.args.entries (plan_world c.args.area.area c.args.plan.now) in
-    first_whole cell c.args.header c.args.area c.args.plan.now (scripts_of c.args.scripts.now) c.args.entries c.args.name.now (g.F.Files.contents c.args.files.now)
+    let p = played_first cell c.args.header.table c.args.listed.now.plan.now (scripts_of c.args.listed.now.scripts.now) c.args.words.entries (plan_world c.args.area.area c.args.listed.now.plan.now) in
+    first_whole cell c.args.header c.args.area c.args.listed.now.plan.now (scripts_of c.args.listed.now.scripts.now) c.args.words.entries c.args.words.state.now (g.F.Files.contents c.args.files.now)
     (g.F.Files.contents c.save_broken.new.files) (g.S.Sink.taken c.args.out.now) (g.S.Sink.taken c.play_first.new.out) c.save_broken.result
     (g.S.Sink.taken c.save_broken.new.out) (c.in-Ok.ensures.trace sink_tells) (c.save_broken.ensures.does files_tell sink_tells p c.in-Ok.ensures.ending)
 

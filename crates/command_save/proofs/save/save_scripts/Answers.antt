@@ -9,10 +9,10 @@ save_area-requires-clause-listed g c =
 
 pub returns-in-Err-clause-names : goal.returns-in-Err-clause-names
 returns-in-Err-clause-names g c =
-    keeps_listing c.args.plan.now c.requires.plan c.args.name.now (g.F.Files.contents c.args.files.now) (g.F.Files.contents c.list_scripts.new.files) c.as_slice.result.now
+    keeps_listing c.args.plan.now c.requires.plan c.args.words.state.now (g.F.Files.contents c.args.files.now) (g.F.Files.contents c.list_scripts.new.files) c.as_slice.result.now
     c.as_slice.ensures.items c.in-Err.ensures.names
 
 pub returns-in-Ok-clause-names : goal.returns-in-Ok-clause-names
 returns-in-Ok-clause-names g c =
-    keeps_game c.args.plan.now c.requires.plan c.args.name.now (g.F.Files.contents c.args.files.now) (g.F.Files.contents c.list_scripts.new.files)
+    keeps_game c.args.plan.now c.requires.plan c.args.words.state.now (g.F.Files.contents c.args.files.now) (g.F.Files.contents c.list_scripts.new.files)
     (g.F.Files.contents c.save_area.new.files) c.as_slice.result.now c.as_slice.ensures.items c.in-Ok.ensures.names c.save_area.ensures.names

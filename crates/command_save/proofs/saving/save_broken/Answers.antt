@@ -7,6 +7,6 @@ use Rattle.command_save.proofs.saving.save_broken.Goals as goal
 
 pub returns-in-InstrStop-clause-does : goal.returns-in-InstrStop-clause-does
 returns-in-InstrStop-clause-does g c = λ files_tell sink_tells p ending.
-    stopped_does c.args.header c.args.file c.args.plan.now (scripts_of c.args.scripts.now) c.args.name.now p c.tell_stopped.result (g.F.Files.contents c.args.files.now)
+    stopped_does c.args.header c.args.file c.args.listed.now.plan.now (scripts_of c.args.listed.now.scripts.now) c.args.name.now p c.tell_stopped.result (g.F.Files.contents c.args.files.now)
     (g.F.Files.contents c.args.files.now) (g.S.Sink.taken c.args.out.now) (g.S.Sink.taken c.tell_stopped.new.out) p.ending (subst (λ (how : How). EndsAs how p.ending) c.in-InstrStop.is ending.ending)
     (c.tell_stopped.ensures.does sink_tells (g.F.Files.contents c.args.files.now) p ending)

@@ -1,9 +1,9 @@
+use crate::scripts::Scripts;
 use hook_table::Hooks;
-use ncs_machine::Scripts;
 use nwq_value::Table;
 
-/// What an entry's scripts run with: the listed scripts, a header and the hooks.
-#[derive(Drop)]
+/// What scripts run with: all that are listed, a header's table, and the hooks.
+#[derive(Clone, Copy)]
 pub struct PlaySetting<'a> {
     pub scripts: &'a Scripts,
     pub table: &'a Table,
