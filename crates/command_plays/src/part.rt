@@ -122,9 +122,7 @@ pub fn play_part<S: Sink>(
     ensures only { IfErr result CutsShort }
 {
     let mut world = world;
-    match play_some(
-        alloc, setting, &mut world, limits, stop, taken, done, out,
-    ) {
+    match play_some(alloc, setting, &mut world, limits, stop, taken, done, out) {
         Err(status) => {
             drop(world);
             Err(status)

@@ -102,9 +102,7 @@ fn play_rest<F: Files, S: Sink>(
         table: &table,
         hooks,
     };
-    match play_part(
-        alloc, &setting, world, limits, stop, taken, done, out,
-    ) {
+    match play_part(alloc, &setting, world, limits, stop, taken, done, out) {
         Err(status) => {
             drop(table);
             drop(scripts);

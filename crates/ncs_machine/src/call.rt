@@ -136,7 +136,12 @@ impl Machine {
             Some(routine) => {
                 let mut args = Arguments::new(alloc);
                 self.take(
-                    alloc, routine, call.number, call.count, call.size, &mut args,
+                    alloc,
+                    routine,
+                    call.number,
+                    call.count,
+                    call.size,
+                    &mut args,
                 )?;
                 if executes(routine.role) {
                     self.execute_named(alloc, scripts, world, &args.values)?;

@@ -55,9 +55,7 @@ fn go_on_by(
         until,
     };
     let stop = taken + 20;
-    Some(play_on(
-        alloc, setting, world, limits, stop, taken, done, out,
-    ))
+    Some(play_on(alloc, setting, world, limits, stop, taken, done, out))
 }
 
 /// The same of a state that is opened.
