@@ -7,39 +7,39 @@ loop-number-init g c = play_begins _ _ _ _ _ _ _ _ _ c.requires.fit c.requires.q
 
 pub loop-number-preserved : goal.loop-number-preserved
 loop-number-preserved g c =
-    plays_go_on _ _ _ _ _ _ _ _ _ _ _ _ c.loop-number.invariant _ _ _ _ c.loop-number-test.true c.if-number-entries.false c.requires.limit c.in-Goes.ensures.turns c.in-Goes.ensures.taken c.in-Goes.ensures.counts
+    plays_go_on _ _ _ _ _ _ _ _ _ _ _ _ c.loop-number.invariant _ _ _ _ c.loop-number-test.true c.if-number-limits.false c.requires.limit c.in-Goes.ensures.turns c.in-Goes.ensures.taken c.in-Goes.ensures.counts
 
 pub returns-in-Stops : goal.returns-in-Stops
 returns-in-Stops g c = record {
-  played = play_stops _ _ _ _ _ _ _ _ _ _ _ _ c.loop-number.invariant _ _ _ _ c.loop-number-test.true c.if-number-entries.false c.requires.limit c.requires.entries c.in-Stops.ensures.turns c.in-Stops.ensures.taken c.in-Stops.ensures.counts;
+  played = play_stops _ _ _ _ _ _ _ _ _ _ _ _ c.loop-number.invariant _ _ _ _ c.loop-number-test.true c.if-number-limits.false c.requires.limit c.requires.entries c.in-Stops.ensures.turns c.in-Stops.ensures.taken c.in-Stops.ensures.counts;
   cut = tt;
   told = λ can. tt;
 }
 
 pub returns-in-Rests : goal.returns-in-Rests
 returns-in-Rests g c = record {
-  played = play_rests _ _ _ _ _ _ _ _ _ _ _ _ c.loop-number.invariant _ _ _ c.loop-number-test.true c.if-number-entries.false c.requires.entries c.in-Rests.ensures.turns c.in-Rests.ensures.taken c.in-Rests.ensures.counts;
+  played = play_rests _ _ _ _ _ _ _ _ _ _ _ _ c.loop-number.invariant _ _ _ c.loop-number-test.true c.if-number-limits.false c.requires.entries c.in-Rests.ensures.turns c.in-Rests.ensures.taken c.in-Rests.ensures.counts;
   cut = tt;
   told = λ can. tt;
 }
 
 pub returns-in-Fault : goal.returns-in-Fault
 returns-in-Fault g c = record {
-  played = play_fails _ _ _ _ _ _ _ _ _ _ _ _ c.loop-number.invariant _ _ _ _ _ c.loop-number-test.true c.if-number-entries.false c.in-Fault.ensures.taken c.in-Fault.ensures.counts;
+  played = play_fails _ _ _ _ _ _ _ _ _ _ _ _ c.loop-number.invariant _ _ _ _ _ c.loop-number-test.true c.if-number-limits.false c.in-Fault.ensures.taken c.in-Fault.ensures.counts;
   cut = cut_short _ _ _ _ _ _ _ _ _ _ _ _ c.loop-number.invariant _ c.in-Fault.ensures.cut;
   told = λ can. cut_told _ _ _ _ _ _ _ _ _ _ _ _ c.loop-number.invariant _ c.in-Fault.ensures.taken can;
 }
 
 pub returns-in-NoMemory : goal.returns-in-NoMemory
 returns-in-NoMemory g c = record {
-  played = play_runs_out _ _ _ _ _ _ _ _ _ _ _ _ c.loop-number.invariant _ _ _ _ _ c.loop-number-test.true c.if-number-entries.false c.in-NoMemory.ensures.taken c.in-NoMemory.ensures.counts;
+  played = play_runs_out _ _ _ _ _ _ _ _ _ _ _ _ c.loop-number.invariant _ _ _ _ _ c.loop-number-test.true c.if-number-limits.false c.in-NoMemory.ensures.taken c.in-NoMemory.ensures.counts;
   cut = cut_short _ _ _ _ _ _ _ _ _ _ _ _ c.loop-number.invariant _ c.in-NoMemory.ensures.cut;
   told = λ can. cut_told _ _ _ _ _ _ _ _ _ _ _ _ c.loop-number.invariant _ c.in-NoMemory.ensures.taken can;
 }
 
-pub returns-then-number-entries : goal.returns-then-number-entries
-returns-then-number-entries g c = record {
-  played = play_is_last _ _ _ _ _ _ _ _ _ _ _ _ c.loop-number.invariant _ c.loop-number-test.true c.if-number-entries.true c.requires.entries c.last_end.ensures.ending;
+pub returns-then-number-limits : goal.returns-then-number-limits
+returns-then-number-limits g c = record {
+  played = play_is_last _ _ _ _ _ _ _ _ _ _ _ _ c.loop-number.invariant _ c.loop-number-test.true c.if-number-limits.true c.requires.entries c.last_end.ensures.ending;
   cut = last_whole _ _ _ c.last_end.ensures.ending;
   told = λ can. last_whole _ _ _ c.last_end.ensures.ending;
 }
