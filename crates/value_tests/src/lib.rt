@@ -4,12 +4,24 @@
 #[cfg(test)]
 mod files;
 #[cfg(test)]
+mod host;
+#[cfg(test)]
+mod lines;
+#[cfg(test)]
+mod plain;
+#[cfg(test)]
 mod plans;
+#[cfg(test)]
+mod readings;
 #[cfg(test)]
 mod refusing;
 #[cfg(test)]
-mod texts;
+mod sinks;
+#[cfg(test)]
+mod stories;
+#[cfg(test)]
+mod tables;
 #[cfg(test)]
 mod values;
 #[cfg(test)]
-mod writes;
+mod written;

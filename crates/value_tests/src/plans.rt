@@ -1,3 +1,5 @@
+//! Plans: what they list, and the first lines without a reading.
+
 use nwq_text::put_number;
 use nwq_value::NoMemory;
 use plan_text::{Line, Plan, PlanFault, Script, read_plan};
@@ -14,17 +16,6 @@ fn bad_line(alloc: Global, text: &[u8]) -> Result<Option<u64>, NoMemory> {
         Err(PlanFault::Line(line)) => Ok(Some(line)),
         Err(PlanFault::NoMemory) => Err(NoMemory),
     }
-}
-
-/// A plan of so many lines, each with its number at its end.
-fn numbered(alloc: Global, line: &[u8], count: u32) -> Result<Vec<u8>, NoMemory> {
-    let mut text = Vec::from_slice(alloc, b"NWQ PLAN 1")?;
-    for number in 0..count {
-        text.push(b'\n')?;
-        text.extend_from_slice(line)?;
-        put_number(&mut text, i64::from(number))?;
-    }
-    Ok(text)
 }
 
 /// Texts that are no plan, and their first line without a reading.
@@ -61,90 +52,195 @@ const BAD: &[(&[u8], u64)] = &[
     (b"NWQ PLAN 1\nlimit\n", 2),
 ];
 
-/// The place of the first text whose first line without a reading is another, if there is one.
-fn first_other(alloc: Global) -> Result<Option<usize>, NoMemory> {
-    for (place, (text, line)) in BAD.iter().enumerate() {
-        if bad_line(alloc, text)? != Some(*line) {
-            return Ok(Some(place));
-        }
-    }
-    Ok(None)
-}
-
 #[test]
 fn bad_lines(rt: HostRuntime) -> Result<(), Fail> {
-    assert_eq!(rt; first_other(rt.alloc())?, None);
+    for (place, (text, line)) in BAD.iter().enumerate() {
+        assert_eq!(rt; bad_line(rt.alloc(), text)?, Some(*line), "text {place}");
+    }
     Ok(())
 }
 
-/// A plan, if the text is one.
-fn plan_of(alloc: Global, text: &[u8]) -> Option<Plan> {
-    match read_plan(alloc, text) {
-        Ok(plan) => Some(plan),
-        Err(_) => None,
+/// A plan of so many lines, each with its number at its end.
+fn numbered(alloc: Global, line: &[u8], count: u32) -> Result<Vec<u8>, NoMemory> {
+    let mut text = Vec::from_slice(alloc, b"NWQ PLAN 1")?;
+    for number in 0..count {
+        text.push(b'\n')?;
+        text.extend_from_slice(line)?;
+        put_number(&mut text, i64::from(number))?;
     }
+    Ok(text)
 }
 
-/// Whether the plan has this version, and these numbers of instructions, entries and milliseconds.
-fn has(plan: &Plan, version: u8, limit: u64, entries: u64, until: u64) -> bool {
-    plan.version == version && plan.limit == limit && plan.entries == entries && plan.until == until
+/// A plan of many lines of one kind.
+#[derive(Clone, Copy)]
+struct Many {
+    line: &'static [u8],
+    count: u32,
+    /// The first line without a reading, where there is one.
+    bad: Option<u64>,
 }
 
-/// Whether a plan of its heading alone is what a plan is by default.
-fn is_default(alloc: Global) -> bool {
-    match plan_of(alloc, b"NWQ PLAN 1") {
-        None => false,
-        Some(plan) => {
-            let empty = plan.random.is_empty() && plan.scripts.is_empty() && plan.events.is_empty();
-            let is = has(&plan, 1, 131_072, 10_000, 60_000) && empty;
-            drop(plan);
-            is
-        }
-    }
-}
+const MANY: &[Many] = &[
+    Many {
+        line: b"script s",
+        count: 256,
+        bad: None,
+    },
+    Many {
+        line: b"script s",
+        count: 257,
+        bad: Some(258),
+    },
+    Many {
+        line: b"random 1",
+        count: 65_536,
+        bad: None,
+    },
+    Many {
+        line: b"random 1",
+        count: 65_537,
+        bad: Some(65_538),
+    },
+    Many {
+        line: b"start 0 - p",
+        count: 65_536,
+        bad: None,
+    },
+    Many {
+        line: b"start 0 - p",
+        count: 65_537,
+        bad: Some(65_538),
+    },
+];
 
 #[test]
-fn defaults(rt: HostRuntime) {
-    assert!(rt; is_default(rt.alloc()));
+fn most_lines(rt: HostRuntime) -> Result<(), Fail> {
+    for (place, many) in MANY.iter().enumerate() {
+        let text = numbered(rt.alloc(), many.line, many.count)?;
+        let found = bad_line(rt.alloc(), text.as_slice())?;
+        assert_eq!(rt; found, many.bad, "plan {place}");
+    }
+    Ok(())
 }
 
-/// A plan with a line of each kind.
-const ALL_KINDS: &[u8] = b"NWQ PLAN 2\r\n; all\n\nlimit 16777216\nentries 1000000\r\n\
-    until 4294967295\nrandom 0 4294967295\nrandom 07\nscript a_0\nbinary b\n\
-    event 1 2147483647 ScriptHeartbeat \\\\\\n\nevent 0 0 L \nstart 2 3 p t u\n\
-    start 4294967295 - p";
-
-fn are_scripts(scripts: &[Script]) -> bool {
-    scripts.len() == 2
-        && scripts[0].name.bytes() == b"a_0".as_slice()
-        && !scripts[0].binary
-        && scripts[1].name.bytes() == b"b".as_slice()
-        && scripts[1].binary
+/// A line of a plan, with its time first.
+#[derive(Clone, Copy)]
+enum Due {
+    /// The number of the object, the label and the tag.
+    Event(u64, u32, &'static [u8], &'static [u8]),
+    /// The number of the object, the script and the tag.
+    Start(u64, u32, &'static [u8], &'static [u8]),
+    /// The script.
+    Free(u64, &'static [u8]),
 }
 
-fn is_event(line: Option<&Line>) -> bool {
-    match line {
-        Some(
+/// What a plan lists.
+#[derive(Clone, Copy)]
+struct Listing {
+    text: &'static [u8],
+    version: u8,
+    limit: u64,
+    entries: u64,
+    until: u64,
+    random: &'static [u32],
+    /// Their names, and whether they are binaries.
+    scripts: &'static [(&'static [u8], bool)],
+    events: &'static [Due],
+}
+
+/// A plan of its heading alone, and one with lines of each kind.
+const LISTINGS: &[Listing] = &[
+    Listing {
+        text: b"NWQ PLAN 1",
+        version: 1,
+        limit: 131_072,
+        entries: 10_000,
+        until: 60_000,
+        random: &[],
+        scripts: &[],
+        events: &[],
+    },
+    Listing {
+        text: b"NWQ PLAN 2\r\n; all\n\nlimit 16777216\nentries 1000000\r\n\
+            until 4294967295\nrandom 0 4294967295\nrandom 07\nscript a_0\nbinary b\n\
+            event 1 2147483647 ScriptHeartbeat \\\\\\n\nevent 0 0 L \nstart 2 3 p t u\n\
+            start 4294967295 - p",
+        version: 2,
+        limit: 16_777_216,
+        entries: 1_000_000,
+        until: 4_294_967_295,
+        random: &[0, 4_294_967_295, 7],
+        scripts: &[(b"a_0", false), (b"b", true)],
+        events: &[
+            Due::Event(1, 2_147_483_647, b"ScriptHeartbeat", b"\\\n"),
+            Due::Event(0, 0, b"L", b""),
+            Due::Start(2, 3, b"p", b"t u"),
+            Due::Free(4_294_967_295, b"p"),
+        ],
+    },
+];
+
+fn are_scripts(scripts: &[Script], names: &[(&[u8], bool)]) -> bool {
+    for (script, (name, binary)) in scripts.iter().zip(names) {
+        if script.name.bytes() != *name || script.binary != *binary {
+            return false;
+        }
+    }
+    scripts.len() == names.len()
+}
+
+fn is_due(line: &Line, wanted: Due) -> bool {
+    match (line, wanted) {
+        (
             Line::Event {
-                due: 1,
-                nth: 2_147_483_647,
+                due,
+                nth,
                 label,
                 tag,
             },
-        ) => label.bytes() == b"ScriptHeartbeat".as_slice() && tag.bytes() == b"\\\n".as_slice(),
+            Due::Event(at, n, its_label, its_tag),
+        ) => { *due == at && *nth == n && label.bytes() == its_label && tag.bytes() == its_tag }
+        (
+            Line::Start {
+                due,
+                nth,
+                name,
+                tag,
+            },
+            Due::Start(at, n, its_name, its_tag),
+        ) => { *due == at && *nth == n && name.bytes() == its_name && tag.bytes() == its_tag }
+        (Line::Free { due, name }, Due::Free(at, its_name)) => {
+            *due == at && name.bytes() == its_name
+        }
         _ => false,
     }
 }
 
-/// Whether that plan has all that its lines say.
-fn is_read(alloc: Global) -> bool {
-    match plan_of(alloc, ALL_KINDS) {
-        None => false,
-        Some(plan) => {
-            let is = has(&plan, 2, 16_777_216, 1_000_000, 4_294_967_295)
-                && plan.random.as_slice() == [0, 4_294_967_295, 7].as_slice()
-                && are_scripts(plan.scripts.as_slice())
-                && is_event(plan.events.as_slice().first());
+fn are_due(lines: &[Line], wanted: &[Due]) -> bool {
+    for (line, due) in lines.iter().zip(wanted) {
+        if !is_due(line, *due) {
+            return false;
+        }
+    }
+    lines.len() == wanted.len()
+}
+
+fn has(plan: &Plan, listing: &Listing) -> bool {
+    plan.version == listing.version
+        && plan.limit == listing.limit
+        && plan.entries == listing.entries
+        && plan.until == listing.until
+        && plan.random.as_slice() == listing.random
+        && are_scripts(plan.scripts.as_slice(), listing.scripts)
+        && are_due(plan.events.as_slice(), listing.events)
+}
+
+/// Whether a text is read as the plan that it is.
+fn is_read(alloc: Global, listing: &Listing) -> bool {
+    match read_plan(alloc, listing.text) {
+        Err(_) => false,
+        Ok(plan) => {
+            let is = has(&plan, listing);
             drop(plan);
             is
         }
@@ -152,31 +248,8 @@ fn is_read(alloc: Global) -> bool {
 }
 
 #[test]
-fn all_kinds_of_lines(rt: HostRuntime) {
-    assert!(rt; is_read(rt.alloc()));
-}
-
-/// A line, how many of it a plan has, and the first line without a reading, where there is one.
-const MANY: &[(&[u8], u32, Option<u64>)] = &[
-    (b"script s", 256, None),
-    (b"script s", 257, Some(258)),
-    (b"random 1", 65_536, None),
-    (b"random 1", 65_537, Some(65_538)),
-    (b"start 0 - p", 65_536, None),
-    (b"start 0 - p", 65_537, Some(65_538)),
-];
-
-/// The first line of so many without a reading, where there is one.
-fn bad_line_of(alloc: Global, line: &[u8], count: u32) -> Result<Option<u64>, NoMemory> {
-    let text = numbered(alloc, line, count)?;
-    bad_line(alloc, text.as_slice())
-}
-
-#[test]
-fn most_lines(rt: HostRuntime) -> Result<(), Fail> {
-    for (line, count, bad) in MANY {
-        let found = bad_line_of(rt.alloc(), line, *count)?;
-        assert!(rt; found == *bad, "{line:?} {count}");
+fn plans_are_read(rt: HostRuntime) {
+    for (place, listing) in LISTINGS.iter().enumerate() {
+        assert!(rt; is_read(rt.alloc(), listing), "plan {place}");
     }
-    Ok(())
 }

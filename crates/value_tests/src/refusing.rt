@@ -1,10 +1,8 @@
 //! Files of the host of which some calls are refused, as by a full disk.
 
-use nwq_outside::Trouble;
 use std::alloc::{Alloc, Allocator, Global};
-use std::fs::{self, File, FileTimes, Metadata, OpenFile, OpenOptions, Permissions};
+use std::fs::{self, File, Metadata, OpenFile, OpenOptions, Permissions};
 use std::io::{self, Error, ErrorKind, Read, Seek, SeekFrom, Write};
-use std::path::PathBuf;
 use std::rt::Files;
 
 /// Which calls are refused.
@@ -81,20 +79,16 @@ impl OpenFile for Watched {
     fn set_permissions(&self, perm: Permissions) -> io::Result<()> {
         self.file.set_permissions(perm)
     }
-
-    fn set_times(&self, times: FileTimes) -> io::Result<()> {
-        self.file.set_times(times)
-    }
 }
 
 /// The files of the host, with the calls that are refused.
 #[derive(Drop)]
-pub(crate) struct Refusing {
-    pub(crate) host: HostRuntime,
+pub(crate) struct Refusing<'a> {
+    pub(crate) host: &'a HostRuntime,
     pub(crate) refused: Refused,
 }
 
-impl Alloc for Refusing {
+impl Alloc for Refusing<'_> {
     type A = Global;
 
     fn alloc(&self) -> Global {
@@ -102,7 +96,7 @@ impl Alloc for Refusing {
     }
 }
 
-impl Files for Refusing {
+impl Files for Refusing<'_> {
     type File = Watched;
 
     type Dir = <HostRuntime as Files>::Dir;
@@ -120,15 +114,15 @@ impl Files for Refusing {
     }
 
     fn metadata(&self, path: &str) -> io::Result<Metadata> {
-        fs::metadata(&self.host, path)
+        fs::metadata(self.host, path)
     }
 
     fn symlink_metadata(&self, path: &str) -> io::Result<Metadata> {
-        fs::symlink_metadata(&self.host, path)
+        fs::symlink_metadata(self.host, path)
     }
 
     fn copy(&self, from: &str, to: &str) -> io::Result<u64> {
-        fs::copy(&self.host, from, to)
+        fs::copy(self.host, from, to)
     }
 
     fn rename(&self, from: &str, to: &str) -> io::Result<()> {
@@ -136,38 +130,26 @@ impl Files for Refusing {
             Refused::Rename | Refused::RenameAndRemoval => {
                 Err(Error::from(ErrorKind::PermissionDenied))
             }
-            _ => fs::rename(&self.host, from, to),
+            _ => fs::rename(self.host, from, to),
         }
     }
 
     fn remove_file(&self, path: &str) -> io::Result<()> {
         match self.refused {
             Refused::RenameAndRemoval => Err(Error::from(ErrorKind::ReadOnlyFilesystem)),
-            _ => fs::remove_file(&self.host, path),
+            _ => fs::remove_file(self.host, path),
         }
     }
 
     fn create_dir(&self, path: &str) -> io::Result<()> {
-        fs::create_dir(&self.host, path)
+        fs::create_dir(self.host, path)
     }
 
     fn remove_dir(&self, path: &str) -> io::Result<()> {
-        fs::remove_dir(&self.host, path)
+        fs::remove_dir(self.host, path)
     }
 
     fn remove_dir_all<B: Allocator>(&self, alloc: B, path: &str) -> io::Result<()> {
         self.host.remove_dir_all(alloc, path)
-    }
-
-    fn read_link<B: Allocator>(&self, alloc: B, path: &str) -> io::Result<PathBuf<B>> {
-        self.host.read_link(alloc, path)
-    }
-}
-
-/// Whether the outside failed last at this name, and so.
-pub(crate) fn was(trouble: Option<&Trouble>, name: &str, kind: ErrorKind) -> bool {
-    match trouble {
-        None => false,
-        Some(trouble) => trouble.name.as_str() == name && trouble.kind == kind,
     }
 }

@@ -1,5 +1,5 @@
 use Rattle.std.proofs.Common.{length}
-use Rattle.value_tests.proofs.texts.list.Given as goal
+use Rattle.value_tests.proofs.lines.list.Given as goal
 
 abbrev pub decreases-loop-line : goal.decreases-loop-line
 decreases-loop-line l = length l.lines.left
