@@ -3,6 +3,9 @@
 ghost use Rattle.std.specs.Prelude.{map};
 ghost use Rattle.world_core.specs.Calls.{AreServing};
 
+use crate::bases::{Base, files_of};
+use crate::samples::{Sample, bytes_of, changed, repeated};
+use crate::town::{AREA, TEXTS};
 use hook_table::Hooks;
 use nwq_outside::{MemFiles, MemSink};
 use nwq_top::{Status, nwq_main};
@@ -21,31 +24,64 @@ pub enum Failing {
 #[derive(Clone, Copy)]
 pub enum Held<'a> {
     Nothing,
+    /// Whatever it is: of what is to come.
     Something,
     Bytes(&'a [u8]),
+    Of(Sample),
+    /// The first so many bytes of a sample.
+    First(Sample, usize),
+    /// A sample with these numbers in the four bytes from these places.
+    Changed(Sample, &'a [(usize, u32)]),
+    /// Parts of a front, so many of a byte, and a rest.
+    Repeated(&'a [&'a [u8]], u8, usize, &'a [u8]),
 }
+
+/// A name, and what it holds.
+pub type Named<'a> = (&'a str, Held<'a>);
 
 /// Words, and what is to come of them.
 #[derive(Clone, Copy)]
 pub struct Row<'a> {
     /// The words, parted by spaces.
     pub line: &'a str,
-    /// Names, and what they hold before. Of two equal names the later one counts.
-    pub before: &'a [(&'a str, &'a [u8])],
+    /// The names that they are over.
+    pub base: Base,
+    /// Names beside those, or in their place.
+    pub own: &'a [Named<'a>],
+    /// Whether they go on over what the row before left of such names.
+    pub left: bool,
     pub failing: Failing,
     pub status: Status,
     /// How often something is put, where it is asked.
     pub puts: Option<u64>,
     /// What is put.
     pub text: &'a str,
-    /// Names, and what they hold afterwards. Every other name of `before` holds what it held.
-    pub after: &'a [(&'a str, Held<'a>)],
+    /// Whether the text is all, or the line of an end that is done follows it.
+    pub whole: bool,
+    /// Names, and what they hold afterwards. Every other name holds what it held.
+    pub after: &'a [Named<'a>],
 }
+
+/// No words, which are done and put nothing: a row says what is otherwise.
+pub const PLAIN: Row = Row {
+    line: "",
+    base: Base::Nothing,
+    own: &[],
+    left: false,
+    failing: Failing::Nothing,
+    status: Status::Done,
+    puts: None,
+    text: "",
+    whole: true,
+    after: &[],
+};
 
 /// What came of words.
 #[derive(Drop)]
 pub struct Outcome {
     pub status: Status,
+    /// What names held at first.
+    pub first: MemFiles,
     pub files: MemFiles,
     pub out: MemSink,
 }
@@ -64,35 +100,97 @@ impl Outcome {
     pub fn new(alloc: Global) -> Outcome {
         Outcome {
             status: Status::Done,
+            first: MemFiles::new(alloc),
             files: MemFiles::new(alloc),
             out: MemSink::new(alloc),
         }
     }
 }
 
-fn add_all(files: &mut MemFiles, before: &[(&str, &[u8])]) -> Result<(), NoMemory> {
-    for (name, bytes) in before {
-        files.add(name, bytes)?;
+/// The bytes that are held, none where that is nothing.
+fn made(alloc: Global, held: Held) -> Result<Vec<u8>, NoMemory> {
+    match held {
+        Held::Nothing | Held::Something => Ok(Vec::new(alloc)),
+        Held::Bytes(bytes) => Ok(Vec::from_slice(alloc, bytes)?),
+        Held::Of(sample) => Ok(Vec::from_slice(alloc, bytes_of(sample))?),
+        Held::First(sample, count) => {
+            let first = bytes_of(sample).get(..count).unwrap_or(b"");
+            Ok(Vec::from_slice(alloc, first)?)
+        }
+        Held::Changed(sample, changes) => changed(alloc, bytes_of(sample), changes),
+        Held::Repeated(fronts, byte, count, rest) => repeated(alloc, fronts, byte, count, rest),
+    }
+}
+
+fn add_bytes(name: &str, bytes: &[u8], found: &mut Outcome) -> Result<(), NoMemory> {
+    found.first.add(name, bytes)?;
+    found.files.add(name, bytes)
+}
+
+fn add(alloc: Global, name: &str, held: Held, found: &mut Outcome) -> Result<(), NoMemory> {
+    match held {
+        Held::Nothing => Ok(()),
+        _ => {
+            let bytes = made(alloc, held)?;
+            add_bytes(name, bytes.as_slice(), found)
+        }
+    }
+}
+
+/// Whether a name is among others.
+fn is_among(name: &str, names: &[Named]) -> bool {
+    for (other, _held) in names {
+        if *other == name {
+            return true;
+        }
+    }
+    false
+}
+
+/// Adds these names but those that stand among others.
+fn add_all(
+    alloc: Global,
+    names: &[Named],
+    but: &[Named],
+    found: &mut Outcome,
+) -> Result<(), NoMemory> {
+    for (name, held) in names {
+        if !is_among(name, but) {
+            add(alloc, name, *held, found)?;
+        }
     }
     Ok(())
 }
 
-fn let_fail(files: &mut MemFiles, out: &mut MemSink, failing: Failing) -> Result<(), NoMemory> {
-    match failing {
-        Failing::Nothing => Ok(()),
-        Failing::File(call) => files.fail_at(call),
-        Failing::Put(call) => out.fail_at(call),
+fn add_town(found: &mut Outcome) -> Result<(), NoMemory> {
+    for (name, text) in TEXTS {
+        add_bytes(name, text.as_bytes(), found)?;
     }
+    add_bytes("town.git", AREA, found)
 }
 
-/// Adds these names, and lets the call fail.
+/// Holds these names and no others.
 pub fn begin(
+    alloc: Global,
+    base: Base,
+    own: &[Named],
     found: &mut Outcome,
-    before: &[(&str, &[u8])],
-    failing: Failing,
 ) -> Result<(), NoMemory> {
-    add_all(&mut found.files, before)?;
-    let_fail(&mut found.files, &mut found.out, failing)
+    found.first = MemFiles::new(alloc);
+    found.files = MemFiles::new(alloc);
+    match base {
+        Base::Town => add_town(found)?,
+        _ => add_all(alloc, files_of(base), own, found)?,
+    }
+    add_all(alloc, own, &[], found)
+}
+
+pub fn let_fail(failing: Failing, found: &mut Outcome) -> Result<(), NoMemory> {
+    match failing {
+        Failing::Nothing => Ok(()),
+        Failing::File(call) => found.files.fail_at(call),
+        Failing::Put(call) => found.out.fail_at(call),
+    }
 }
 
 /// Does what a line says over what was begun.
@@ -115,63 +213,31 @@ pub fn carry_on(
     Ok(())
 }
 
-/// Does what a line says over these names.
-pub fn come(
-    alloc: Global,
-    line: &str,
-    before: &[(&str, &[u8])],
-    failing: Failing,
-    found: &mut Outcome,
-    hooks: &Hooks,
-) -> Result<(), NoMemory>
-    requires hooks { AreServing (map (λ h. h.known) hooks.now.all.items) }
-{
-    begin(found, before, failing)?;
-    carry_on(alloc, line, found, hooks)
-}
-
-fn is_held(found: Option<&[u8]>, held: Held) -> bool {
+fn is_held(alloc: Global, found: Option<&[u8]>, held: Held) -> Result<bool, NoMemory> {
     match held {
-        Held::Nothing => found.is_none(),
-        Held::Something => found.is_some(),
-        Held::Bytes(bytes) => found == Some(bytes),
+        Held::Nothing => Ok(found.is_none()),
+        Held::Something => Ok(found.is_some()),
+        _ => {
+            let bytes = made(alloc, held)?;
+            Ok(found == Some(bytes.as_slice()))
+        }
     }
 }
 
 /// Whether each of these names holds what is told of it.
-pub fn are_held(files: &MemFiles, after: &[(&str, Held)]) -> bool {
+fn are_held(alloc: Global, files: &MemFiles, after: &[Named]) -> Result<bool, NoMemory> {
     for (name, held) in after {
-        if !is_held(files.get(name), *held) {
-            return false;
+        if !is_held(alloc, files.get(name), *held)? {
+            return Ok(false);
         }
     }
-    true
+    Ok(true)
 }
 
-fn is_told(name: &str, after: &[(&str, Held)]) -> bool {
-    for (other, _held) in after {
-        if *other == name {
-            return true;
-        }
-    }
-    false
-}
-
-/// What a name held at first.
-fn held_before<'a>(name: &str, before: &[(&str, &'a [u8])]) -> Option<&'a [u8]> {
-    let mut held = None;
-    for (other, bytes) in before {
-        if *other == name {
-            held = Some(*bytes);
-        }
-    }
-    held
-}
-
-/// Whether each name that held something, and of which nothing is told, holds it still.
-fn are_kept(files: &MemFiles, before: &[(&str, &[u8])], after: &[(&str, Held)]) -> bool {
-    for (name, _bytes) in before {
-        if !is_told(name, after) && files.get(name) != held_before(name, before) {
+/// Whether each of these names of which nothing is told holds what it held at first.
+fn are_kept(found: &Outcome, names: &[Named], after: &[Named]) -> bool {
+    for (name, _held) in names {
+        if !is_among(name, after) && found.files.get(name) != found.first.get(name) {
             return false;
         }
     }
@@ -185,37 +251,43 @@ fn are_so_many(found: u64, puts: Option<u64>) -> bool {
     }
 }
 
+/// Whether a text is what a row says.
+fn is_text(found: &[u8], row: &Row) -> bool {
+    match found.strip_prefix(row.text.as_bytes()) {
+        None => false,
+        Some(rest) => {
+            if row.whole {
+                rest.is_empty()
+            } else {
+                rest.starts_with(b"end done ")
+            }
+        }
+    }
+}
+
 /// Whether what came of words is what a row says.
-pub fn is_as(found: &Outcome, row: &Row) -> bool {
-    found.status == row.status
+fn is_as(alloc: Global, found: &Outcome, row: &Row) -> Result<bool, NoMemory> {
+    let is = found.status == row.status
         && are_so_many(found.out.calls(), row.puts)
-        && found.out.bytes() == row.text.as_bytes()
-        && are_held(&found.files, row.after)
-        && are_kept(&found.files, row.before, row.after)
+        && is_text(found.out.bytes(), row)
+        && are_kept(found, files_of(row.base), row.after)
+        && are_kept(found, row.own, row.after);
+    if is {
+        are_held(alloc, &found.files, row.after)
+    } else {
+        Ok(false)
+    }
 }
 
 /// Whether what is to come of a row does.
-pub fn comes(alloc: Global, row: &Row, hooks: &Hooks) -> Result<bool, NoMemory>
+pub fn comes(alloc: Global, row: &Row, found: &mut Outcome, hooks: &Hooks) -> Result<bool, NoMemory>
     requires hooks { AreServing (map (λ h. h.known) hooks.now.all.items) }
 {
-    let mut found = Outcome::new(alloc);
-    let done = come(alloc, row.line, row.before, row.failing, &mut found, hooks);
-    let is = is_as(&found, row);
-    drop(found);
-    match done {
-        Ok(()) => Ok(is),
-        Err(NoMemory) => Err(NoMemory),
+    if !row.left {
+        begin(alloc, row.base, row.own, found)?;
     }
-}
-
-/// The place of the first row of which something else comes, if there is one.
-pub fn first_wrong(alloc: Global, rows: &[Row], hooks: &Hooks) -> Result<Option<usize>, NoMemory>
-    requires hooks { AreServing (map (λ h. h.known) hooks.now.all.items) }
-{
-    for (place, row) in rows.iter().enumerate() {
-        if !comes(alloc, row, hooks)? {
-            return Ok(Some(place));
-        }
-    }
-    Ok(None)
+    found.out = MemSink::new(alloc);
+    let_fail(row.failing, found)?;
+    carry_on(alloc, row.line, found, hooks)?;
+    is_as(alloc, found, row)
 }

@@ -1,6 +1,6 @@
 //! The parts of commands that read areas and plans, and write areas.
 
-use crate::samples::{BROKEN, TREE};
+use crate::samples::{Sample, bytes_of};
 use area_tree::Area;
 use command_work::Status;
 use nwq_outside::{MemFiles, MemSink};
@@ -12,8 +12,8 @@ use std::test::Fail;
 /// Files with `a`, an area, `b`, which is none, and two plans, of which `q` is none.
 fn files_of(alloc: Global) -> Result<MemFiles, NoMemory> {
     let mut files = MemFiles::new(alloc);
-    files.add("a", TREE)?;
-    files.add("b", BROKEN)?;
+    files.add("a", bytes_of(Sample::Tree))?;
+    files.add("b", bytes_of(Sample::Broken))?;
     files.add("p", b"NWQ PLAN 1\nuntil 5\n")?;
     files.add("q", b"NWQ PLAN 1\nuntil\n")?;
     Ok(files)
@@ -28,7 +28,8 @@ fn writes(alloc: Global, area: Area, files: &mut MemFiles, out: &mut MemSink) ->
 fn goes_back(alloc: Global, files: &mut MemFiles, out: &mut MemSink) -> bool {
     match read_area(alloc, "a", files, out) {
         Err(_) => false,
-        Ok(area) => writes(alloc, area, files, out) && files.get("c") == Some(TREE),
+        Ok(area) => writes(alloc, area, files, out)
+            && files.get("c") == Some(bytes_of(Sample::Tree)),
     }
 }
 

@@ -1,52 +1,47 @@
 //! Plans that are played over areas.
 
-ghost use Rattle.std.specs.Prelude.{map};
-ghost use Rattle.world_core.specs.Calls.{AreServing};
-
-use crate::answers::{Failing, Held, Row, comes};
-use crate::samples::{
-    BROKEN, FIRST_SUM, GUARD, LARGE_FILL, LARGE_FRONT, LARGE_REST, NOTHING, ROUNDS, SEVEN, SUM,
-    TICK, TREE, repeated,
-};
-use hook_table::Hooks;
+use crate::answers::{Held, Named, PLAIN, Row};
+use crate::bases::Base;
+use crate::samples::Sample;
 use nwq_top::Status;
-use nwq_value::NoMemory;
-use std::alloc::Global;
 
-const PLAN: (&str, &[u8]) = (
+const PLAN: Named = (
     "x.plan",
-    b"NWQ PLAN 1\nscript a\nscript b\nbinary c\nstart 0 - a\nstart 10 - b\nstart 20 0 c guard\n",
+    Held::Bytes(
+        b"NWQ PLAN 1\nscript a\nscript b\nbinary c\nstart 0 - a\nstart 10 - b\n\
+            start 20 0 c guard\n",
+    ),
 );
 
-const HEADER: (&str, &[u8]) = ("h.nss", b"void PrintInteger(int n);");
+const HEADER: Named = ("h.nss", Held::Bytes(b"void PrintInteger(int n);"));
 
-const A: (&str, &[u8]) = (
+const A: Named = (
     "a.nss",
-    b"#include \"inc\"\nvoid main() { PrintInteger(2+3); }",
+    Held::Bytes(b"#include \"inc\"\nvoid main() { PrintInteger(2+3); }"),
 );
 
-const INCLUDE: (&str, &[u8]) = ("inc.nss", b"int Twice(int n);");
+const INCLUDE: Named = ("inc.nss", Held::Bytes(b"int Twice(int n);"));
 
-const B: (&str, &[u8]) = ("b.nss", b"void main() {}");
+const B: Named = ("b.nss", Held::Bytes(b"void main() {}"));
 
-const C: (&str, &[u8]) = ("c.ncs", FIRST_SUM);
+const C: Named = ("c.ncs", Held::Of(Sample::FirstSum));
 
-const AREA: (&str, &[u8]) = ("a.git", GUARD);
+const AREA: Named = ("a.git", Held::Of(Sample::Guard));
 
 /// A plan of two scripts, of which one has an include, and of a binary, under a header.
-pub const THREE: [(&str, &[u8]); 7] = [PLAN, HEADER, A, INCLUDE, B, C, AREA];
+pub const THREE: &[Named] = &[PLAN, HEADER, A, INCLUDE, B, C, AREA];
 
 /// What stands after a play that was refused before its scripts were compiled.
-pub const NO_FILES: &[(&str, Held)] = &[
+pub const NO_FILES: &[Named] = &[
     ("a.ncs", Held::Nothing),
     ("b.ncs", Held::Nothing),
     ("f.git", Held::Nothing),
 ];
 
 /// What stands after a play that was refused behind its scripts.
-pub const TWO_FILES: &[(&str, Held)] = &[
-    ("a.ncs", Held::Bytes(FIRST_SUM)),
-    ("b.ncs", Held::Bytes(NOTHING)),
+pub const TWO_FILES: &[Named] = &[
+    ("a.ncs", Held::Of(Sample::FirstSum)),
+    ("b.ncs", Held::Of(Sample::Nothing)),
     ("f.git", Held::Nothing),
 ];
 
@@ -54,81 +49,84 @@ pub const TWO_FILES: &[(&str, Held)] = &[
 pub const DONE: &[Row] = &[
     Row {
         line: "play - a.git x.plan f.git",
-        before: ROUNDS,
-        failing: Failing::Nothing,
-        status: Status::Done,
+        base: Base::Rounds,
         // Four lines, of an entry each, and the end.
         puts: Some(5),
         text: "0 #1 speak round 6\n6000 #1 print 6\n6000 #1 speak round 7\n12000 #1 print 7\n\
             end done clock 12000 entries 6 instructions 64\n",
         after: &[
-            ("tick.ncs", Held::Bytes(TICK)),
-            ("f.git", Held::Bytes(SEVEN)),
+            ("tick.ncs", Held::Of(Sample::Tick)),
+            ("f.git", Held::Of(Sample::Seven)),
         ],
+        ..PLAIN
     },
     Row {
         line: "play h.nss a.git x.plan f.git",
-        before: &THREE,
-        failing: Failing::Nothing,
-        status: Status::Done,
+        base: Base::Three,
         puts: Some(3),
         text: "0 #0 print 5\n20 #1 print 5\nend done clock 20 entries 3 instructions 17\n",
         after: &[
-            ("a.ncs", Held::Bytes(FIRST_SUM)),
-            ("b.ncs", Held::Bytes(NOTHING)),
-            ("c.ncs", Held::Bytes(FIRST_SUM)),
+            ("a.ncs", Held::Of(Sample::FirstSum)),
+            ("b.ncs", Held::Of(Sample::Nothing)),
+            ("c.ncs", Held::Of(Sample::FirstSum)),
             ("inc.ncs", Held::Nothing),
-            ("f.git", Held::Bytes(GUARD)),
+            ("f.git", Held::Of(Sample::Guard)),
         ],
+        ..PLAIN
     },
     Row {
         line: "play - a.git x.plan f.git",
-        before: &[("x.plan", b"NWQ PLAN 1\n"), ("a.git", TREE)],
-        failing: Failing::Nothing,
-        status: Status::Done,
+        own: &[
+            ("x.plan", Held::Bytes(b"NWQ PLAN 1\n")),
+            ("a.git", Held::Of(Sample::Tree)),
+        ],
         puts: Some(1),
         text: "end done clock 0 entries 0 instructions 0\n",
-        after: &[("f.git", Held::Bytes(TREE))],
+        after: &[("f.git", Held::Of(Sample::Tree))],
+        ..PLAIN
     },
     // A script that is executed has globals of its own, and its lines are put with its entry's.
     Row {
         line: "play - a.git x.plan f.git",
-        before: &[
-            ("x.plan", b"NWQ PLAN 1\nscript s\nscript t\nstart 0 - s\n"),
+        own: &[
+            (
+                "x.plan",
+                Held::Bytes(b"NWQ PLAN 1\nscript s\nscript t\nstart 0 - s\n"),
+            ),
             (
                 "s.nss",
-                b"int g=1; void main() { \
+                Held::Bytes(
+                    b"int g=1; void main() { \
                 ExecuteScript(\"t\", GetObjectByTag(\"guard\")); PrintInteger(g); }",
+                ),
             ),
-            ("t.nss", b"int g=5; void main() { g=6; PrintInteger(g); }"),
+            (
+                "t.nss",
+                Held::Bytes(b"int g=5; void main() { g=6; PrintInteger(g); }"),
+            ),
             AREA,
         ],
-        failing: Failing::Nothing,
-        status: Status::Done,
         puts: Some(2),
         text: "0 #1 print 6\n0 #0 print 1\nend done clock 0 entries 1 instructions 30\n",
-        after: &[("f.git", Held::Bytes(GUARD))],
+        after: &[("f.git", Held::Of(Sample::Guard))],
+        ..PLAIN
     },
     // Plays that are made from a number: no file is read or written.
     Row {
         line: "generate 0",
-        before: &[],
-        failing: Failing::Nothing,
-        status: Status::Done,
         puts: Some(1),
         text: "generated creatures 1 events 1 lines 3 bytes 42\n\
             end done clock 100 entries 5 instructions 87\n",
         after: &[("beat.ncs", Held::Nothing)],
+        ..PLAIN
     },
     Row {
         line: "generate 9099",
-        before: &[],
-        failing: Failing::Nothing,
-        status: Status::Done,
         puts: Some(1),
         text: "generated creatures 100 events 1000 lines 3000 bytes 58440\n\
             end done clock 10000 entries 5000 instructions 209200\n",
         after: &[("beat.ncs", Held::Nothing)],
+        ..PLAIN
     },
 ];
 
@@ -136,228 +134,203 @@ pub const DONE: &[Row] = &[
 pub const ENDED: &[Row] = &[
     Row {
         line: "play - a.git x.plan f.git",
-        before: &[
-            ("x.plan", b"NWQ PLAN 1\nlimit 6\nscript p\nstart 0 - p\n"),
-            ("p.nss", b"void main() { PrintInteger(2+3); }"),
+        own: &[
+            (
+                "x.plan",
+                Held::Bytes(b"NWQ PLAN 1\nlimit 6\nscript p\nstart 0 - p\n"),
+            ),
+            ("p.nss", Held::Bytes(b"void main() { PrintInteger(2+3); }")),
             AREA,
-            ("f.git", b"before"),
+            ("f.git", Held::Bytes(b"before")),
         ],
-        failing: Failing::Nothing,
         status: Status::Limit,
         puts: Some(2),
         text: "0 #0 print 5\nend instructions clock 0 entries 1 instructions 6\n",
         after: &[
-            ("p.ncs", Held::Bytes(SUM)),
+            ("p.ncs", Held::Of(Sample::Sum)),
             ("f.git", Held::Bytes(b"before")),
         ],
+        ..PLAIN
     },
     Row {
         line: "play - a.git x.plan f.git",
-        before: &[
+        own: &[
             (
                 "x.plan",
-                b"NWQ PLAN 1\nentries 5\nscript s\nstart 0 0 s guard\n",
+                Held::Bytes(b"NWQ PLAN 1\nentries 5\nscript s\nstart 0 0 s guard\n"),
             ),
             (
                 "s.nss",
-                b"void F() { AssignCommand(OBJECT_SELF, F()); } void main() { F(); }",
+                Held::Bytes(b"void F() { AssignCommand(OBJECT_SELF, F()); } void main() { F(); }"),
             ),
             AREA,
         ],
-        failing: Failing::Nothing,
         status: Status::Limit,
         puts: Some(1),
         text: "due 0 5 stored #1 s\nend entries clock 0 entries 5 instructions 37\n",
         after: &[("f.git", Held::Nothing)],
+        ..PLAIN
     },
 ];
 
-/// A change of what one name holds, under which the play of three is refused.
-type Refused = (
-    &'static str,
-    &'static [u8],
-    Status,
-    &'static str,
-    &'static [(&'static str, Held<'static>)],
-);
+/// The play of three with another file under one name, and how it is refused.
+macro_rules! refused {
+    ($name:expr, $held:expr, $status:expr, $text:expr, $after:expr) => {
+        Row {
+            line: "play h.nss a.git x.plan f.git",
+            base: Base::Three,
+            own: &[($name, $held)],
+            status: $status,
+            puts: Some(1),
+            text: $text,
+            after: $after,
+            ..PLAIN
+        }
+    };
+}
 
 /// The play of three, refused at each of its steps.
-pub const REFUSED: &[Refused] = &[
-    (
+pub const REFUSED: &[Row] = &[
+    refused!(
         "x.plan",
-        b"NWQ PLAN 3\n",
+        Held::Bytes(b"NWQ PLAN 3\n"),
         Status::Area,
         "refused x.plan line 1\n",
-        NO_FILES,
+        NO_FILES
     ),
-    (
+    refused!(
         "x.plan",
-        b"NWQ PLAN 1\nscript a\nscript a\n",
+        Held::Bytes(b"NWQ PLAN 1\nscript a\nscript a\n"),
         Status::Area,
         "refused x.plan line 3\n",
-        NO_FILES,
+        NO_FILES
     ),
-    (
+    refused!(
         "h.nss",
-        b"int A(); int A();",
+        Held::Bytes(b"int A(); int A();"),
         Status::Script,
         "refused h.nss 1 13 twice\n",
-        NO_FILES,
+        NO_FILES
     ),
-    (
+    refused!(
         "a.nss",
-        b"void main() {",
+        Held::Bytes(b"void main() {"),
         Status::Script,
         "refused a.nss 1 13 syntax\n",
-        NO_FILES,
+        NO_FILES
     ),
-    (
+    refused!(
         "a.nss",
-        b"void main() { 1 = 2; }",
+        Held::Bytes(b"void main() { 1 = 2; }"),
         Status::Script,
         "refused a.nss 1 16 notplace\n",
-        NO_FILES,
+        NO_FILES
     ),
-    (
+    refused!(
         "inc.nss",
-        b"int 5;",
+        Held::Bytes(b"int 5;"),
         Status::Script,
         "refused inc.nss 1 4 syntax\n",
-        NO_FILES,
+        NO_FILES
     ),
-    (
+    refused!(
         "b.nss",
-        b"",
+        Held::Bytes(b""),
         Status::Script,
         "refused b.nss 1 0 entry\n",
         &[
-            ("a.ncs", Held::Bytes(FIRST_SUM)),
+            ("a.ncs", Held::Of(Sample::FirstSum)),
             ("b.ncs", Held::Nothing),
             ("f.git", Held::Nothing),
-        ],
+        ]
     ),
-    (
+    refused!(
         "c.ncs",
-        b"NCS V1.0",
+        Held::Bytes(b"NCS V1.0"),
         Status::Code,
         "refused c.ncs magic\n",
-        TWO_FILES,
+        TWO_FILES
     ),
     // Under this header there is one routine.
-    (
+    refused!(
         "c.ncs",
-        SUM,
+        Held::Of(Sample::Sum),
         Status::Code,
         "refused c.ncs unstacked\n",
-        TWO_FILES,
+        TWO_FILES
     ),
-    (
+    refused!(
         "a.git",
-        b"GIT V3.2",
+        Held::Bytes(b"GIT V3.2"),
         Status::Area,
         "refused a.git short\n",
-        TWO_FILES,
+        TWO_FILES
     ),
-    (
+    refused!(
         "a.git",
-        BROKEN,
+        Held::Of(Sample::Broken),
         Status::Area,
         "refused a.git shape 3 0 0\n",
-        TWO_FILES,
+        TWO_FILES
     ),
 ];
 
-/// The place of the first change under which something else comes, if there is one.
-pub fn first_refused(
-    alloc: Global,
-    rows: &[Refused],
-    hooks: &Hooks,
-) -> Result<Option<usize>, NoMemory>
-    requires hooks { AreServing (map (λ h. h.known) hooks.now.all.items) }
-{
-    let [plan, header, a, include, b, c, area] = THREE;
-    for (place, (name, bytes, status, text, after)) in rows.iter().enumerate() {
-        let row = Row {
-            line: "play h.nss a.git x.plan f.git",
-            before: &[plan, header, a, include, b, c, area, (name, bytes)],
-            failing: Failing::Nothing,
-            status: *status,
-            puts: Some(1),
-            text,
-            after,
-        };
-        if !comes(alloc, &row, hooks)? {
-            return Ok(Some(place));
+/// The front of an area as large as a file may be: the guard with a VOID `Fill` beside the list.
+const LARGE_FRONT: &[u8] = b"\
+    GIT V3.28\0\0\0\x02\0\0\0P\0\0\0\x04\0\0\0\x80\0\0\0\x04\0\0\0\xc0\0\0\0(\xff\xff\0\
+    \xe8\xff\xff\0\x10\0\0\0\xf8\xff\xff\0\x08\0\0\0\xff\xff\xff\xff\0\0\0\0\x02\0\0\0\
+    \x04\0\0\0\x08\0\0\0\x02\0\0\0\x0f\0\0\0\0\0\0\0\0\0\0\0\x0d\0\0\0\x01\0\0\0\0\0\0\0\
+    \x0a\0\0\0\x02\0\0\0\x1a\xff\xff\0\x0b\0\0\0\x03\0\0\0#\xff\xff\0Creature List\0\0\0\
+    Fill\0\0\0\0\0\0\0\0\0\0\0\0Tag\0\0\0\0\0\0\0\0\0\0\0\0\0ScriptHeartbeat\0\x16\xff\xff\0";
+
+/// How many bytes of the VOID stand between front and rest.
+const LARGE_FILL: usize = 16_776_982;
+
+/// The rest of that area.
+const LARGE_REST: &[u8] = b"\
+    \x05\0\0\0guard\x04tick\0\0\0\0\x01\0\0\0\x02\0\0\0\x03\0\0\0\x01\0\0\0\x01\0\0\0";
+
+/// The largest area.
+const LARGE_AREA: Held = Held::Repeated(&[LARGE_FRONT], 0, LARGE_FILL, LARGE_REST);
+
+/// The play of a script over this area, how it ends, what it prints, and what is left.
+macro_rules! played_over {
+    ($source:expr, $status:expr, $text:expr, $left:expr) => {
+        Row {
+            line: "play - a.git x.plan f.git",
+            own: &[
+                (
+                    "x.plan",
+                    Held::Bytes(b"NWQ PLAN 1\nscript s\nstart 0 0 s guard\n"),
+                ),
+                ("s.nss", Held::Bytes($source)),
+                ("a.git", LARGE_AREA),
+                ("f.git", Held::Bytes(b"before")),
+            ],
+            status: $status,
+            puts: Some(2),
+            text: $text,
+            after: &[("f.git", $left)],
+            ..PLAIN
         }
-    }
-    Ok(None)
+    };
 }
 
-/// Scripts that are played over an area as large as a file may be, how the plays end, what they
-/// print, and whether the area that is left is written. A new variable takes 153 bytes: with its
-/// table a field of 12 bytes, an index of 4, a label of 16 and a list of 8, and its entry a struct
-/// of 12, three fields of 36, their indices of 12 and labels of 48, and a name of 5.
-const LARGE: &[(&[u8], Status, &str, bool)] = &[
-    (
+/// Scripts that are played over an area as large as a file may be: the area that is left is written
+/// or not. A new variable takes 153 bytes: with its table a field of 12 bytes, an index of 4, a
+/// label of 16 and a list of 8, and its entry a struct of 12, three fields of 36, their indices of
+/// 12 and labels of 48, and a name of 5.
+pub const LARGE: &[Row] = &[
+    played_over!(
         b"void main() { PrintInteger(7); }",
         Status::Done,
         "0 #1 print 7\nend done clock 0 entries 1 instructions 5\n",
-        true,
+        LARGE_AREA
     ),
-    (
+    played_over!(
         b"void main() { SetLocalInt(OBJECT_SELF, \"n\", 1); PrintInteger(7); }",
         Status::Area,
         "0 #1 print 7\nrefused f.git large 16777369\n",
-        false,
+        Held::Bytes(b"before")
     ),
 ];
-
-/// Whether the play of a script over this area ends so, prints this, and leaves this area.
-fn plays_over<'x>(
-    alloc: Global,
-    area: &'x [u8],
-    source: &'x [u8],
-    status: Status,
-    text: &'x str,
-    left: &'x [u8],
-    hooks: &Hooks,
-) -> Result<bool, NoMemory>
-    requires hooks { AreServing (map (λ h. h.known) hooks.now.all.items) }
-{
-    let row = Row {
-        line: "play - a.git x.plan f.git",
-        before: &[
-            ("x.plan", b"NWQ PLAN 1\nscript s\nstart 0 0 s guard\n"),
-            ("s.nss", source),
-            ("a.git", area),
-            ("f.git", b"before"),
-        ],
-        failing: Failing::Nothing,
-        status,
-        puts: Some(2),
-        text,
-        after: &[("f.git", Held::Bytes(left))],
-    };
-    comes(alloc, &row, hooks)
-}
-
-/// The place of the first script of which something else comes over this area, if there is one.
-fn first_over(alloc: Global, area: &[u8], hooks: &Hooks) -> Result<Option<usize>, NoMemory>
-    requires hooks { AreServing (map (λ h. h.known) hooks.now.all.items) }
-{
-    for (place, (source, status, text, written)) in LARGE.iter().enumerate() {
-        let left = if *written { area } else { b"before".as_slice() };
-        if !plays_over(alloc, area, source, *status, text, left, hooks)? {
-            return Ok(Some(place));
-        }
-    }
-    Ok(None)
-}
-
-/// The same over the largest area.
-pub fn first_large(alloc: Global, hooks: &Hooks) -> Result<Option<usize>, NoMemory>
-    requires hooks { AreServing (map (λ h. h.known) hooks.now.all.items) }
-{
-    let area = repeated(alloc, LARGE_FRONT, 0, LARGE_FILL, LARGE_REST)?;
-    first_over(alloc, area.as_slice(), hooks)
-}

@@ -4,72 +4,85 @@ ghost use Rattle.std.specs.Prelude.{◌≤◌, [], IfOk, map};
 ghost use Rattle.hook_table.specs.Standard.{function_numbered, IsAnswer};
 ghost use Rattle.world_core.specs.Calls.{AreServing};
 
-use crate::answers::first_wrong;
+use crate::answers::{Held, Outcome, begin, words_of};
+use crate::bases::Base;
+use crate::rows::{Table, first_wrong};
+use crate::samples::Sample;
 use crate::{
     chains, cuts, example, files, games, long, plans, profile, programs, reads, refusing, saves,
     scripts, states, words,
 };
 use hook_table::{Call, Hooks, cell_call};
 use nwq_hooks::{all_are_put, call_function, put_cell_hook, put_hook};
-use nwq_top::Status;
+use nwq_top::{Status, nwq_tables};
 use nwq_value::{Args, NoMemory, Value};
 use std::alloc::Global;
 use std::process::Abort;
 use std::test::Fail;
 use table_2da::Tables;
 
-/// Scripts that `run` and `compile` take: of each table the place of its first wrong row, if there
-/// is one.
-fn of_scripts(alloc: Global, hooks: &Hooks) -> Result<[Option<usize>; 7], NoMemory>
-    requires hooks { AreServing (map (λ h. h.known) hooks.now.all.items) }
-{
-    let played = scripts::first_played(alloc, scripts::PLAYS, hooks)?;
-    let traced = scripts::first_traced(alloc, scripts::TRACES, hooks)?;
-    let profiled = scripts::first_traced(alloc, profile::SCRIPTS, hooks)?;
-    let refused = scripts::first_refused(alloc, scripts::REFUSED, hooks)?;
-    let under = scripts::first_under(alloc, scripts::HEADERS, hooks)?;
-    let sized = scripts::first_sized(alloc, hooks)?;
-    let ended = first_wrong(alloc, scripts::ENDED_AND_COMPILED, hooks)?;
-    Ok([played, traced, profiled, refused, under, sized, ended])
+/// Scripts that `run` and `compile` take.
+fn of_scripts() -> [Table<'static>; 9] {
+    [
+        Table::Sources(scripts::PLAYED, scripts::PLAYS),
+        Table::Sources(scripts::TRACED, scripts::TRACES),
+        Table::Sources(scripts::TRACED, profile::SCRIPTS),
+        Table::Sources(scripts::REFUSED_RUN, scripts::REFUSED),
+        Table::Sources(scripts::REFUSED_COMPILE, scripts::REFUSED),
+        Table::Rows(scripts::HEADERS),
+        Table::Rows(scripts::SIZES),
+        Table::Rows(scripts::ENDED_AND_COMPILED),
+        Table::Rows(chains::ROWS),
+    ]
 }
 
-/// The same of other commands over files.
-fn of_files(alloc: Global, hooks: &Hooks) -> Result<[Option<usize>; 5], NoMemory>
-    requires hooks { AreServing (map (λ h. h.known) hooks.now.all.items) }
-{
-    let told = files::first_told(alloc, files::TOLD, hooks)?;
-    let changed = files::first_changed(alloc, hooks)?;
-    let cut_short = files::first_cut_short(alloc, hooks)?;
-    let code_cut_short = files::first_code_cut_short(alloc, hooks)?;
-    let cut = files::first_cut(alloc, hooks)?;
-    Ok([told, changed, cut_short, code_cut_short, cut])
+/// Other commands over files.
+fn of_files() -> [Table<'static>; 4] {
+    [
+        Table::Told(files::TOLD),
+        Table::Shorts(files::SHORT_TREE, Sample::Tree, files::TREES),
+        Table::Shorts(files::SHORT_CODE, Sample::Sum, files::CODES),
+        Table::Rows(files::FAULTS),
+    ]
 }
 
-/// The same of plays of plans.
-fn of_games(alloc: Global, hooks: &Hooks) -> Result<[Option<usize>; 7], NoMemory>
-    requires hooks { AreServing (map (λ h. h.known) hooks.now.all.items) }
-{
-    let played = first_wrong(alloc, games::DONE, hooks)?;
-    let worked = first_wrong(alloc, plans::ROWS, hooks)?;
-    let ended = first_wrong(alloc, games::ENDED, hooks)?;
-    let refused = games::first_refused(alloc, games::REFUSED, hooks)?;
-    let large = games::first_large(alloc, hooks)?;
-    let saved = first_wrong(alloc, saves::ROWS, hooks)?;
-    let resumed = saves::first_cut(alloc, hooks)?;
-    Ok([played, worked, ended, refused, large, saved, resumed])
+/// Plays of plans.
+fn of_games() -> [Table<'static>; 9] {
+    [
+        Table::Rows(games::DONE),
+        Table::Rows(plans::ROWS),
+        Table::Rows(games::ENDED),
+        Table::Rows(games::REFUSED),
+        Table::Rows(games::LARGE),
+        Table::Rows(long::ROWS),
+        Table::Rows(saves::ROWS),
+        Table::Rows(saves::RESUMES),
+        Table::Rows(states::ROWS),
+    ]
 }
 
-/// The same of words that are no command, files that aren't there or are too long, and the whole
-/// program.
-fn of_stops(alloc: Global, hooks: &Hooks) -> Result<[Option<usize>; 5], NoMemory>
-    requires hooks { AreServing (map (λ h. h.known) hooks.now.all.items) }
-{
-    let answered = words::first_answered(alloc, hooks)?;
-    let missing = reads::first_missing(alloc, hooks)?;
-    let long = reads::first_long(alloc, hooks)?;
-    let whole = programs::first_wrong(alloc, hooks)?;
-    let noted = programs::first_noted(alloc, hooks)?;
-    Ok([answered, missing, long, whole, noted])
+/// Calls that fail.
+fn of_cuts() -> [Table<'static>; 5] {
+    [
+        Table::Cuts(cuts::RUN, cuts::RUNS),
+        Table::Cuts(cuts::COMPILE, cuts::COMPILES),
+        Table::Cuts(cuts::PLAY, cuts::PLAYS),
+        Table::Cuts(cuts::PLAY_THREE, cuts::THREES),
+        Table::Cuts(cuts::SAVE, cuts::SAVES),
+    ]
+}
+
+/// Words that are no command, files that aren't there or are too long, the whole program, and the
+/// town.
+fn of_stops() -> [Table<'static>; 6] {
+    [
+        Table::Lines(words::REFUSED, words::LINES),
+        Table::Reads(reads::MISSING, Held::Nothing, reads::READS),
+        Table::Reads(reads::LONG, reads::BLANKS, reads::READS),
+        Table::Programs(programs::ROWS),
+        Table::Programs(programs::NOTED),
+        Table::Rows(example::ROWS),
+    ]
 }
 
 /// What is tried with hooks: each test has a minute.
@@ -81,42 +94,62 @@ enum Tried {
     Refusing,
 }
 
-fn rows_hold(alloc: Global, rt: &impl Abort, hooks: &Hooks) -> Result<(), Fail>
+/// Each row of these tables comes to what it is to.
+fn tables_hold(
+    alloc: Global,
+    rt: &impl Abort,
+    name: &str,
+    tables: &[Table],
+    found: &mut Outcome,
+    hooks: &Hooks,
+) -> Result<(), Fail>
     requires hooks { AreServing (map (λ h. h.known) hooks.now.all.items) }
 {
-    assert!(rt; example::plays(alloc, hooks)?);
-    assert_eq!(rt; cuts::first_wrong(alloc, hooks)?, None);
-    assert_eq!(rt; chains::first_wrong(alloc, hooks)?, None);
-    assert!(rt; files::is_refused_short(alloc, hooks)?);
-    assert_eq!(rt; of_games(alloc, hooks)?, [None; 7]);
-    assert_eq!(rt; of_files(alloc, hooks)?, [None; 5]);
-    assert_eq!(rt; of_stops(alloc, hooks)?, [None; 5]);
-    assert_eq!(rt; of_scripts(alloc, hooks)?, [None; 7]);
+    for (place, table) in tables.iter().enumerate() {
+        let wrong = first_wrong(alloc, *table, found, hooks)?;
+        assert_eq!(rt; wrong, None, "the row of table {place} of {name}");
+    }
     Ok(())
 }
 
-fn saves_hold(alloc: Global, rt: &impl Abort, hooks: &Hooks) -> Result<(), Fail>
+fn rows_hold(alloc: Global, rt: &impl Abort, found: &mut Outcome, hooks: &Hooks) -> Result<(), Fail>
     requires hooks { AreServing (map (λ h. h.known) hooks.now.all.items) }
 {
-    assert_eq!(rt; saves::first_wrong(alloc, hooks)?, None);
-    assert_eq!(rt; states::are_as_told(alloc, hooks)?, [true; 3]);
-    assert_eq!(rt; long::is_kept(alloc, hooks)?, [true; 2]);
-    Ok(())
+    tables_hold(alloc, rt, "scripts", &of_scripts(), found, hooks)?;
+    tables_hold(alloc, rt, "files", &of_files(), found, hooks)?;
+    tables_hold(alloc, rt, "games", &of_games(), found, hooks)?;
+    tables_hold(alloc, rt, "cuts", &of_cuts(), found, hooks)?;
+    tables_hold(alloc, rt, "stops", &of_stops(), found, hooks)
 }
 
-fn all_hold(alloc: Global, rt: &impl Abort, tried: Tried, hooks: &Hooks) -> Result<(), Fail>
+fn all_hold(
+    alloc: Global,
+    rt: &impl Abort,
+    tried: Tried,
+    found: &mut Outcome,
+    hooks: &Hooks,
+) -> Result<(), Fail>
     requires hooks { AreServing (map (λ h. h.known) hooks.now.all.items) }
 {
     match tried {
-        Tried::Rows => rows_hold(alloc, rt, hooks),
-        Tried::Saves => saves_hold(alloc, rt, hooks),
+        Tried::Rows => rows_hold(alloc, rt, found, hooks),
+        Tried::Saves => {
+            assert_eq!(rt;
+                saves::first_broken(alloc, saves::GAMES, found, hooks)?,
+                None
+            );
+            Ok(())
+        }
         Tried::Town => {
-            assert_eq!(rt; example::first_broken(alloc, hooks)?, None);
+            assert_eq!(rt;
+                saves::first_broken(alloc, saves::TOWN, found, hooks)?,
+                None
+            );
             Ok(())
         }
         Tried::Refusing => {
-            assert_eq!(rt; first_wrong(alloc, refusing::ROWS, hooks)?, None);
-            Ok(())
+            let tables = [Table::Rows(refusing::ROWS)];
+            tables_hold(alloc, rt, "refusing", &tables, found, hooks)
         }
     }
 }
@@ -130,7 +163,13 @@ fn refused(tried: Tried) -> u8 {
 }
 
 /// The hooks look cells up in these tables.
-fn of_all(alloc: Global, rt: &impl Abort, tried: Tried, tables: Tables) -> Result<(), Fail> {
+fn of_all(
+    alloc: Global,
+    rt: &impl Abort,
+    tried: Tried,
+    tables: Tables,
+    found: &mut Outcome,
+) -> Result<(), Fail> {
     let refused = refused(tried);
     let own = tables.copy(alloc)?;
     let mut hooks = Hooks::new(alloc);
@@ -160,21 +199,39 @@ fn of_all(alloc: Global, rt: &impl Abort, tried: Tried, tables: Tables) -> Resul
     )?;
     put_cell_hook(alloc, &mut hooks, cells, tables)?;
     all_are_put(&hooks);
-    all_hold(alloc, rt, tried, &hooks)
+    all_hold(alloc, rt, tried, found, &hooks)
 }
 
-fn try_all(alloc: Global, rt: &impl Abort, tried: Tried) -> Result<(), Fail> {
-    let given = match tried {
-        Tried::Refusing => refusing::tables(alloc)?,
-        _ => example::tables(alloc)?,
+/// The tables that words give, read as the program reads them, or how it stops there.
+fn tables_given(
+    alloc: Global,
+    tried: Tried,
+    found: &mut Outcome,
+) -> Result<Result<Tables, Status>, NoMemory> {
+    let (base, line) = match tried {
+        Tried::Refusing => (Base::Cells, refusing::LINE),
+        _ => (Base::Town, example::LINE),
     };
-    match given {
-        Ok(tables) => of_all(alloc, rt, tried, tables),
+    begin(alloc, base, &[], found)?;
+    let words = words_of(alloc, line)?;
+    Ok(nwq_tables(alloc, words.as_slice(), &mut found.files, &mut found.out))
+}
+
+fn try_in(alloc: Global, rt: &impl Abort, tried: Tried, found: &mut Outcome) -> Result<(), Fail> {
+    match tables_given(alloc, tried, found)? {
+        Ok(tables) => of_all(alloc, rt, tried, tables, found),
         Err(status) => {
             assert_eq!(rt; status, Status::Done);
             Ok(())
         }
     }
+}
+
+fn try_all(alloc: Global, rt: &impl Abort, tried: Tried) -> Result<(), Fail> {
+    let mut found = Outcome::new(alloc);
+    let done = try_in(alloc, rt, tried, &mut found);
+    drop(found);
+    done
 }
 
 #[test]

@@ -7,6 +7,8 @@ mod answers;
 #[cfg(test)]
 mod areas;
 #[cfg(test)]
+mod bases;
+#[cfg(test)]
 mod chains;
 #[cfg(test)]
 mod cuts;
@@ -32,6 +34,8 @@ mod programs;
 mod reads;
 #[cfg(test)]
 mod refusing;
+#[cfg(test)]
+mod rows;
 #[cfg(test)]
 mod samples;
 #[cfg(test)]

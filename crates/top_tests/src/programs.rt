@@ -3,8 +3,9 @@
 ghost use Rattle.std.specs.Prelude.{map};
 ghost use Rattle.world_core.specs.Calls.{AreServing};
 
-use crate::answers::words_of;
-use crate::plans::NOTIFIED;
+use crate::answers::{Held, Named, Outcome, begin, words_of};
+use crate::bases::Base;
+use crate::samples::Sample;
 use command_messages::{End, LastLine, tell_end};
 use hook_table::Hooks;
 use nwq_outside::{MemFiles, MemSink};
@@ -12,46 +13,120 @@ use nwq_top::{Remarks, nwq_program};
 use nwq_value::NoMemory;
 use std::alloc::Global;
 
-/// All words, the number with which the program ends, and what it prints.
-const ROWS: &[(&str, u8, &str)] = &[
+/// All words, and what comes of them.
+#[derive(Clone, Copy)]
+pub struct Program<'a> {
+    line: &'a str,
+    base: Base,
+    /// Whether it goes on over what the one before left of such names.
+    left: bool,
+    /// The number with which it ends.
+    number: u8,
+    /// What it prints, where it is asked.
+    text: Option<&'a str>,
+    /// What it notes, where it is asked: else no more than that it does, where it fails.
+    said: Option<&'a str>,
+}
+
+/// Two scripts, of which one is none.
+pub const TWO: &[Named] = &[
+    ("p.nss", Held::Bytes(b"void main() { PrintInteger(2+3); }")),
+    ("q.nss", Held::Bytes(b"void main() {")),
+];
+
+/// An area, a script that draws one random number, and plans that start it: with no number, with as
+/// many as it draws, and with one more.
+pub const RANDOMS: &[Named] = &[
+    ("a.git", Held::Of(Sample::Notified)),
     (
+        "r.nss",
+        Held::Bytes(b"void main() { PrintInteger(Random(6)); }"),
+    ),
+    (
+        "none.plan",
+        Held::Bytes(b"NWQ PLAN 2\nscript r\nstart 0 - r\n"),
+    ),
+    (
+        "used.plan",
+        Held::Bytes(b"NWQ PLAN 2\nrandom 3 1\nscript r\nstart 0 - r\nstart 1 - r\n"),
+    ),
+    (
+        "left.plan",
+        Held::Bytes(b"NWQ PLAN 2\nrandom 3 1 4\nscript r\nstart 0 - r\nstart 1 - r\n"),
+    ),
+];
+
+/// Words over the two scripts.
+macro_rules! ended {
+    ($line:expr, $number:expr, $text:expr) => {
+        Program {
+            line: $line,
+            base: Base::Two,
+            left: false,
+            number: $number,
+            text: Some($text),
+            said: None,
+        }
+    };
+}
+
+pub const ROWS: &[Program] = &[
+    ended!(
         "nwq run - p",
         0,
-        "0 #0 print 5\nend done clock 0 entries 1 instructions 7\n",
+        "0 #0 print 5\nend done clock 0 entries 1 instructions 7\n"
     ),
-    ("nwq run - q", 2, "refused q.nss 1 13 syntax\n"),
-    ("nwq run - r", 6, "missing r.nss\n"),
-    ("", 1, "refused words\n"),
-    ("nwq", 1, "refused words\n"),
-    ("nwq run", 1, "refused words\n"),
+    ended!("nwq run - q", 2, "refused q.nss 1 13 syntax\n"),
+    ended!("nwq run - r", 6, "missing r.nss\n"),
+    ended!("", 1, "refused words\n"),
+    ended!("nwq", 1, "refused words\n"),
+    ended!("nwq run", 1, "refused words\n"),
 ];
+
+/// Words over the plans.
+macro_rules! noted {
+    ($line:expr, $left:expr, $said:expr) => {
+        Program {
+            line: $line,
+            base: Base::Randoms,
+            left: $left,
+            number: 0,
+            text: None,
+            said: Some($said),
+        }
+    };
+}
 
 /// What is noted of random numbers after each of these commands over the same files, of which the
 /// later ones go on from states that the earlier ones left.
-const NOTED: &[(&str, &str)] = &[
-    (
+pub const NOTED: &[Program] = &[
+    noted!(
         "nwq play - a.git none.plan b.git",
+        false,
         "none.plan: note: the script `r` calls `Random`, which gives 0: the play has no random \
-            numbers\n",
+            numbers\n"
     ),
-    (
+    noted!(
         "nwq play - a.git used.plan b.git",
+        true,
         "used.plan: note: the plan's random numbers, 2 in all, are used up: each further \
-            `Random` gives 0\n",
+            `Random` gives 0\n"
     ),
-    ("nwq play - a.git left.plan b.git", ""),
-    ("nwq save - a.git used.plan 1 s.nwq", ""),
-    (
+    noted!("nwq play - a.git left.plan b.git", true, ""),
+    noted!("nwq save - a.git used.plan 1 s.nwq", true, ""),
+    noted!(
         "nwq resume s.nwq b.git",
+        true,
         "s.nwq: note: the state's random numbers, 1 in all, are used up: each further `Random` \
-            gives 0\n",
+            gives 0\n"
     ),
-    (
+    noted!(
         "nwq save - a.git used.plan 2 s.nwq",
+        true,
         "used.plan: note: the plan's random numbers, 2 in all, are used up: each further \
-            `Random` gives 0\n",
+            `Random` gives 0\n"
     ),
-    ("nwq resume s.nwq b.git", ""),
+    noted!("nwq resume s.nwq b.git", true, ""),
 ];
 
 /// Whether standard error is told why the program ended, exactly where that is no success.
@@ -63,25 +138,17 @@ fn is_told(number: u8, told: &[u8]) -> bool {
     }
 }
 
-fn add_two(files: &mut MemFiles) -> Result<(), NoMemory> {
-    files.add("p.nss", b"void main() { PrintInteger(2+3); }")?;
-    files.add("q.nss", b"void main() {")
-}
-
-/// An area, a script that draws one random number, and plans that start it: with no number, with as
-/// many as it draws, and with one more.
-fn add_games(files: &mut MemFiles) -> Result<(), NoMemory> {
-    files.add("a.git", NOTIFIED)?;
-    files.add("r.nss", b"void main() { PrintInteger(Random(6)); }")?;
-    files.add("none.plan", b"NWQ PLAN 2\nscript r\nstart 0 - r\n")?;
-    files.add(
-        "used.plan",
-        b"NWQ PLAN 2\nrandom 3 1\nscript r\nstart 0 - r\nstart 1 - r\n",
-    )?;
-    files.add(
-        "left.plan",
-        b"NWQ PLAN 2\nrandom 3 1 4\nscript r\nstart 0 - r\nstart 1 - r\n",
-    )
+/// Whether what came of a program is what is to come of it.
+fn is_end(row: &Program, number: u8, text: &[u8], told: &[u8]) -> bool {
+    let is_text = match row.text {
+        None => true,
+        Some(whole) => text == whole.as_bytes(),
+    };
+    let is_said = match row.said {
+        None => is_told(number, told),
+        Some(said) => told == said.as_bytes(),
+    };
+    number == row.number && is_text && is_said
 }
 
 /// The whole program over these files: the number with which it ends.
@@ -107,79 +174,28 @@ fn end_of(
     number
 }
 
-/// Whether the program over these files ends with this number, and prints this.
-fn ends(
-    alloc: Global,
-    all: &[String],
-    files: &mut MemFiles,
-    number: u8,
-    text: &str,
-    hooks: &Hooks,
-) -> bool
+/// Whether what is to come of the program over these files does.
+fn ends(alloc: Global, row: &Program, all: &[String], files: &mut MemFiles, hooks: &Hooks) -> bool
     requires hooks { AreServing (map (λ h. h.known) hooks.now.all.items) }
 {
     let mut out = LastLine::new(alloc, MemSink::new(alloc));
     let mut err = MemSink::new(alloc);
-    let found = end_of(alloc, all, files, &mut out, &mut err, hooks);
-    let told = out.inner().bytes();
-    found == number && told == text.as_bytes() && is_told(number, err.bytes())
+    let number = end_of(alloc, all, files, &mut out, &mut err, hooks);
+    is_end(row, number, out.inner().bytes(), err.bytes())
 }
 
-/// Whether the program over two scripts ends with this number, and prints this.
-fn ends_over_two(
+/// The same over the files that it is over.
+pub fn comes(
     alloc: Global,
-    line: &str,
-    number: u8,
-    text: &str,
+    row: &Program,
+    found: &mut Outcome,
     hooks: &Hooks,
 ) -> Result<bool, NoMemory>
     requires hooks { AreServing (map (λ h. h.known) hooks.now.all.items) }
 {
-    let all = words_of(alloc, line)?;
-    let mut files = MemFiles::new(alloc);
-    add_two(&mut files)?;
-    Ok(ends(alloc, all.as_slice(), &mut files, number, text, hooks))
-}
-
-/// The place of the first words of which something else comes, if there is one.
-pub fn first_wrong(alloc: Global, hooks: &Hooks) -> Result<Option<usize>, NoMemory>
-    requires hooks { AreServing (map (λ h. h.known) hooks.now.all.items) }
-{
-    for (place, (line, number, text)) in ROWS.iter().enumerate() {
-        if !ends_over_two(alloc, line, *number, text, hooks)? {
-            return Ok(Some(place));
-        }
+    if !row.left {
+        begin(alloc, row.base, &[], found)?;
     }
-    Ok(None)
-}
-
-/// Whether the program over these files ends with 0, and this is noted.
-fn is_noted(
-    alloc: Global,
-    line: &str,
-    said: &str,
-    files: &mut MemFiles,
-    hooks: &Hooks,
-) -> Result<bool, NoMemory>
-    requires hooks { AreServing (map (λ h. h.known) hooks.now.all.items) }
-{
-    let all = words_of(alloc, line)?;
-    let mut out = LastLine::new(alloc, MemSink::new(alloc));
-    let mut err = MemSink::new(alloc);
-    let number = end_of(alloc, all.as_slice(), files, &mut out, &mut err, hooks);
-    Ok(number == 0 && err.bytes() == said.as_bytes())
-}
-
-/// The place of the first words after which something else is noted, if there is one.
-pub fn first_noted(alloc: Global, hooks: &Hooks) -> Result<Option<usize>, NoMemory>
-    requires hooks { AreServing (map (λ h. h.known) hooks.now.all.items) }
-{
-    let mut files = MemFiles::new(alloc);
-    add_games(&mut files)?;
-    for (place, (line, said)) in NOTED.iter().enumerate() {
-        if !is_noted(alloc, line, said, &mut files, hooks)? {
-            return Ok(Some(place));
-        }
-    }
-    Ok(None)
+    let all = words_of(alloc, row.line)?;
+    Ok(ends(alloc, row, all.as_slice(), &mut found.files, hooks))
 }

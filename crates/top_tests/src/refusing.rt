@@ -1,108 +1,82 @@
 //! A hook that finds no memory, and cells that the hooks look up in a table.
 
-use crate::answers::{Failing, Held, Outcome, Row, words_of};
-use crate::example::tables_given;
-use crate::samples::EMPTY;
-use nwq_outside::MemFiles;
+use crate::answers::{Held, Named, PLAIN, Row};
+use crate::bases::Base;
+use crate::samples::Sample;
 use nwq_top::Status;
-use nwq_value::NoMemory;
-use std::alloc::Global;
-use table_2da::Tables;
 
 /// The number of the hook that finds none: IntToString.
 pub const REFUSED: u8 = 1;
 
-const LINE: &str = "play - a.git x.plan f.git t.txt";
+pub const LINE: &str = "play - a.git x.plan f.git t.txt";
 
-const TABLE: (&str, &[u8]) = ("x.2da", b"2DA V2.0\n\n LABEL COST\n0 Sword 10\n1 **** 5\n");
+const TABLE: Named = (
+    "x.2da",
+    Held::Bytes(b"2DA V2.0\n\n LABEL COST\n0 Sword 10\n1 **** 5\n"),
+);
 
-const LIST: (&str, &[u8]) = ("t.txt", b"x\n");
+const LIST: Named = ("t.txt", Held::Bytes(b"x\n"));
 
-const PLAN: (&str, &[u8]) = ("x.plan", b"NWQ PLAN 1\nscript p\nstart 0 - p\n");
+const PLAN: Named = (
+    "x.plan",
+    Held::Bytes(b"NWQ PLAN 1\nscript p\nstart 0 - p\n"),
+);
 
-const AREA: (&str, &[u8]) = ("a.git", EMPTY);
+const AREA: Named = ("a.git", Held::Of(Sample::Empty));
 
-fn add_table(files: &mut MemFiles) -> Result<(), NoMemory> {
-    let (list, names) = LIST;
-    let (table, text) = TABLE;
-    files.add(list, names)?;
-    files.add(table, text)
-}
+/// All but the script.
+pub const CELLS: &[Named] = &[PLAN, AREA, LIST, TABLE];
 
-fn tables_in(alloc: Global, found: &mut Outcome) -> Result<Result<Tables, Status>, NoMemory> {
-    add_table(&mut found.files)?;
-    let words = words_of(alloc, LINE)?;
-    Ok(tables_given(alloc, words.as_slice(), found))
-}
-
-/// The tables of the list, or how the program stops there.
-pub fn tables(alloc: Global) -> Result<Result<Tables, Status>, NoMemory> {
-    let mut found = Outcome::new(alloc);
-    let tables = tables_in(alloc, &mut found);
-    drop(found);
-    tables
-}
-
+/// Scripts that ask hooks.
 pub const ROWS: &[Row] = &[
     // What comes of a hook without memory is told, and nothing in its place.
     Row {
         line: "run - p",
-        before: &[("p.nss", b"void main() { PrintString(IntToString(1)); }")],
-        failing: Failing::Nothing,
+        own: &[(
+            "p.nss",
+            Held::Bytes(b"void main() { PrintString(IntToString(1)); }"),
+        )],
         status: Status::Memory,
         puts: Some(0),
-        text: "",
-        after: &[],
+        ..PLAIN
     },
     // Where it isn't asked nothing is wanting.
     Row {
         line: "run - p",
-        before: &[("p.nss", b"void main() { PrintInteger(2+3); }")],
-        failing: Failing::Nothing,
-        status: Status::Done,
+        own: &[("p.nss", Held::Bytes(b"void main() { PrintInteger(2+3); }"))],
         puts: Some(2),
         text: "0 #0 print 5\nend done clock 0 entries 1 instructions 7\n",
-        after: &[],
+        ..PLAIN
     },
     // Names of tables and columns are folded; no such row, and no such table.
     Row {
         line: LINE,
-        before: &[
-            PLAN,
-            (
-                "p.nss",
+        base: Base::Cells,
+        own: &[(
+            "p.nss",
+            Held::Bytes(
                 b"void main() { PrintString(Get2DAString(\"x\",\"cost\",0)); \
                     PrintString(Get2DAString(\"x\",\"LABEL\",1)); \
                     PrintString(Get2DAString(\"x\",\"COST\",7)); \
                     PrintString(Get2DAString(\"y\",\"COST\",0)); }",
             ),
-            AREA,
-            LIST,
-            TABLE,
-        ],
-        failing: Failing::Nothing,
-        status: Status::Done,
+        )],
         puts: Some(2),
         text: "0 #0 print 10\n0 #0 print \n0 #0 print \n0 #0 print \n\
             end done clock 0 entries 1 instructions 23\n",
-        after: &[("f.git", Held::Bytes(EMPTY))],
+        after: &[("f.git", Held::Of(Sample::Empty))],
+        ..PLAIN
     },
     Row {
         line: LINE,
-        before: &[
-            PLAN,
-            (
-                "p.nss",
-                b"void main() { PrintString(Get2DAString(\"x\",\"COST\",0)); }",
-            ),
-            AREA,
-            LIST,
-            TABLE,
-        ],
-        failing: Failing::Nothing,
-        status: Status::Done,
+        base: Base::Cells,
+        own: &[(
+            "p.nss",
+            Held::Bytes(b"void main() { PrintString(Get2DAString(\"x\",\"COST\",0)); }"),
+        )],
         puts: Some(2),
         text: "0 #0 print 10\nend done clock 0 entries 1 instructions 8\n",
-        after: &[("f.git", Held::Bytes(EMPTY))],
+        after: &[("f.git", Held::Of(Sample::Empty))],
+        ..PLAIN
     },
 ];

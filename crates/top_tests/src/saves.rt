@@ -4,9 +4,10 @@
 ghost use Rattle.std.specs.Prelude.{map};
 ghost use Rattle.world_core.specs.Calls.{AreServing};
 
-use crate::answers::{Failing, Held, Outcome, Row, begin, carry_on, come, is_as};
-use crate::plans::NOTIFIED;
-use crate::samples::{GUARD, ROUNDS};
+use crate::answers::{Failing, Held, Named, Outcome, PLAIN, Row, begin, carry_on};
+use crate::bases::Base;
+use crate::samples::Sample;
+use crate::{example, long};
 use hook_table::Hooks;
 use nwq_outside::MemSink;
 use nwq_top::Status;
@@ -16,20 +17,31 @@ use std::alloc::Global;
 /// A play, by its files.
 #[derive(Clone, Copy)]
 pub struct Game<'a> {
-    /// Header, area and plan.
+    pub base: Base,
+    /// Names beside those, or in their place.
+    pub own: &'a [Named<'a>],
+    /// Lines that are done before.
+    pub lines: &'a [&'a str],
+    /// Header and area.
     pub given: &'a str,
-    pub files: &'a [(&'a str, &'a [u8])],
-    /// It is saved after 1 to less than so many entries. The last number is past its end.
+    /// Plans that go alike. The first one is played without a break.
+    pub plans: &'a [&'a str],
+    /// The list of tables, if there is one.
+    pub tables: &'a str,
+    /// They are saved after 1 to less than so many entries. The last number is past their end.
     pub below: u64,
+    /// What the unbroken play prints, where it is told.
+    pub text: Option<&'a str>,
 }
 
 /// Effects that stand for a time and for good, queues with waits and stored actions, events with
 /// user numbers that wait, random numbers of which some are used, and an executed script that
 /// defers a part of its work.
-const BUSY: &[(&str, &[u8])] = &[
+pub const BUSY: &[Named] = &[
     (
         "h.nss",
-        b"#define ENGINE_NUM_STRUCTURES 2\n\
+        Held::Bytes(
+            b"#define ENGINE_NUM_STRUCTURES 2\n\
         #define ENGINE_STRUCTURE_0 effect\n\
         #define ENGINE_STRUCTURE_1 event\n\
         int DURATION_TYPE_TEMPORARY = 1;\n\
@@ -51,15 +63,19 @@ const BUSY: &[(&str, &[u8])] = &[
         string GetLocalString(object o, string s);\n\
         effect Glow(int n);\n\
         void ApplyEffectToObject(int d, effect e, object o, int ms = 0);\n",
+        ),
     ),
     (
         "x.plan",
-        b"NWQ PLAN 2\nrandom 3 1 4 1 5 9\nscript a\nscript b\nscript usr\n\
+        Held::Bytes(
+            b"NWQ PLAN 2\nrandom 3 1 4 1 5 9\nscript a\nscript b\nscript usr\n\
             start 0 0 a guard\nstart 1500 0 b guard\nstart 2500 0 a guard\n",
+        ),
     ),
     (
         "a.nss",
-        b"int nRound = 7;\n\
+        Held::Bytes(
+            b"int nRound = 7;\n\
         void Later(int n, string s) { PrintString(s + IntToString(n + nRound)); }\n\
         void main() {\n\
         int n = Random(10);\n\
@@ -72,33 +88,69 @@ const BUSY: &[(&str, &[u8])] = &[
         ExecuteScript(\"b\", OBJECT_SELF);\n\
         SetLocalString(OBJECT_SELF, \"said\", \"round \" + IntToString(n));\n\
         SetLocalInt(OBJECT_SELF, \"said\", n); }",
+        ),
     ),
     (
         "b.nss",
-        b"void main() { int n = Random(5); \
+        Held::Bytes(
+            b"void main() { int n = Random(5); \
         DelayCommand(900, PrintString(\"b \" + IntToString(n))); \
         ActionWait(300); PrintString(GetLocalString(OBJECT_SELF, \"said\")); }",
+        ),
     ),
     (
         "usr.nss",
-        b"void main() { PrintInteger(GetUserDefinedEventNumber()); }",
+        Held::Bytes(b"void main() { PrintInteger(GetUserDefinedEventNumber()); }"),
     ),
-    ("a.git", NOTIFIED),
+    ("a.git", Held::Of(Sample::Notified)),
 ];
 
-/// Plays of both versions, of sources, which are saved after each of their entries.
-const GAMES: &[Game] = &[
+/// Plays of both versions, of sources, which are saved after each of their entries, and the guard's
+/// rounds with a long variable, after the first.
+pub const GAMES: &[Game] = &[
     Game {
-        given: "- a.git x.plan",
-        files: ROUNDS,
+        base: Base::Rounds,
+        own: &[],
+        lines: &[],
+        given: "- a.git",
+        plans: &["x.plan"],
+        tables: "",
         below: 8,
+        text: None,
     },
     Game {
-        given: "h.nss a.git x.plan",
-        files: BUSY,
+        base: Base::Busy,
+        own: &[],
+        lines: &[],
+        given: "h.nss a.git",
+        plans: &["x.plan"],
+        tables: "",
         below: 26,
+        text: None,
+    },
+    Game {
+        base: Base::Rounds,
+        own: &[("a.git", long::FIVE)],
+        lines: &[],
+        given: "- a.git",
+        plans: &["x.plan"],
+        tables: "",
+        below: 2,
+        text: Some(long::TEXT),
     },
 ];
+
+/// The town's day of sources, and of their files of code, saved after each of its 31 entries.
+pub const TOWN: &[Game] = &[Game {
+    base: Base::Town,
+    own: &[("code.plan", Held::Bytes(example::CODE_PLAN))],
+    lines: example::COMPILES,
+    given: "nwscript.nss town.git",
+    plans: &["day.plan", "code.plan"],
+    tables: "tables.txt",
+    below: 33,
+    text: Some(crate::town::PLAYED),
+}];
 
 /// Where the last line of a text begins.
 fn last_line(text: &[u8]) -> usize {
@@ -128,9 +180,9 @@ fn is_parted(first: &[u8], rest: &[u8], text: &[u8]) -> bool {
     }
 }
 
-/// Whether a play over these files that is saved by one line and resumed by another puts this text
-/// in all, without the line of the save, and leaves this area.
-pub fn goes_on(
+/// Whether a play that is saved by one line and resumed by another puts this text in all, without
+/// the line of the save, and leaves this area.
+fn goes_on(
     alloc: Global,
     lines: [&str; 2],
     found: &mut Outcome,
@@ -156,295 +208,300 @@ pub fn goes_on(
     )
 }
 
-/// Whether a play that is saved by one line and resumed by another goes as the unbroken one.
-fn goes_as_in(
-    alloc: Global,
-    lines: [&str; 2],
-    game: &Game,
-    unbroken: &Outcome,
-    found: &mut Outcome,
-    hooks: &Hooks,
-) -> Result<bool, NoMemory>
-    requires hooks { AreServing (map (λ h. h.known) hooks.now.all.items) }
-{
-    let (text, area) = (unbroken.out.bytes(), unbroken.files.get("f.git"));
-    begin(found, game.files, Failing::Nothing)?;
-    goes_on(alloc, lines, found, text, area, hooks)
+/// Takes away what a play wrote: where lines were done before it the state and the area alone.
+fn renew(alloc: Global, game: &Game, found: &mut Outcome) -> Result<(), NoMemory> {
+    if game.lines.is_empty() {
+        begin(alloc, game.base, game.own, found)
+    } else {
+        found.files.add("s.nwq", b"not written")?;
+        found.files.add("f.git", b"not written")
+    }
 }
 
-/// Whether a play that is saved after so many entries and resumed goes as the unbroken one.
+/// Whether the play of a plan that is saved after so many entries and resumed prints and leaves
+/// what the unbroken one did.
 fn goes_as(
     alloc: Global,
     game: &Game,
+    plan: &str,
     n: u64,
-    unbroken: &Outcome,
+    found: &mut Outcome,
+    text: &[u8],
+    area: &[u8],
     hooks: &Hooks,
 ) -> Result<bool, NoMemory>
     requires hooks { AreServing (map (λ h. h.known) hooks.now.all.items) }
 {
-    let save = format!(in alloc; "save {} {n} s.nwq", game.given)?;
-    let lines = [save.as_str(), "resume s.nwq f.git"];
-    let mut found = Outcome::new(alloc);
-    let goes = goes_as_in(alloc, lines, game, unbroken, &mut found, hooks);
-    drop(found);
-    goes
+    renew(alloc, game, found)?;
+    let save = format!(in alloc; "save {} {plan} {n} s.nwq {}", game.given, game.tables)?;
+    let resume = format!(in alloc; "resume s.nwq f.git {}", game.tables)?;
+    let lines = [save.as_str(), resume.as_str()];
+    goes_on(alloc, lines, found, text, Some(area), hooks)
 }
 
-/// Plays without a break.
-fn play(alloc: Global, game: &Game, unbroken: &mut Outcome, hooks: &Hooks) -> Result<(), NoMemory>
-    requires hooks { AreServing (map (λ h. h.known) hooks.now.all.items) }
-{
-    let line = format!(in alloc; "play {} f.git", game.given)?;
-    come(alloc, &line, game.files, Failing::Nothing, unbroken, hooks)
-}
-
-/// After how many entries a saved play goes on otherwise than this one, if it does so anywhere.
-fn first_other(
+/// After how many entries the saved play of a plan goes on otherwise than to print and leave what
+/// the unbroken one did, if it does so anywhere.
+fn first_apart(
     alloc: Global,
     game: &Game,
-    unbroken: &mut Outcome,
+    plan: &str,
+    found: &mut Outcome,
+    text: &[u8],
+    area: &[u8],
     hooks: &Hooks,
 ) -> Result<Option<u64>, NoMemory>
     requires hooks { AreServing (map (λ h. h.known) hooks.now.all.items) }
 {
-    play(alloc, game, unbroken, hooks)?;
-    if unbroken.status != Status::Done {
-        return Ok(Some(0));
-    }
     for n in 1..game.below {
-        if !goes_as(alloc, game, n, unbroken, hooks)? {
+        if !goes_as(alloc, game, plan, n, found, text, area, hooks)? {
             return Ok(Some(n));
         }
     }
     Ok(None)
 }
 
-/// The same of the play without a break.
-fn first_broken(alloc: Global, game: &Game, hooks: &Hooks) -> Result<Option<u64>, NoMemory>
+/// The same of each plan, with the plan's place.
+fn first_plan_apart(
+    alloc: Global,
+    game: &Game,
+    found: &mut Outcome,
+    text: &[u8],
+    area: &[u8],
+    hooks: &Hooks,
+) -> Result<Option<(usize, u64)>, NoMemory>
     requires hooks { AreServing (map (λ h. h.known) hooks.now.all.items) }
 {
-    let mut unbroken = Outcome::new(alloc);
-    let broken = first_other(alloc, game, &mut unbroken, hooks);
-    drop(unbroken);
-    broken
-}
-
-/// The place of the first play that goes on otherwise once it was saved, and after how many
-/// entries.
-pub fn first_wrong(alloc: Global, hooks: &Hooks) -> Result<Option<(usize, u64)>, NoMemory>
-    requires hooks { AreServing (map (λ h. h.known) hooks.now.all.items) }
-{
-    for (place, game) in GAMES.iter().enumerate() {
-        if let Some(n) = first_broken(alloc, game, hooks)? {
+    for (place, plan) in game.plans.iter().enumerate() {
+        if let Some(n) = first_apart(alloc, game, plan, found, text, area, hooks)? {
             return Ok(Some((place, n)));
         }
     }
     Ok(None)
 }
 
-/// A plan that starts `p`, which defers a part of its work.
-const PLAN: (&str, &[u8]) = ("x.plan", b"NWQ PLAN 1\nscript p\nstart 0 - p\n");
-
-const DEFERS: (&str, &[u8]) = (
-    "p.nss",
-    b"void main() { int n=1; DelayCommand(1000, PrintInteger(n)); n=2; PrintInteger(n); }",
-);
-
-const AREA: (&str, &[u8]) = ("a.git", GUARD);
-
-const LOOP: (&str, &[u8]) = ("p.nss", b"void main() { while (TRUE) {} }");
-
-const OLD: (&str, &[u8]) = ("s.nwq", b"an older state");
-
-const BEGUN: (&str, &[u8]) = ("s.nwq", b"NWQ");
-
-/// What a play is saved from in which `p` defers a part of its work, beside an older state.
-pub const SAVED: &[(&str, &[u8])] = &[PLAN, DEFERS, AREA, OLD];
-
-const FIRST: &str = "save - a.git x.plan 1 s.nwq";
-
-const NO_AREA: &[(&str, Held)] = &[
-    ("p.ncs", Held::Something),
-    ("s.nwq", Held::Something),
-    ("f.git", Held::Nothing),
-];
-
-const AN_AREA: &[(&str, Held)] = &[
-    ("p.ncs", Held::Something),
-    ("s.nwq", Held::Something),
-    ("f.git", Held::Something),
-];
-
-/// A play that was saved is resumed, and a call fails. That it is counted with those of the save,
-/// five of files and two puts, as the text is.
-const RESUMES: &[(Failing, u64, &str, &[(&str, Held)])] = &[
-    (
-        Failing::File(5),
-        2,
-        "0 #0 print 2\nsaved s.nwq entries 1\n",
-        NO_AREA,
-    ),
-    (
-        Failing::File(6),
-        3,
-        "0 #0 print 2\nsaved s.nwq entries 1\n1000 #0 print 1\n",
-        NO_AREA,
-    ),
-    (
-        Failing::Put(2),
-        3,
-        "0 #0 print 2\nsaved s.nwq entries 1\n",
-        NO_AREA,
-    ),
-    (
-        Failing::Put(3),
-        4,
-        "0 #0 print 2\nsaved s.nwq entries 1\n1000 #0 print 1\n",
-        AN_AREA,
-    ),
-];
-
-/// Whether a play that was saved and is resumed comes to what a row says.
-fn comes_back_in(
+fn do_lines(
     alloc: Global,
-    row: &Row,
+    lines: &[&str],
     found: &mut Outcome,
     hooks: &Hooks,
-) -> Result<bool, NoMemory>
+) -> Result<(), NoMemory>
     requires hooks { AreServing (map (λ h. h.known) hooks.now.all.items) }
 {
-    come(alloc, FIRST, row.before, row.failing, found, hooks)?;
-    if found.status != Status::Done {
-        return Ok(false);
+    for line in lines {
+        carry_on(alloc, line, found, hooks)?;
     }
-    carry_on(alloc, row.line, found, hooks)?;
-    Ok(is_as(found, row))
+    Ok(())
 }
 
-fn comes_back(alloc: Global, row: &Row, hooks: &Hooks) -> Result<bool, NoMemory>
+/// Plays the first plan without a break.
+fn play(alloc: Global, game: &Game, found: &mut Outcome, hooks: &Hooks) -> Result<(), NoMemory>
     requires hooks { AreServing (map (λ h. h.known) hooks.now.all.items) }
 {
-    let mut found = Outcome::new(alloc);
-    let comes = comes_back_in(alloc, row, &mut found, hooks);
-    drop(found);
-    comes
+    begin(alloc, game.base, game.own, found)?;
+    do_lines(alloc, game.lines, found, hooks)?;
+    found.out = MemSink::new(alloc);
+    let plan = game.plans.first().copied().unwrap_or("");
+    let line = format!(in alloc; "play {} {plan} f.git {}", game.given, game.tables)?;
+    carry_on(alloc, &line, found, hooks)
 }
 
-/// The place of the first call of `resume` that fails otherwise, if there is one.
-pub fn first_cut(alloc: Global, hooks: &Hooks) -> Result<Option<usize>, NoMemory>
+/// Whether the play is done and prints what is told.
+fn is_played(found: &Outcome, game: &Game) -> bool {
+    let is_text = match game.text {
+        None => true,
+        Some(text) => found.out.bytes() == text.as_bytes(),
+    };
+    found.status == Status::Done && is_text
+}
+
+/// The place of the plan of a game, and after how many entries its saved play goes on otherwise
+/// than the unbroken one, if it does so anywhere; 0 where the unbroken one is another already.
+fn first_other(
+    alloc: Global,
+    game: &Game,
+    found: &mut Outcome,
+    hooks: &Hooks,
+) -> Result<Option<(usize, u64)>, NoMemory>
     requires hooks { AreServing (map (λ h. h.known) hooks.now.all.items) }
 {
-    for (place, (failing, puts, text, after)) in RESUMES.iter().enumerate() {
-        let row = Row {
-            line: "resume s.nwq f.git",
-            before: SAVED,
-            failing: *failing,
-            status: Status::Fault,
-            puts: Some(*puts),
-            text,
-            after,
-        };
-        if !comes_back(alloc, &row, hooks)? {
-            return Ok(Some(place));
+    play(alloc, game, found, hooks)?;
+    if !is_played(found, game) {
+        return Ok(Some((0, 0)));
+    }
+    let text = Vec::from_slice(alloc, found.out.bytes())?;
+    let area = Vec::from_slice(alloc, found.files.get("f.git").unwrap_or(b""))?;
+    first_plan_apart(alloc, game, found, text.as_slice(), area.as_slice(), hooks)
+}
+
+/// The places of the first game and of its plan whose play goes on otherwise once it was saved, and
+/// after how many entries.
+pub fn first_broken(
+    alloc: Global,
+    games: &[Game],
+    found: &mut Outcome,
+    hooks: &Hooks,
+) -> Result<Option<(usize, usize, u64)>, NoMemory>
+    requires hooks { AreServing (map (λ h. h.known) hooks.now.all.items) }
+{
+    for (place, game) in games.iter().enumerate() {
+        if let Some((plan, n)) = first_other(alloc, game, found, hooks)? {
+            return Ok(Some((place, plan, n)));
         }
     }
     Ok(None)
 }
 
+/// A plan that starts `p`, which defers a part of its work.
+const PLAN: Named = (
+    "x.plan",
+    Held::Bytes(b"NWQ PLAN 1\nscript p\nstart 0 - p\n"),
+);
+
+const DEFERS: Named = (
+    "p.nss",
+    Held::Bytes(
+        b"void main() { int n=1; DelayCommand(1000, PrintInteger(n)); n=2; PrintInteger(n); }",
+    ),
+);
+
+const AREA: Named = ("a.git", Held::Of(Sample::Guard));
+
+const LOOP: Named = ("p.nss", Held::Bytes(b"void main() { while (TRUE) {} }"));
+
+const OLD: Named = ("s.nwq", Held::Bytes(b"an older state"));
+
+const BEGUN: Named = ("s.nwq", Held::Bytes(b"NWQ"));
+
+/// What a play is saved from in which `p` defers a part of its work, beside an older state.
+pub const SAVED: &[Named] = &[PLAN, DEFERS, AREA, OLD];
+
+const NO_AREA: &[Named] = &[
+    ("p.ncs", Held::Something),
+    ("s.nwq", Held::Something),
+    ("f.git", Held::Nothing),
+];
+
+const AN_AREA: &[Named] = &[
+    ("p.ncs", Held::Something),
+    ("s.nwq", Held::Something),
+    ("f.git", Held::Something),
+];
+
+/// A play is saved after its first entry.
+const FIRST: Row = Row {
+    line: "save - a.git x.plan 1 s.nwq",
+    base: Base::Saved,
+    puts: Some(2),
+    text: "0 #0 print 2\nsaved s.nwq entries 1\n",
+    after: &[("s.nwq", Held::Something), ("p.ncs", Held::Something)],
+    ..PLAIN
+};
+
+/// A play that was saved is resumed, and a call fails. A call of files is counted with those of the
+/// save, which are five.
+macro_rules! cut {
+    ($failing:expr, $puts:expr, $text:expr, $after:expr) => {
+        Row {
+            line: "resume s.nwq f.git",
+            base: Base::Saved,
+            left: true,
+            failing: $failing,
+            status: Status::Fault,
+            puts: Some($puts),
+            text: $text,
+            after: $after,
+            ..PLAIN
+        }
+    };
+}
+
+/// Each call of `resume` that fails, after a save.
+pub const RESUMES: &[Row] = &[
+    FIRST,
+    cut!(Failing::File(5), 0, "", NO_AREA),
+    FIRST,
+    cut!(Failing::File(6), 1, "1000 #0 print 1\n", NO_AREA),
+    FIRST,
+    cut!(Failing::Put(0), 1, "", NO_AREA),
+    FIRST,
+    cut!(Failing::Put(1), 2, "1000 #0 print 1\n", AN_AREA),
+];
+
 /// Saves and resumed plays, each by itself.
 pub const ROWS: &[Row] = &[
-    Row {
-        line: "save - a.git x.plan 1 s.nwq",
-        before: SAVED,
-        failing: Failing::Nothing,
-        status: Status::Done,
-        puts: Some(2),
-        text: "0 #0 print 2\nsaved s.nwq entries 1\n",
-        after: &[("s.nwq", Held::Something), ("p.ncs", Held::Something)],
-    },
+    FIRST,
     // No further entry is due.
     Row {
         line: "save - a.git x.plan 1000000 s.nwq",
-        before: SAVED,
-        failing: Failing::Nothing,
-        status: Status::Done,
+        base: Base::Saved,
         puts: Some(3),
         text: "0 #0 print 2\n1000 #0 print 1\nsaved s.nwq entries 2\n",
         after: &[("s.nwq", Held::Something), ("p.ncs", Held::Something)],
+        ..PLAIN
     },
     // Where an entry is stopped no state is written.
     Row {
         line: "save - a.git x.plan 1 s.nwq",
-        before: &[PLAN, LOOP, AREA, OLD],
-        failing: Failing::Nothing,
+        own: &[PLAN, LOOP, AREA, OLD],
         status: Status::Limit,
-        puts: None,
         text: "end instructions clock 0 entries 1 instructions 131072\n",
         after: &[("p.ncs", Held::Something)],
+        ..PLAIN
     },
     Row {
         line: "save - a.git x.plan 1 s.nwq",
-        before: &[PLAN, AREA, OLD],
-        failing: Failing::Nothing,
+        own: &[PLAN, AREA, OLD],
         status: Status::Missing,
-        puts: None,
         text: "missing p.nss\n",
-        after: &[],
+        ..PLAIN
     },
     // The reads of plan, script and area are the first three calls, the file of the script is
     // written before the area is read, and the state comes last.
     Row {
         line: "save - a.git x.plan 1 s.nwq",
-        before: SAVED,
+        base: Base::Saved,
         failing: Failing::File(4),
         status: Status::Fault,
-        puts: None,
         text: "0 #0 print 2\n",
         after: &[("p.ncs", Held::Something)],
+        ..PLAIN
     },
     Row {
         line: "save - a.git x.plan 1 s.nwq",
-        before: SAVED,
+        base: Base::Saved,
         failing: Failing::Put(0),
         status: Status::Fault,
-        puts: None,
-        text: "",
         after: &[("p.ncs", Held::Something)],
+        ..PLAIN
     },
     Row {
         line: "save - a.git x.plan 0 s.nwq",
-        before: &[PLAN, DEFERS, AREA],
-        failing: Failing::Nothing,
+        own: &[PLAN, DEFERS, AREA],
         status: Status::Words,
-        puts: None,
         text: "refused words\n",
-        after: &[],
+        ..PLAIN
     },
     Row {
         line: "resume s.nwq f.git",
-        before: &[BEGUN],
-        failing: Failing::Nothing,
+        own: &[BEGUN],
         status: Status::Area,
-        puts: None,
         text: "refused s.nwq state 0\n",
         after: &[("f.git", Held::Nothing)],
+        ..PLAIN
     },
     Row {
         line: "resume s.nwq f.git",
-        before: &[],
-        failing: Failing::Nothing,
         status: Status::Missing,
-        puts: None,
         text: "missing s.nwq\n",
         after: &[("f.git", Held::Nothing)],
+        ..PLAIN
     },
     Row {
         line: "resume s.nwq f.git",
-        before: &[BEGUN],
+        own: &[BEGUN],
         failing: Failing::File(0),
         status: Status::Fault,
-        puts: None,
-        text: "",
         after: &[("f.git", Held::Nothing)],
+        ..PLAIN
     },
 ];

@@ -1,21 +1,44 @@
 //! Scripts: what `run` plays and `compile` makes of them, and how both refuse them.
 
-ghost use Rattle.std.specs.Prelude.{map};
-ghost use Rattle.world_core.specs.Calls.{AreServing};
-
-use crate::answers::{Failing, Held, Outcome, Row, come, comes};
-use crate::samples::{FIRST_SUM, NOTHING, SUM, repeated};
-use hook_table::Hooks;
+use crate::answers::{Failing, Held, Named, PLAIN, Row};
+use crate::bases::Base;
+use crate::samples::Sample;
 use nwq_top::Status;
-use nwq_value::NoMemory;
-use std::alloc::Global;
 
 /// What scripts may include, beside themselves.
-const INCLUDES: [(&str, &[u8]); 3] = [
-    ("none.nss", b"// nothing\n"),
-    ("head.nss", b"int a;\nint 5;"),
-    ("front.nss", b"void main()"),
+pub const INCLUDES: &[Named] = &[
+    ("none.nss", Held::Bytes(b"// nothing\n")),
+    ("head.nss", Held::Bytes(b"int a;\nint 5;")),
+    ("front.nss", Held::Bytes(b"void main()")),
 ];
+
+/// A script is run, and nothing is written.
+pub const PLAYED: Row = Row {
+    line: "run - p",
+    base: Base::Includes,
+    after: &[("p.ncs", Held::Nothing)],
+    ..PLAIN
+};
+
+/// The same of a script alone, whose last line isn't asked.
+pub const TRACED: Row = Row {
+    line: "run - p",
+    whole: false,
+    ..PLAIN
+};
+
+/// A script is refused with one line, and nothing is written.
+pub const REFUSED_RUN: Row = Row {
+    status: Status::Script,
+    puts: Some(1),
+    ..PLAYED
+};
+
+/// The same of `compile`.
+pub const REFUSED_COMPILE: Row = Row {
+    line: "compile - p",
+    ..REFUSED_RUN
+};
 
 /// Scripts and all that `run - p` prints, where the play is done.
 pub const PLAYS: &[(&str, &str)] = &[
@@ -269,288 +292,160 @@ pub const REFUSED: &[(&str, &str)] = &[
 ];
 
 /// A script that prints 5.
-const FIVE: &str = "void main() { PrintInteger(2+3); }";
+const FIVE: &[u8] = b"void main() { PrintInteger(2+3); }";
 
-/// Headers with scripts, and what comes of `run h.nss p`.
-pub const HEADERS: &[(&str, &str, Status, &str)] = &[
-    (
-        "void PrintInteger(int n);",
+/// A script that is run under a header.
+macro_rules! under {
+    ($header:expr, $script:expr, $status:expr, $text:expr) => {
+        Row {
+            line: "run h.nss p",
+            own: &[
+                ("p.nss", Held::Bytes($script)),
+                ("h.nss", Held::Bytes($header)),
+            ],
+            status: $status,
+            text: $text,
+            after: &[("p.ncs", Held::Nothing)],
+            ..PLAIN
+        }
+    };
+}
+
+/// Headers with scripts.
+pub const HEADERS: &[Row] = &[
+    under!(
+        b"void PrintInteger(int n);",
         FIVE,
         Status::Done,
-        "0 #0 print 5\nend done clock 0 entries 1 instructions 7\n",
+        "0 #0 print 5\nend done clock 0 entries 1 instructions 7\n"
     ),
-    (
-        "// twice\nint A();\nvoid PrintInteger(int);\nint B();",
+    under!(
+        b"// twice\nint A();\nvoid PrintInteger(int);\nint B();",
         FIVE,
         Status::Done,
-        "0 #0 print 5\nend done clock 0 entries 1 instructions 7\n",
+        "0 #0 print 5\nend done clock 0 entries 1 instructions 7\n"
     ),
-    (
-        "float Cos(float f); vector V(float x=0.0, float y=0.0);\nvoid PrintInteger(int n);",
+    under!(
+        b"float Cos(float f); vector V(float x=0.0, float y=0.0);\nvoid PrintInteger(int n);",
         FIVE,
         Status::Done,
-        "0 #0 print 5\nend done clock 0 entries 1 instructions 7\n",
+        "0 #0 print 5\nend done clock 0 entries 1 instructions 7\n"
     ),
-    (
-        "int PrintInteger(int n);",
+    under!(
+        b"int PrintInteger(int n);",
         FIVE,
         Status::Done,
-        "0 #0 call PrintInteger(5)\nend done clock 0 entries 1 instructions 8\n",
+        "0 #0 call PrintInteger(5)\nend done clock 0 entries 1 instructions 8\n"
     ),
-    (
-        "int A(); int A();",
+    under!(
+        b"int A(); int A();",
         FIVE,
         Status::Script,
-        "refused h.nss 1 13 twice\n",
+        "refused h.nss 1 13 twice\n"
     ),
-    (
-        "int A();\nint B()",
+    under!(
+        b"int A();\nint B()",
         FIVE,
         Status::Script,
-        "refused h.nss 2 16 header\n",
+        "refused h.nss 2 16 header\n"
     ),
-    (
-        "int A();\n\"",
+    under!(
+        b"int A();\n\"",
         FIVE,
         Status::Script,
-        "refused h.nss 2 9 bad\n",
+        "refused h.nss 2 9 bad\n"
     ),
-    ("", FIVE, Status::Script, "refused p.nss 1 14 unknown\n"),
+    under!(b"", FIVE, Status::Script, "refused p.nss 1 14 unknown\n"),
     // A header is refused before a script is.
-    (
-        "int A()",
-        "#include foo",
+    under!(
+        b"int A()",
+        b"#include foo",
         Status::Script,
-        "refused h.nss 1 7 header\n",
+        "refused h.nss 1 7 header\n"
     ),
 ];
 
-/// The place of the first script whose play is another, if there is one.
-pub fn first_played(
-    alloc: Global,
-    rows: &[(&str, &str)],
-    hooks: &Hooks,
-) -> Result<Option<usize>, NoMemory>
-    requires hooks { AreServing (map (λ h. h.known) hooks.now.all.items) }
-{
-    let [none, head, front] = INCLUDES;
-    for (place, (source, text)) in rows.iter().enumerate() {
-        let row = Row {
+/// A script of a front, so many of a byte, and a rest, which is run.
+macro_rules! sized {
+    ($front:expr, $byte:expr, $count:expr, $rest:expr, $status:expr, $text:expr) => {
+        Row {
             line: "run - p",
-            before: &[("p.nss", source.as_bytes()), none, head, front],
-            failing: Failing::Nothing,
-            status: Status::Done,
-            puts: None,
-            text,
-            after: &[("p.ncs", Held::Nothing)],
-        };
-        if !comes(alloc, &row, hooks)? {
-            return Ok(Some(place));
+            own: &[("p.nss", Held::Repeated(&[$front], $byte, $count, $rest))],
+            status: $status,
+            puts: Some(1),
+            text: $text,
+            ..PLAIN
         }
-    }
-    Ok(None)
-}
-
-/// Whether a text is these lines and an end.
-fn is_traced(text: &[u8], lines: &str) -> bool {
-    match text.strip_prefix(lines.as_bytes()) {
-        None => false,
-        Some(rest) => rest.starts_with(b"end done "),
-    }
-}
-
-/// Whether the play of a script is done, and its trace is these lines.
-fn traces(alloc: Global, source: &str, lines: &str, hooks: &Hooks) -> Result<bool, NoMemory>
-    requires hooks { AreServing (map (λ h. h.known) hooks.now.all.items) }
-{
-    let mut found = Outcome::new(alloc);
-    let before = [("p.nss", source.as_bytes())];
-    let done = come(
-        alloc,
-        "run - p",
-        &before,
-        Failing::Nothing,
-        &mut found,
-        hooks,
-    );
-    let is = found.status == Status::Done && is_traced(found.out.bytes(), lines);
-    drop(found);
-    match done {
-        Ok(()) => Ok(is),
-        Err(NoMemory) => Err(NoMemory),
-    }
-}
-
-/// The place of the first script whose trace is another, if there is one.
-pub fn first_traced(
-    alloc: Global,
-    rows: &[(&str, &str)],
-    hooks: &Hooks,
-) -> Result<Option<usize>, NoMemory>
-    requires hooks { AreServing (map (λ h. h.known) hooks.now.all.items) }
-{
-    for (place, (source, lines)) in rows.iter().enumerate() {
-        if !traces(alloc, source, lines, hooks)? {
-            return Ok(Some(place));
-        }
-    }
-    Ok(None)
-}
-
-/// Whether these words refuse this script with this line, which is all, and write nothing.
-fn is_refused(
-    alloc: Global,
-    line: &str,
-    source: &str,
-    text: &str,
-    hooks: &Hooks,
-) -> Result<bool, NoMemory>
-    requires hooks { AreServing (map (λ h. h.known) hooks.now.all.items) }
-{
-    let [none, head, front] = INCLUDES;
-    let row = Row {
-        line,
-        before: &[("p.nss", source.as_bytes()), none, head, front],
-        failing: Failing::Nothing,
-        status: Status::Script,
-        puts: Some(1),
-        text,
-        after: &[("p.ncs", Held::Nothing)],
     };
-    comes(alloc, &row, hooks)
 }
 
-/// The place of the first script that `run` or `compile` refuses otherwise, if there is one.
-pub fn first_refused(
-    alloc: Global,
-    rows: &[(&str, &str)],
-    hooks: &Hooks,
-) -> Result<Option<usize>, NoMemory>
-    requires hooks { AreServing (map (λ h. h.known) hooks.now.all.items) }
-{
-    for (place, (source, text)) in rows.iter().enumerate() {
-        if !is_refused(alloc, "run - p", source, text, hooks)?
-            || !is_refused(alloc, "compile - p", source, text, hooks)?
-        {
-            return Ok(Some(place));
-        }
-    }
-    Ok(None)
-}
-
-/// The place of the first header under which something else comes, if there is one.
-pub fn first_under(
-    alloc: Global,
-    rows: &[(&str, &str, Status, &str)],
-    hooks: &Hooks,
-) -> Result<Option<usize>, NoMemory>
-    requires hooks { AreServing (map (λ h. h.known) hooks.now.all.items) }
-{
-    for (place, (header, script, status, text)) in rows.iter().enumerate() {
-        let row = Row {
-            line: "run h.nss p",
-            before: &[("p.nss", script.as_bytes()), ("h.nss", header.as_bytes())],
-            failing: Failing::Nothing,
-            status: *status,
-            puts: None,
-            text,
-            after: &[("p.ncs", Held::Nothing)],
-        };
-        if !comes(alloc, &row, hooks)? {
-            return Ok(Some(place));
-        }
-    }
-    Ok(None)
-}
-
-/// Scripts at a limit of units: a front, so many of a byte, a rest, and what `run - p` prints.
-const SIZES: &[(&[u8], u8, usize, &[u8], Status, &str)] = &[
-    (
+/// Scripts at a limit of units.
+pub const SIZES: &[Row] = &[
+    sized!(
         b"",
         b'(',
         257,
         b"",
         Status::Script,
-        "refused p.nss 1 256 nested\n",
+        "refused p.nss 1 256 nested\n"
     ),
     // It comes before syntax, also where that fault stands before it.
-    (
+    sized!(
         b"5 ",
         b'(',
         257,
         b"",
         Status::Script,
-        "refused p.nss 1 258 nested\n",
+        "refused p.nss 1 258 nested\n"
     ),
-    (
+    sized!(
         b"void main() {",
         b'~',
         255,
         b"1; }",
         Status::Done,
-        "end done clock 0 entries 1 instructions 260\n",
+        "end done clock 0 entries 1 instructions 260\n"
     ),
-    (
+    sized!(
         b"void main() {",
         b'~',
         256,
         b"1; }",
         Status::Script,
-        "refused p.nss 1 268 nested\n",
+        "refused p.nss 1 268 nested\n"
     ),
-    (
+    sized!(
         b"void main() { PrintInteger(",
         b'(',
         255,
         b"1",
         Status::Script,
-        "refused p.nss 1 281 nested\n",
+        "refused p.nss 1 281 nested\n"
     ),
-    (
+    sized!(
         b"void main() {",
         b';',
         99_994,
         b"}",
         Status::Done,
-        "end done clock 0 entries 1 instructions 3\n",
+        "end done clock 0 entries 1 instructions 3\n"
     ),
-    (
+    sized!(
         b"void main() {",
         b';',
         99_995,
         b"}",
         Status::Script,
-        "refused p.nss 1 100008 tokens\n",
+        "refused p.nss 1 100008 tokens\n"
     ),
 ];
 
-/// The place of the first script of some size of which something else comes, if there is one.
-pub fn first_sized(alloc: Global, hooks: &Hooks) -> Result<Option<usize>, NoMemory>
-    requires hooks { AreServing (map (λ h. h.known) hooks.now.all.items) }
-{
-    for (place, (front, byte, count, rest, status, text)) in SIZES.iter().enumerate() {
-        let source = repeated(alloc, front, *byte, *count, rest)?;
-        let row = Row {
-            line: "run - p",
-            before: &[("p.nss", source.as_slice())],
-            failing: Failing::Nothing,
-            status: *status,
-            puts: Some(1),
-            text,
-            after: &[],
-        };
-        if !comes(alloc, &row, hooks)? {
-            return Ok(Some(place));
-        }
-    }
-    Ok(None)
-}
-
 /// The example `examples/module`.
-const MODULE: &[(&str, &[u8])] = &[
+pub const MODULE: &[Named] = &[
     (
         "greet.nss",
-        b"\
+        Held::Bytes(
+            b"\
 // A greeting at once, and a second one two seconds later. The include has the functions.
 #include \"inc_lines\"
 
@@ -563,10 +458,12 @@ void main()
     nGoblins = 0;    // too late: the delayed call keeps the 3
 }
 ",
+        ),
     ),
     (
         "inc_lines.nss",
-        b"\
+        Held::Bytes(
+            b"\
 // Lines for scripts of this module.
 
 // \"1 goblin\", \"3 goblins\"
@@ -581,6 +478,7 @@ void Greet(string sWho)
     SpeakString(\"Well met, \" + sWho + \"!\");
 }
 ",
+        ),
     ),
 ];
 
@@ -588,47 +486,47 @@ void Greet(string sWho)
 pub const ENDED_AND_COMPILED: &[Row] = &[
     Row {
         line: "run - p",
-        before: &[("p.nss", b"void main() { while(TRUE) {} }")],
-        failing: Failing::Nothing,
+        own: &[("p.nss", Held::Bytes(b"void main() { while(TRUE) {} }"))],
         status: Status::Limit,
         puts: Some(1),
         text: "end instructions clock 0 entries 1 instructions 131072\n",
-        after: &[],
+        ..PLAIN
     },
     Row {
         line: "run - p",
-        before: &[(
+        own: &[(
             "p.nss",
-            b"void main() { PrintInteger(1); DelayCommand(7, PrintInteger(2)); while(TRUE) {} }",
+            Held::Bytes(
+                b"void main() { PrintInteger(1); DelayCommand(7, PrintInteger(2)); \
+                    while(TRUE) {} }",
+            ),
         )],
-        failing: Failing::Nothing,
         status: Status::Limit,
         puts: Some(2),
         text: "0 #0 print 1\ndue 7 1 stored #0 p\n\
             end instructions clock 0 entries 1 instructions 131072\n",
-        after: &[],
+        ..PLAIN
     },
     Row {
         line: "run h.nss p",
-        before: &[
+        own: &[
             (
                 "h.nss",
-                b"int GetFoo(string s, int n=3); void PrintInteger(int n);",
+                Held::Bytes(b"int GetFoo(string s, int n=3); void PrintInteger(int n);"),
             ),
-            ("p.nss", b"void main() { PrintInteger(GetFoo(\"a b\")); }"),
+            (
+                "p.nss",
+                Held::Bytes(b"void main() { PrintInteger(GetFoo(\"a b\")); }"),
+            ),
         ],
-        failing: Failing::Nothing,
-        status: Status::Done,
         puts: Some(2),
         text: "0 #0 call GetFoo(\"a b\",3)\n0 #0 print 0\n\
             end done clock 0 entries 1 instructions 7\n",
-        after: &[],
+        ..PLAIN
     },
     Row {
         line: "run - greet",
-        before: MODULE,
-        failing: Failing::Nothing,
-        status: Status::Done,
+        base: Base::Module,
         puts: Some(3),
         text: "\
 0 #0 speak Well met, 1 goblin!
@@ -636,64 +534,61 @@ pub const ENDED_AND_COMPILED: &[Row] = &[
 end done clock 2000 entries 2 instructions 71
 ",
         after: &[("greet.ncs", Held::Nothing)],
+        ..PLAIN
     },
     Row {
         line: "compile - p",
-        before: &[("p.nss", b"void main() {}")],
-        failing: Failing::Nothing,
-        status: Status::Done,
+        own: &[("p.nss", Held::Bytes(b"void main() {}"))],
         puts: Some(1),
         text: "compiled p.ncs 23\n",
-        after: &[("p.ncs", Held::Bytes(NOTHING))],
+        after: &[("p.ncs", Held::Of(Sample::Nothing))],
+        ..PLAIN
     },
     Row {
         line: "compile - p",
-        before: &[("p.nss", b"void main() { PrintInteger(2+3); }")],
-        failing: Failing::Nothing,
-        status: Status::Done,
+        own: &[("p.nss", Held::Bytes(b"void main() { PrintInteger(2+3); }"))],
         puts: Some(1),
         text: "compiled p.ncs 42\n",
-        after: &[("p.ncs", Held::Bytes(SUM))],
+        after: &[("p.ncs", Held::Of(Sample::Sum))],
+        ..PLAIN
     },
     Row {
         line: "compile h.nss p",
-        before: &[
-            ("h.nss", b"void PrintInteger(int n);"),
-            ("p.nss", b"void main() { PrintInteger(2+3); }"),
+        own: &[
+            ("h.nss", Held::Bytes(b"void PrintInteger(int n);")),
+            ("p.nss", Held::Bytes(b"void main() { PrintInteger(2+3); }")),
         ],
-        failing: Failing::Nothing,
-        status: Status::Done,
         puts: Some(1),
         text: "compiled p.ncs 42\n",
-        after: &[("p.ncs", Held::Bytes(FIRST_SUM))],
+        after: &[("p.ncs", Held::Of(Sample::FirstSum))],
+        ..PLAIN
     },
     // An include that isn't there, and one that can't be read.
     Row {
         line: "run - p",
-        before: &[("p.nss", b"#include \"nope\"\nvoid main() {}")],
-        failing: Failing::Nothing,
+        own: &[("p.nss", Held::Bytes(b"#include \"nope\"\nvoid main() {}"))],
         status: Status::Missing,
         puts: Some(1),
         text: "missing nope.nss\n",
-        after: &[],
+        ..PLAIN
     },
     Row {
         line: "run - p",
-        before: &[
-            ("p.nss", b"#include \"inc\"\nvoid main() {}"),
-            ("inc.nss", b""),
+        own: &[
+            ("p.nss", Held::Bytes(b"#include \"inc\"\nvoid main() {}")),
+            ("inc.nss", Held::Bytes(b"")),
         ],
         failing: Failing::File(1),
         status: Status::Fault,
         puts: Some(0),
-        text: "",
-        after: &[],
+        ..PLAIN
     },
     Row {
         line: "compile - p",
-        before: &[("p.nss", b"void main() { PrintObject(OBJECT_INVALID); }")],
-        failing: Failing::Nothing,
-        status: Status::Done,
+        own: &[(
+            "p.nss",
+            Held::Bytes(b"void main() { PrintObject(OBJECT_INVALID); }"),
+        )],
         puts: Some(1),
         text: "compiled p.ncs 34\n",
         after: &[(
@@ -703,5 +598,6 @@ end done clock 2000 entries 2 instructions 71
                     \x01\x05\x00\x00\x05\x01\x20\x00",
             ),
         )],
+        ..PLAIN
     },
 ];

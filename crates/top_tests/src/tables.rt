@@ -108,13 +108,6 @@ fn is_as(found: &Result<Text, Status>, want: &Result<&[u8], Status>) -> bool {
     }
 }
 
-fn let_fail(files: &mut MemFiles, call: Option<u64>) -> Result<(), NoMemory> {
-    match call {
-        None => Ok(()),
-        Some(number) => files.fail_at(number),
-    }
-}
-
 /// Whether what is to come of a row does.
 fn comes(alloc: Global, row: &Given) -> Result<bool, NoMemory> {
     let (list, listing, table, call, want, text) = row;
@@ -122,23 +115,17 @@ fn comes(alloc: Global, row: &Given) -> Result<bool, NoMemory> {
     let mut out = MemSink::new(alloc);
     files.add("t.txt", listing)?;
     files.add("x.2da", table)?;
-    let_fail(&mut files, *call)?;
+    if let Some(number) = call {
+        files.fail_at(*number)?;
+    }
     let found = cell_of(alloc, *list, &mut files, &mut out);
     Ok(is_as(&found, want) && out.bytes() == *text)
 }
 
-/// The place of the first row of which something else comes, if there is one.
-fn first_wrong(alloc: Global) -> Result<Option<usize>, NoMemory> {
-    for (place, row) in ROWS.iter().enumerate() {
-        if !comes(alloc, row)? {
-            return Ok(Some(place));
-        }
-    }
-    Ok(None)
-}
-
 #[test]
 fn tables(rt: HostRuntime) -> Result<(), Fail> {
-    assert_eq!(rt; first_wrong(rt.alloc())?, None);
+    for (place, row) in ROWS.iter().enumerate() {
+        assert!(rt; comes(rt.alloc(), row)?, "row {place}");
+    }
     Ok(())
 }

@@ -1,15 +1,22 @@
 //! Words that are no form of a command.
 
-ghost use Rattle.std.specs.Prelude.{map};
-ghost use Rattle.world_core.specs.Calls.{AreServing};
-
-use crate::answers::{Failing, Held, Row, comes};
-use hook_table::Hooks;
+use crate::answers::{Held, PLAIN, Row};
 use nwq_top::Status;
-use nwq_value::NoMemory;
-use std::alloc::Global;
 
-const LINES: &[&str] = &[
+/// Words are refused, and nothing is written.
+pub const REFUSED: Row = Row {
+    own: &[
+        ("p.nss", Held::Bytes(b"void main() {}")),
+        ("in", Held::Bytes(b"")),
+    ],
+    status: Status::Words,
+    puts: Some(1),
+    text: "refused words\n",
+    after: &[("out", Held::Nothing), ("p.ncs", Held::Nothing)],
+    ..PLAIN
+};
+
+pub const LINES: &[&str] = &[
     "",
     "run",
     "run -",
@@ -39,24 +46,3 @@ const LINES: &[&str] = &[
     "generate 1 2",
     "generate -1",
 ];
-
-/// The place of the first words of which something else comes than that they are refused.
-pub fn first_answered(alloc: Global, hooks: &Hooks) -> Result<Option<usize>, NoMemory>
-    requires hooks { AreServing (map (λ h. h.known) hooks.now.all.items) }
-{
-    for (place, line) in LINES.iter().enumerate() {
-        let row = Row {
-            line,
-            before: &[("p.nss", b"void main() {}"), ("in", b"")],
-            failing: Failing::Nothing,
-            status: Status::Words,
-            puts: Some(1),
-            text: "refused words\n",
-            after: &[("out", Held::Nothing), ("p.ncs", Held::Nothing)],
-        };
-        if !comes(alloc, &row, hooks)? {
-            return Ok(Some(place));
-        }
-    }
-    Ok(None)
-}
