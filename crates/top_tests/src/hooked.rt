@@ -21,14 +21,27 @@ use std::process::Abort;
 use std::test::Fail;
 use table_2da::Tables;
 
-/// Scripts that `run` and `compile` take.
-fn of_scripts() -> [Table<'static>; 9] {
+/// Scripts that are run.
+fn of_runs() -> [Table<'static>; 3] {
     [
         Table::Sources(scripts::PLAYED, scripts::PLAYS),
         Table::Sources(scripts::TRACED, scripts::TRACES),
         Table::Sources(scripts::TRACED, profile::SCRIPTS),
-        Table::Sources(scripts::REFUSED_RUN, scripts::REFUSED),
-        Table::Sources(scripts::REFUSED_COMPILE, scripts::REFUSED),
+    ]
+}
+
+/// Scripts that `run` and `compile` refuse.
+fn of_refusals() -> [Table<'static>; 2] {
+    let sources = scripts::REFUSED;
+    [
+        Table::Sources(scripts::REFUSED_RUN, sources),
+        Table::Sources(scripts::REFUSED_COMPILE, sources),
+    ]
+}
+
+/// Scripts under headers, of some size, compiled, and over what was left.
+fn of_scripts() -> [Table<'static>; 4] {
+    [
         Table::Rows(scripts::HEADERS),
         Table::Rows(scripts::SIZES),
         Table::Rows(scripts::ENDED_AND_COMPILED),
@@ -115,6 +128,8 @@ fn tables_hold(
 fn rows_hold(alloc: Global, rt: &impl Abort, found: &mut Outcome, hooks: &Hooks) -> Result<(), Fail>
     requires hooks { AreServing (map (λ h. h.known) hooks.now.all.items) }
 {
+    tables_hold(alloc, rt, "runs", &of_runs(), found, hooks)?;
+    tables_hold(alloc, rt, "refusals", &of_refusals(), found, hooks)?;
     tables_hold(alloc, rt, "scripts", &of_scripts(), found, hooks)?;
     tables_hold(alloc, rt, "files", &of_files(), found, hooks)?;
     tables_hold(alloc, rt, "games", &of_games(), found, hooks)?;
