@@ -1,10 +1,10 @@
 -- There are no more objects in an area than structs in its tree.
-use Rattle.std.proofs.Common.{◌≡◌, ◌≤◌, ◌<◌, ◌+◌, ℕ, Bool, true, false, cond, List, [], ◌∷◌, ◌++◌, length, map, length-append, Some, refl, ap, subst, arith}
+use Rattle.std.proofs.Common.{◌≡◌, ◌≤◌, ◌<◌, ◌+◌, ℕ, Bool, true, false, cond, List, [], ◌∷◌, length, map, length-append, Some, refl, ap, subst, arith}
 use Rattle.std.specs.Str.{bytes_eq}
 use Rattle.std.proofs.lemmas.List.{length-map}
 use Rattle.std.proofs.lemmas.Slice.Eq.{bytes_eq-Decides}
 use Rattle.gff_tree.specs.Tree.{PlainNode, PlainFields, PlainField, Struct, NoField, MoreFields, fields_in}
-use Rattle.gff_tree.specs.Fields.{fields_of, found}
+use Rattle.gff_tree.specs.Fields.{found}
 use Rattle.gff_tree.specs.Count.{node_count, fields_count, leaf_count}
 use Rattle.area_rules.specs.Objects.{list_labels, structs_in, object_of, objects_under, objects_of}
 use Rattle.area_tree.specs.Reading.{leaves_count}

@@ -1,5 +1,5 @@
 -- The trees that the tests make are small.
-use Rattle.std.proofs.Common.{◌≤◌, ℕ, List, length, ◌∙◌, sym, subst}
+use Rattle.std.proofs.Common.{◌≤◌, List, length, ◌∙◌, sym, subst}
 use Rattle.std.proofs.lemmas.List.{length-map}
 use Rattle.nwq_value.specs.Limits.{token_limit}
 use Rattle.nss_lexer.specs.declared.token.Token.{Token}

@@ -7,7 +7,7 @@ use Rattle.nss_tree.specs.declared.statements.DeclaredName.{DeclaredName}
 use Rattle.nss_tree.specs.declared.statements.Stmt.{Stmt}
 use Rattle.nss_tree.specs.Reading.{tree_of_stmt, tree_of_stmts}
 use Rattle.nss_tree.specs.Statements as s
-use Rattle.nss_tree.specs.Statements.{PlainStmt, map_stmt, map_stmts}
+use Rattle.nss_tree.specs.Statements.{map_stmt}
 use Rattle.nwq_value.specs.declared.value.Ty.{Ty}
 use Rattle.nwq_value.specs.declared.engine.Const.{Const}
 use Rattle.ncs_emit.specs.Labelled.{LabelledCode}

@@ -1,13 +1,13 @@
 -- One thing comes of a script that is typed and compiled.
-use Rattle.std.proofs.Common.{◌≡◌, ℕ, Bool, true, false, List, length, None, Some, refl, sym, ap, ◌∙◌}
+use Rattle.std.proofs.Common.{◌≡◌, ℕ, Bool, true, false, List, length, None, Some, sym, ap, ◌∙◌}
 use Rattle.std.specs.Prelude.{nat_lt}
 use Rattle.nwq_value.specs.Limits.{file_limit}
 use Rattle.nwq_value.specs.Engine.{EngineTable}
 use Rattle.nss_tree.specs.Source.{SourceTree}
 use Rattle.typing_rules.specs.declared.fault.Fault.{Fault}
-use Rattle.typing_rules.specs.Nodes.{kept, IsLeast}
+use Rattle.typing_rules.specs.Nodes.{kept}
 use Rattle.typing_rules.specs.Typed.{TypedUnit}
-use Rattle.typing_rules.specs.Meaning.{TypesUnit, FaultInUnit}
+use Rattle.typing_rules.specs.Meaning.{TypesUnit}
 use Rattle.typing_rules.specs.Verdicts.{unit_faults}
 use Rattle.typing_rules.specs.Laws.{OneTyped, TypedIsFaultless, LeastIsKept}
 use Rattle.nss_include.specs.declared.file.Source.{Source}

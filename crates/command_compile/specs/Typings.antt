@@ -1,5 +1,5 @@
 -- A script that is typed under a header.
-use Rattle.std.specs.Prelude.{◌≡◌, ℕ, None, Some, Result, Ok, Err}
+use Rattle.std.specs.Prelude.{◌≡◌, None, Some, Result, Ok, Err}
 use Rattle.nwq_value.specs.Engine.{EngineTable}
 use Rattle.nwq_outside.specs.Outside.{Contents}
 use Rattle.nss_tree.specs.Source.{SourceTree}

@@ -1,5 +1,5 @@
 -- One thing comes of a number.
-use Rattle.std.proofs.Common.{◌≡◌, ℕ, List, [], Result, Ok, Err, sym, ap, subst}
+use Rattle.std.proofs.Common.{◌≡◌, ℕ, List, [], Result, Ok, Err, ap}
 use Rattle.nwq_value.specs.HeaderTable.{header_table}
 use Rattle.nwq_outside.specs.Outside.{Contents}
 use Rattle.ncs_code.specs.Plain.{PlainOp}

@@ -1,5 +1,5 @@
 -- The source of a number, compiled over files of its own: it is never refused.
-use Rattle.std.proofs.Common.{◌≡◌, ◌≢◌, ℕ, inl, inr, true, false, Bool, List, [], codes, cond, Result, Ok, Err, Some, Option, refl, ap, sym, subst, ◌⊎◌, ◌∙◌, arith}
+use Rattle.std.proofs.Common.{◌≡◌, ◌≢◌, ℕ, inl, inr, true, false, Bool, List, [], codes, Result, Ok, Err, Some, refl, ap, subst, ◌⊎◌, ◌∙◌, arith}
 use Rattle.std.proofs.lemmas.Bool.{le-ltb}
 use Rattle.std.proofs.lemmas.Cmp.{nat_list_cmp_total}
 use Rattle.std.specs.Prelude.{length, nat_lt}
@@ -11,7 +11,6 @@ use Rattle.nwq_outside.specs.declared.counts.FileCounts.{FileCounts}
 use Rattle.nwq_outside.specs.Outside.{Contents}
 use Rattle.nss_include.specs.declared.file.Source.{Source}
 use Rattle.emission_rules.specs.Units.{unit_file}
-use Rattle.play_generator.specs.Made.{play_of}
 use Rattle.command_work.specs.declared.status.Status.{Status}
 use Rattle.command_work.specs.declared.status.Status.TheVariants.{Done, Words, Script, Code, Area, Limit, Missing, Fault, Memory, Long}
 use Rattle.command_work.specs.Work.{Does, CutsShort}

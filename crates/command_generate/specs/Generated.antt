@@ -63,7 +63,10 @@ numbered_words words n = words ++ decimal n
 -- how many creatures and events were made, and how many lines and bytes a trace has
 unfoldable pub made_line : ℕ → ℕ → ℕ → ℕ → List ℕ
 made_line creatures events lines bytes =
-    numbered_words (codes "generated creatures ") creatures ++ (numbered_words (codes " events ") events ++ (numbered_words (codes " lines ") lines ++ (numbered_words (codes " bytes ") bytes ++ 10 ∷ [])))
+    numbered_words (codes "generated creatures ") creatures
+    ++ (numbered_words (codes " events ") events
+    ++ (numbered_words (codes " lines ") lines
+    ++ (numbered_words (codes " bytes ") bytes ++ 10 ∷ [])))
 
 -- how much was made and told, and the last line of the play's text
 unfoldable pub summary : ℕ → Played Saved → List ℕ

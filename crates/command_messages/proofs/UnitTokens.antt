@@ -1,5 +1,5 @@
 -- The tokens of a unit are few.
-use Rattle.std.proofs.Common.{◌≡◌, ◌≤◌, ◌+◌, ℕ, List, [], ◌∷◌, length, map, ap, sym, ◌∙◌, refl, arith}
+use Rattle.std.proofs.Common.{◌≡◌, ◌≤◌, List, [], ◌∷◌, length, map, ap, refl, arith}
 use Rattle.nwq_value.specs.Limits.{token_limit}
 use Rattle.nss_lexer.specs.declared.token.Token.{Token}
 use Rattle.nss_lexer.specs.Splitting.{Lexeme, plain}

@@ -1,5 +1,5 @@
 -- What a state's parts tell tells the parts: no two states tell one world.
-use Rattle.std.proofs.Common.{arith, ◌≡◌, ℕ, ℤ, pos, zero, suc, Bool, List, [], ◌∷◌, length, map, Option, Some, None, refl, ap, sym, subst, ◌∙◌}
+use Rattle.std.proofs.Common.{arith, ◌≡◌, List, [], ◌∷◌, length, map, refl, ap, sym, ◌∙◌}
 use Rattle.nwq_value.specs.Effect.{Effect}
 use Rattle.nwq_value.specs.declared.value.Value.{Value}
 use Rattle.nwq_value.specs.declared.value.Value.TheVariants as value
@@ -31,7 +31,7 @@ use Rattle.state_format.specs.declared.parts.KindPart.{KindPart}
 use Rattle.state_format.specs.declared.parts.KindPart.TheVariants as kind
 use Rattle.state_format.specs.declared.parts.Entry.{Entry as EntryPart}
 use Rattle.state_format.specs.declared.parts.Parts.{Parts}
-use Rattle.play_save.specs.World.{effect_of, cell_of, saved_of, variable_of, variables_of, stood_of, item_of, things_of, with_variables, kind_of, entry_of, entries_of, world_of}
+use Rattle.play_save.specs.World.{cell_of, saved_of, variable_of, variables_of, stood_of, item_of, things_of, with_variables, kind_of, entry_of, world_of}
 
 -- ---- back
 

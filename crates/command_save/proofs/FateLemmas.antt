@@ -2,9 +2,9 @@
 use Rattle.std.proofs.Common.{ℕ, List, Result, Ok, Err, refl}
 use Rattle.nwq_outside.specs.Outside.{Contents}
 use Rattle.state_format.specs.declared.parts.Parts.{Parts}
-use Rattle.state_format.specs.Place.{StateOf, StateStopsAt}
+use Rattle.state_format.specs.Place.{StateOf}
 use Rattle.play_save.specs.declared.fault.StateFault.TheVariants as fault
-use Rattle.play_save.specs.Rules.{IsAccepted, IsUnfit}
+use Rattle.play_save.specs.Rules.{IsAccepted}
 use Rattle.play_save.specs.States.{Refuses as RefusesState}
 use Rattle.command_work.specs.declared.flaw.AreaFlaw.TheVariants as flaw
 use Rattle.command_work.specs.declared.status.Status.{Status}

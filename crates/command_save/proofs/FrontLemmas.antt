@@ -1,16 +1,11 @@
 -- The first entries of a play are a front of it.
-use Rattle.std.proofs.Common.{arith, ◌≡◌, ◌≤◌, ◌+◌, ◌-◌, ℕ, List, sym, ap, ◌∙◌, subst}
+use Rattle.std.proofs.Common.{arith, ◌≡◌, ◌≤◌, ◌+◌, ◌-◌, ℕ, ap, ◌∙◌}
 use Rattle.std.specs.Prelude.{min}
-use Rattle.nwq_value.specs.Engine.{EngineTable}
-use Rattle.plan_text.specs.declared.plan.Plan.{Plan}
 use Rattle.saved_state.specs.declared.saved.Saved.{Saved}
-use Rattle.machine_rules.specs.Machine.{Script}
-use Rattle.world_rules.specs.Pure.{CellLookup}
-use Rattle.world_rules.specs.World.{World}
 use Rattle.world_rules.specs.Plays.{Bounds, Runner, Played, plays, unplayed}
 use Rattle.world_rules.specs.GoingOn.{PlaysGoOn, continued}
 use Rattle.module_player.specs.CodePlays.{code_runner}
-use Rattle.command_plays.specs.Plays.{host_of, plan_played, played_first}
+use Rattle.command_plays.specs.Plays.{host_of, played_first}
 use Rattle.command_save.specs.Laws.{FrontsGoOn}
 use Rattle.command_save.proofs.GoingLemmas.{stops_same}
 

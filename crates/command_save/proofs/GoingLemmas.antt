@@ -9,7 +9,7 @@ use Rattle.world_rules.specs.declared.data.Line.{Line}
 use Rattle.world_rules.specs.World.{World}
 use Rattle.world_rules.specs.Turns.{Begun, begin, entry_begun}
 use Rattle.world_rules.specs.Plays as plays
-use Rattle.world_rules.specs.Plays.{Runner, Bounds, Progress, Played, PlayEnd, Entered, after_entry, entry_entered, full, further, next_entry, plays as plays_from}
+use Rattle.world_rules.specs.Plays.{Runner, Bounds, Progress, Played, Entered, after_entry, entry_entered, full, further, next_entry, plays as plays_from}
 
 -- ---- numbers
 

@@ -28,7 +28,7 @@ use Rattle.play_inputs.specs.ListingLaws.{SureListed}
 use Rattle.command_play.specs.Games.{ends_by, tells}
 use Rattle.command_save.specs.declared.inputs.HeaderFile.{HeaderFile}
 use Rattle.command_save.specs.declared.inputs.AreaFile.{AreaFile}
-use Rattle.command_save.specs.Inputs.{built_in, header_file, header_in, header_named, header_unless, header_of, area_file, area_in, area_named}
+use Rattle.command_save.specs.Inputs.{built_in, header_in, header_named, header_unless, header_of, area_in, area_named}
 use Rattle.command_save.specs.Saves.{saved_line, state_by as written_by, state_told, state_written, saves_at, saves_by, saves_plan, saves_area, saves_scripts, saves_under, saves}
 use Rattle.command_save.specs.Resumes.{StateFate, Whole, Stops, Unfit, state_by, state_in, state_named, Going, played_rest, resumes_from, resumes_state, resumes}
 use Rattle.command_save.specs.Laws.{SureSaves, SureResumes}

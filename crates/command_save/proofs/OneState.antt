@@ -1,6 +1,5 @@
 -- One state is saved, one thing comes of the bytes of a state, and a state goes on from one world.
-use Rattle.std.proofs.Common.{arith, ◌≡◌, ◌<◌, ◌≤◌, ℕ, zero, suc, List, [], ◌∷◌, length, drop, map, Option, Some, None, refl, ap, sym, subst, ◌∙◌}
-use Rattle.std.specs.List.{AllByRecursion}
+use Rattle.std.proofs.Common.{arith, ◌≡◌, ◌≤◌, ℕ, zero, suc, List, [], ◌∷◌, length, drop, map, Option, Some, None, refl, ap, sym, subst, ◌∙◌}
 use Rattle.nwq_value.specs.Engine.{EngineTable}
 use Rattle.engine_table.specs.Headers.{OneHeader}
 use Rattle.ncs_code.specs.Plain.{PlainOp}
@@ -23,11 +22,11 @@ use Rattle.state_format.specs.declared.parts.Parts.{Parts}
 use Rattle.state_format.specs.Place.{StateOf, StateStopsAt, BytesAreOne}
 use Rattle.play_save.specs.World.{world_of}
 use Rattle.play_save.specs.Rules.{IsHeaderOf, IsAreaOf, IsAccepted, IsUnfit, IsFirstBroken, KeepsAll, Rule, rules}
-use Rattle.play_save.specs.States.{IsWorldOf, resting}
+use Rattle.play_save.specs.States.{IsWorldOf}
 use Rattle.command_save.specs.declared.inputs.HeaderFile.{HeaderFile}
 use Rattle.command_save.specs.Saves.{file_of, AreSpelled, IsStateAt}
 use Rattle.command_save.specs.Resumes.{StateFate, Whole, Stops, Unfit, IsStateFate, whole, stops, unfit, Going, GoesFrom}
-use Rattle.command_save.proofs.BackLemmas.{SameTold, same_told}
+use Rattle.command_save.proofs.BackLemmas.{same_told}
 
 -- what others say of the parts of a state
 pub record OneLaws : Type 0 where

@@ -1,7 +1,6 @@
 -- The first part of a play ends in a world that can be saved.
-use Rattle.std.proofs.Common.{arith, ◌≡◌, ◌≢◌, ◌<◌, ◌≤◌, ◌^◌, ◌+◌, ℕ, false, inl, inr, List, [], ◌∷◌, ◌++◌, length, map, min, None, Result, Ok, Err, refl, sym, ap, ◌∙◌, subst}
+use Rattle.std.proofs.Common.{arith, ◌≡◌, ◌≢◌, ◌<◌, ◌≤◌, ◌^◌, ◌+◌, ℕ, inl, inr, List, ◌++◌, min, Result, Err, sym, ◌∙◌, subst}
 use Rattle.nwq_value.specs.Engine.{EngineTable}
-use Rattle.nwq_value.specs.Limits.{time_limit}
 use Rattle.nwq_outside.specs.Outside.{Contents, TookPrefix}
 use Rattle.gff_tree.specs.Whole.{PlainGff}
 use Rattle.area_rules.specs.Area.{PlainArea}
@@ -13,7 +12,7 @@ use Rattle.world_rules.specs.World.{World}
 use Rattle.world_rules.specs.Pure.{CellLookup}
 use Rattle.world_rules.specs.Trace.{trace_text}
 use Rattle.world_rules.specs.Plays as plays
-use Rattle.world_rules.specs.Plays.{PlayEnd, Progress, Played}
+use Rattle.world_rules.specs.Plays.{PlayEnd, Played}
 use Rattle.machine_rules.specs.Machine.{Script}
 use Rattle.world_core.specs.Calls.{cells_of}
 use Rattle.ncs_machine.specs.declared.scripts.Loaded.{Loaded}
@@ -26,7 +25,6 @@ use Rattle.module_player.specs.declared.played.How.{How}
 use Rattle.module_player.specs.declared.played.How.TheVariants.{Done, InstrStop, EntryStop, Pause, Fault, NoMemory}
 use Rattle.module_player.specs.declared.played.Played.{Played as Answer}
 use Rattle.play_save.specs.Rules.{IsAreaOf}
-use Rattle.play_save.specs.States.{MayRest, MayCount}
 use Rattle.play_worlds.specs.Worlds.{plan_world}
 use Rattle.play_worlds.specs.Fresh.{PlanWorldsAreFresh}
 use Rattle.command_work.specs.declared.status.Status.{Status}

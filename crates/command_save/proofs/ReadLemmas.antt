@@ -1,28 +1,22 @@
 -- What a play that is saved found of its header and its area, a play finds too.
-use Rattle.std.proofs.Common.{◌≡◌, ◌≤◌, ℕ, Bool, true, false, inl, inr, List, [], ◌∷◌, ◌++◌, length, Option, Some, None, Result, Ok, Err, refl, ap, sym, subst, ◌∙◌}
+use Rattle.std.proofs.Common.{◌≡◌, ℕ, Bool, true, false, inl, inr, List, Some, Ok, refl, ap, sym, subst, ◌∙◌}
 use Rattle.std.specs.Prelude.{codes, bytes_eq, cond}
 use Rattle.std.specs.FinMap as map
 use Rattle.std.specs.FinMap.{get-insert}
-use Rattle.std.specs.Cmp.Lexicographic.{slice_cmp}
-use Rattle.std.specs.Ordering.{nat_cmp, is_eq}
 use Rattle.std.proofs.lemmas.Cmp.{nat_list_cmp_total}
 use Rattle.std.proofs.lemmas.Slice.Eq.{bytes_eq-Decides}
 use Rattle.std.proofs.lemmas.Map.Text.{is_eq-slice_cmp}
 use Rattle.nwq_value.specs.Engine.{EngineTable}
 use Rattle.nwq_value.specs.HeaderTable.{header_table}
-use Rattle.nwq_value.specs.Limits.{file_limit}
 use Rattle.nwq_text.specs.Line.{line_number}
 use Rattle.nwq_outside.specs.Outside.{Contents}
 use Rattle.engine_table.specs.Headers.{HasTable}
-use Rattle.gff_tree.specs.Whole.{PlainGff}
-use Rattle.area_rules.specs.Area.{PlainArea}
 use Rattle.play_save.specs.Rules.{IsHeaderOf}
-use Rattle.command_work.specs.declared.status.Status.{Status}
 use Rattle.command_work.specs.declared.cause.Cause.TheVariants as cause
 use Rattle.command_work.specs.Refusal.{Refusal, At, status_of}
-use Rattle.command_work.specs.Work.{Work, Gives, Refused, then, makes, IsCut, Does, file_named}
+use Rattle.command_work.specs.Work.{Work, Gives, Refused, then, makes, Does, file_named}
 use Rattle.command_work.specs.Parts.{value_or, ok_not_err, makes_does, then_ok}
-use Rattle.command_work.specs.Sequences.{Parts, EndsFirst, GoesOn, ends_first, goes_on, parts}
+use Rattle.command_work.specs.Sequences.{Parts, GoesOn, ends_first, goes_on, parts}
 use Rattle.command_work.specs.Reading.{IsRead, IsUnread}
 use Rattle.command_work.specs.Comes.{Came, gave, stopped, cut, file_comes}
 use Rattle.command_sources.specs.Headers as headers

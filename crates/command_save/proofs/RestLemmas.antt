@@ -1,48 +1,37 @@
 -- A play that was saved and resumed tells what the unbroken one tells.
-use Rattle.std.proofs.Common.{arith, ◌≡◌, ◌≢◌, ◌<◌, ◌≤◌, ◌+◌, ◌-◌, ℕ, Bool, true, false, inl, inr, List, [], ◌∷◌, ◌++◌, length, map, Option, Some, None, Result, Ok, Err, refl, ap, sym, subst, ◌∙◌}
-use mathlib.Core.List.{append_assoc, append-nil}
-use Rattle.std.specs.Prelude.{min, nat_lt, fold, IsOk}
+use Rattle.std.proofs.Common.{arith, ◌≡◌, ◌≢◌, ◌+◌, ◌-◌, ℕ, true, false, inl, inr, List, [], ◌∷◌, ◌++◌, map, Option, Some, None, Result, Ok, Err, refl, ap, sym, subst, ◌∙◌}
+use Rattle.std.specs.Prelude.{min, fold, IsOk}
 use Rattle.std.specs.FinMap as map
 use Rattle.std.proofs.Math.Nat.{min-le_right}
-use Rattle.std.proofs.Common.{ltb-false}
 use Rattle.std.proofs.lemmas.Grind.{flat_map-append}
-use Rattle.nwq_value.specs.Engine.{EngineTable}
-use Rattle.nwq_value.specs.Limits.{file_limit}
 use Rattle.nwq_outside.specs.Outside.{Contents}
-use Rattle.gff_tree.specs.Whole.{PlainGff}
 use Rattle.gff_write.specs.declared.fault.WriteFault.{WriteFault}
 use Rattle.gff_write.specs.declared.fault.WriteFault.TheVariants as write_fault
 use Rattle.gff_write.specs.File.{written, outcome_of}
 use Rattle.area_back.specs.Back.{tree_back}
 use Rattle.area_rules.specs.Area.{PlainArea}
-use Rattle.plan_text.specs.declared.plan.Line.{Line as PlanLine}
 use Rattle.plan_text.specs.declared.plan.Plan.{Plan}
 use Rattle.saved_state.specs.declared.saved.Saved.{Saved}
 use Rattle.world_rules.specs.declared.data.Line.{Line}
-use Rattle.world_rules.specs.Pure.{CellLookup}
 use Rattle.world_rules.specs.Trace.{line_text, trace_text}
 use Rattle.world_rules.specs.EndText.{world_text, end_text}
 use Rattle.world_rules.specs.World.{World}
-use Rattle.world_rules.specs.Turns.{Planned, with_planned, still, new_world}
+use Rattle.world_rules.specs.Turns.{Planned, with_planned, still}
 use Rattle.world_rules.specs.Plays as plays
-use Rattle.world_rules.specs.Plays.{PlayEnd, Runner, Bounds, Progress, Played, unplayed, plays as plays_from}
+use Rattle.world_rules.specs.Plays.{PlayEnd, Runner, Bounds, Played, unplayed, plays as plays_from}
 use Rattle.machine_rules.specs.Machine.{Script, Host}
-use Rattle.module_player.specs.CodePlays.{code_runner, code_play_on, code_end_text}
+use Rattle.module_player.specs.CodePlays.{code_runner, code_play_on}
 use Rattle.play_worlds.specs.Worlds.{begun_by, plan_world}
 use Rattle.command_work.specs.declared.status.Status.{Status}
-use Rattle.command_work.specs.declared.status.Status.TheVariants.{Limit, Memory}
+use Rattle.command_work.specs.declared.status.Status.TheVariants.{Limit}
 use Rattle.command_work.specs.declared.flaw.AreaFlaw.TheVariants as flaw
 use Rattle.command_work.specs.Refusal.{Refusal, BadArea, line_of, status_of}
-use Rattle.command_work.specs.Work.{Work, Gives, Refused, Ends, Writes, Puts, Finds, then, Finished, IsCut, Does, puts, writes}
-use Rattle.command_work.specs.Parts.{ok_not_err, err_not_ok}
+use Rattle.command_work.specs.Work.{Refused, Ends, Writes, Puts, then, Finished, IsCut, Does, puts, writes}
 use Rattle.play_inputs.specs.Finals.{final_by, final_written}
-use Rattle.command_plays.specs.Plays.{host_of, plan_played}
-use Rattle.command_play.specs.Games.{ends_by, tells_end, tells}
-use Rattle.state_format.specs.declared.parts.Parts.{Parts}
+use Rattle.command_play.specs.Games.{ends_by, tells_end}
 use Rattle.play_save.specs.States.{resting}
-use Rattle.command_save.proofs.GoingLemmas.{on, played_after, played_with, left_of, IsRestOf, left_goes, rests, on_ends, stays_quiet, stops_same}
-use Rattle.command_save.proofs.ReadLemmas.{given, held_here}
-use Rattle.command_save.specs.Laws.{GoOn}
+use Rattle.command_save.proofs.GoingLemmas.{on, left_of, IsRestOf, left_goes, rests, on_ends, stays_quiet, stops_same}
+use Rattle.command_save.proofs.ReadLemmas.{held_here}
 
 -- ---- the plays
 

@@ -1,5 +1,5 @@
 -- What a state opens can be played on, and its play is the rest of the one that was saved.
-use Rattle.std.proofs.Common.{arith, ◌≡◌, ◌≢◌, ◌<◌, ◌≤◌, ◌^◌, ◌+◌, ℕ, inl, inr, List, [], ◌++◌, length, map, None, Result, Ok, Err, refl, sym, ap, ◌∙◌, subst}
+use Rattle.std.proofs.Common.{arith, ◌≡◌, ◌≢◌, ◌<◌, ◌≤◌, ◌^◌, ◌+◌, ℕ, inl, inr, List, ◌++◌, length, None, Result, Err, refl, sym, ap, ◌∙◌, subst}
 use Rattle.std.specs.List.{AllByRecursion}
 use Rattle.nwq_outside.specs.Outside.{Contents, TookPrefix}
 use Rattle.ncs_code.specs.File.{IsCode}
@@ -9,7 +9,7 @@ use Rattle.world_rules.specs.World.{World}
 use Rattle.world_rules.specs.Pure.{CellLookup}
 use Rattle.world_rules.specs.Trace.{trace_text}
 use Rattle.world_rules.specs.Plays as plays
-use Rattle.world_rules.specs.Plays.{PlayEnd, Progress, Played}
+use Rattle.world_rules.specs.Plays.{PlayEnd, Played}
 use Rattle.machine_rules.specs.Machine.{Script}
 use Rattle.ncs_machine.specs.declared.scripts.Loaded.{Loaded}
 use Rattle.ncs_machine.specs.Host.{scripts_of, tables_of}

@@ -1,6 +1,6 @@
 -- What a state goes on from that keeps all rules: its scripts are well stacked, and each captured
 -- state fits.
-use Rattle.std.proofs.Common.{◌≡◌, ℕ, zero, suc, List, [], ◌∷◌, map, Some, refl, sym, subst, ap, ◌∙◌}
+use Rattle.std.proofs.Common.{◌≡◌, ℕ, zero, suc, List, [], ◌∷◌, map, Some, refl, sym, subst, ap}
 use Rattle.std.specs.Prelude.{slice_get}
 use Rattle.std.specs.List.{AllByRecursion}
 use Rattle.nwq_value.specs.Engine.{EngineTable}
@@ -11,9 +11,6 @@ use Rattle.stack_rules.specs.Tables.{ShapeTable}
 use Rattle.stack_rules.specs.Rules.{MeetsRules}
 use Rattle.stack_rules.specs.Fits.{Tables, FitsOne}
 use Rattle.stack_rules.specs.Laws.{AllMeet}
-use Rattle.action_queue.specs.declared.queue.Item.{Item as WorldItem}
-use Rattle.saved_state.specs.declared.saved.Saved.{Saved}
-use Rattle.delay_agenda.specs.declared.entry.Entry.{Entry as WorldEntry}
 use Rattle.ncs_machine.specs.Host.{no_table}
 use Rattle.ncs_machine.specs.Stored.{KindFits, ItemFits, EntryFits, ItemsFit, ThingsFit, StatesFit}
 use Rattle.state_format.specs.declared.parts.Script.{Script as ScriptPart}
@@ -29,7 +26,7 @@ use Rattle.play_save.specs.World.{saved_of, item_of, things_of, kind_of, entry_o
 use Rattle.play_save.specs.Rules.{IsSound, ItemHolds, KindHolds, IsCapturedIn, IsAccepted}
 use Rattle.command_save.specs.Saves.{file_of, AreSpelled}
 use Rattle.command_save.specs.Resumes.{Going, GoesFrom}
-use Rattle.command_save.specs.Laws.{GoesSafely, StatesGoSafely}
+use Rattle.command_save.specs.Laws.{StatesGoSafely}
 use Rattle.command_save.proofs.OneState.{OneLaws, one_table, one_code}
 
 -- ---- scripts

@@ -1,10 +1,9 @@
 -- A saved play that is resumed goes on as the unbroken one: from what the commands did to what they
 -- told.
-use Rattle.std.proofs.Common.{◌≡◌, ◌≢◌, ◌≤◌, ◌+◌, ℕ, Bool, true, false, inl, inr, List, [], ◌∷◌, ◌++◌, length, map, Option, Some, None, Result, Ok, Err, refl, ap, sym, subst, ◌∙◌, ltb-false}
-use mathlib.Core.List.{append_assoc, append-nil}
-use Rattle.std.specs.Prelude.{min, nat_lt}
+use Rattle.std.proofs.Common.{◌≡◌, ◌≢◌, ◌≤◌, ◌+◌, ℕ, Bool, true, false, inl, inr, List, ◌++◌, length, Option, Some, Result, Ok, refl, ap, sym, subst, ◌∙◌, ltb-false}
+use mathlib.Core.List.{append_assoc}
+use Rattle.std.specs.Prelude.{nat_lt}
 use Rattle.std.specs.FinMap as fin_map
-use Rattle.nwq_value.specs.Engine.{EngineTable}
 use Rattle.nwq_value.specs.Limits.{file_limit}
 use Rattle.nwq_outside.specs.Outside.{Contents}
 use Rattle.plan_text.specs.declared.plan.Plan.{Plan}
@@ -22,12 +21,11 @@ use Rattle.state_format.specs.Place.{StateOf}
 use Rattle.play_save.specs.Rules.{IsHeaderOf}
 use Rattle.play_save.specs.States.{resting}
 use Rattle.command_work.specs.declared.status.Status.{Status}
-use Rattle.command_work.specs.Work.{Work, Writes, Puts, then, Finished, IsCut, Does, file_named, puts, writes}
+use Rattle.command_work.specs.Work.{Work, Puts, Finished, IsCut, Does, file_named, puts, writes}
 use Rattle.command_work.specs.Parts.{ok_not_err, then_ok, finds_one}
-use Rattle.command_work.specs.Sequences.{GoesOn, then_known}
-use Rattle.command_work.specs.Reading.{IsRead}
+use Rattle.command_work.specs.Sequences.{then_known}
 use Rattle.command_work.specs.Comes.{read_does, gives_does}
-use Rattle.command_work.specs.Outcomes.{IsSure, IsPrefix, grows}
+use Rattle.command_work.specs.Outcomes.{IsPrefix, grows}
 use Rattle.command_sources.specs.Headers.{table_of_word}
 use Rattle.command_sources.specs.Laws.{SureTables}
 use Rattle.play_inputs.specs.Areas as inputs
@@ -37,18 +35,17 @@ use Rattle.play_inputs.specs.Laws.{SureAreas, SurePlans}
 use Rattle.play_inputs.specs.Plans.{plan_named}
 use Rattle.play_worlds.specs.Worlds.{plan_world}
 use Rattle.command_plays.specs.Plays.{host_of, plan_played, played_first}
-use Rattle.command_play.specs.Games.{ends_by, tells_end, tells, plays_plan, plays_area, plays_scripts, plays_under, plays as plays_files}
+use Rattle.command_play.specs.Games.{tells_end, tells, plays_plan, plays_area, plays_scripts, plays_under, plays as plays_files}
 use Rattle.command_save.specs.declared.inputs.HeaderFile.{HeaderFile}
 use Rattle.command_save.specs.declared.inputs.AreaFile.{AreaFile}
 use Rattle.command_save.specs.Inputs.{header_of, area_named}
 use Rattle.command_save.specs.Saves.{IsStateAt, saved_line, state_by as written_by, state_told, state_written, saves_at, saves_by, saves_plan, saves_area, saves_scripts, saves_under, saves}
-use Rattle.command_save.specs.Resumes.{StateFate, Whole, IsStateFate, whole, state_by, state_in, state_named, Going, GoesFrom, played_rest, resumes_from, resumes_state, resumes}
+use Rattle.command_save.specs.Resumes.{Whole, IsStateFate, whole, state_by, state_in, state_named, Going, GoesFrom, played_rest, resumes_from, resumes_state, resumes}
 use Rattle.command_save.specs.Laws.{GoOn, SavedPlaysGoOn}
 use Rattle.command_save.proofs.OneState.{OneLaws, one_going}
 use Rattle.command_save.proofs.OneSave.{sure_state}
-use Rattle.command_save.proofs.ReadLemmas.{went_on, given, IsGiven, held_here, header_found, area_found}
+use Rattle.command_save.proofs.ReadLemmas.{went_on, held_here, header_found, area_found}
 use Rattle.command_save.proofs.RestLemmas.{goes, never_paused, plan_quiet, end_does, same_ending, trace_parts, EndAlike, ends_alike}
-use Rattle.command_save.proofs.GoingLemmas.{IsRestOf}
 
 -- ---- what was saved
 

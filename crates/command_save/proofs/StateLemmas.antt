@@ -1,5 +1,5 @@
 -- The state that is taken of a play is the one in which it stands.
-use Rattle.std.proofs.Common.{◌≡◌, ◌≢◌, ◌≤◌, ℕ, List, [], ◌∷◌, map, inl, inr, Option, None, Some, Result, Ok, Err, refl, sym, ap, ◌∙◌, subst}
+use Rattle.std.proofs.Common.{◌≡◌, ◌≢◌, ℕ, List, [], ◌∷◌, map, inr, Option, None, Result, Err, refl, sym, ap, ◌∙◌, subst}
 use Rattle.std.specs.List.{AllByRecursion}
 use Rattle.nwq_outside.specs.Outside.{Contents}
 use Rattle.ncs_code.specs.File.{IsCode, file_bytes}
@@ -14,7 +14,7 @@ use Rattle.ncs_machine.specs.declared.scripts.Loaded.{Loaded}
 use Rattle.ncs_machine.specs.Host.{scripts_of}
 use Rattle.module_player.specs.CodePlays.{code_end_text}
 use Rattle.module_player.specs.Answers.{EndsAs}
-use Rattle.module_player.specs.EndTexts.{IsEnding, HasText}
+use Rattle.module_player.specs.EndTexts.{IsEnding}
 use Rattle.module_player.specs.declared.played.How.{How}
 use Rattle.module_player.specs.declared.played.How.TheVariants.{Done, InstrStop, EntryStop, Pause, Fault, NoMemory}
 use Rattle.module_player.specs.declared.played.Played.{Played as Answer}
@@ -25,13 +25,13 @@ use Rattle.play_save.specs.Rules.{IsAccepted}
 use Rattle.play_save.specs.States.{script_parts, resting, MayLimit, IsPlayOf, HasCome, IsWorldOf}
 use Rattle.command_work.specs.declared.status.Status.{Status}
 use Rattle.command_work.specs.declared.status.Status.TheVariants as status
-use Rattle.command_work.specs.Work.{Does, Puts, Ends, Finished, CutsShort}
+use Rattle.command_work.specs.Work.{Does, Puts, Ends, Finished}
 use Rattle.command_work.specs.Counts.{Refusing}
 use Rattle.command_work.specs.Parts.{cut_here, finds_one}
 use Rattle.command_plays.specs.Tellings.{cut_of}
 use Rattle.command_save.specs.declared.inputs.HeaderFile.{HeaderFile}
 use Rattle.command_save.specs.Saves.{file_of, AreSpelled, IsStateAt, state_written, saves_at, saves_by}
-use Rattle.command_save.specs.Tellings.{IsProgress, MaySave, WhereBroken}
+use Rattle.command_save.specs.Tellings.{IsProgress}
 
 -- ---- scripts
 

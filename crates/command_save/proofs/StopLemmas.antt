@@ -1,11 +1,9 @@
 -- What stops the parts of the commands stops the commands.
-use Rattle.std.proofs.Common.{inl, inr, subst, sym}
 use Rattle.command_work.specs.declared.status.Status.{Status}
 use Rattle.command_work.specs.declared.status.Status.TheVariants.{Done, Words, Script, Code, Area, Limit, Missing, Fault, Memory, Long}
-use Rattle.command_work.specs.Work.{CutsShort}
-use Rattle.command_work.specs.Counts.{Refusing, StopsArea}
+use Rattle.command_work.specs.Counts.{StopsArea}
 use Rattle.command_play.specs.Tellings.{StopsEnd}
-use Rattle.command_play.specs.Stops.{listing_stops, source_stops, area_stops, cut_stops, limit_stops, large_stops, end_stops, cut_ends, limit_ends, large_ends}
+use Rattle.command_play.specs.Stops.{listing_stops, source_stops, area_stops, cut_stops, limit_stops, large_stops, end_stops, cut_ends}
 use Rattle.command_save.specs.Tellings.{StopsResume}
 
 pub area_resumes : (status : Status) → StopsArea status → StopsResume status

@@ -1,5 +1,5 @@
 -- A play that is broken off after some entries, and what is saved of it.
-use Rattle.std.specs.Prelude.{◌≡◌, ℕ, Bool, true, false, nat_lt, List, map, length, ◌++◌, codes, decimal}
+use Rattle.std.specs.Prelude.{ℕ, Bool, true, false, nat_lt, List, map, length, ◌++◌, codes, decimal}
 use Rattle.std.specs.List.{AllByRecursion}
 use Rattle.nwq_value.specs.Limits.{file_limit}
 use Rattle.nwq_outside.specs.Outside.{Contents}

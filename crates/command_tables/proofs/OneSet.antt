@@ -7,7 +7,7 @@ use Rattle.command_work.specs.Outcomes.{IsSure, sure_then, sure_file, sure_makes
 use Rattle.command_tables.specs.Lists as list
 use Rattle.command_tables.specs.Lists.{may_follow, AreNames, HasNames, HasBadLine, ListFate, IsListFate, names_by, names_in, names_listed}
 use Rattle.command_tables.specs.Tables as table
-use Rattle.command_tables.specs.Tables.{TableFate, IsTableFate, table_by, table_in, table_in_file, table_file, with_table, one_more, all_behind, tables_listed, tables_given}
+use Rattle.command_tables.specs.Tables.{TableFate, IsTableFate, table_by, table_in, table_in_file, table_file, with_table, one_more, all_behind, tables_listed}
 use Rattle.command_tables.specs.Laws.{SureTables}
 
 -- ---- one bad line

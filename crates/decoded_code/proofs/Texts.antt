@@ -1,11 +1,11 @@
 -- A string's bytes, where some are left out.
-use Rattle.std.proofs.Common.{◌≡◌, ◌<◌, ◌≤◌, ◌+◌, ◌-◌, ◌++◌, ℕ, List, length, take, replicate, Bool, true, false, inl, inr, refl, sym, ap, ◌∙◌, arith}
+use Rattle.std.proofs.Common.{◌≡◌, ◌<◌, ◌≤◌, ◌+◌, ◌-◌, ◌++◌, ℕ, List, length, take, replicate, Bool, true, false, inl, inr, ap, ◌∙◌, arith}
 use Rattle.std.specs.Prelude.{nat_lt, if◌then◌else◌}
 use Rattle.std.proofs.lemmas.Bool.{cases_lt}
 use Rattle.std.proofs.lemmas.Bool.Decides.{nat_tests}
 use Rattle.std.proofs.lemmas.List.{length-append, length-replicate, length-take-le, take_all}
 use Rattle.nwq_value.specs.Limits.{text_limit}
-use Rattle.ncs_code.specs.Plain.{PlainOp, Const, Text}
+use Rattle.ncs_code.specs.Plain.{Const, Text}
 use Rattle.ncs_code.specs.Spelling.{op_size}
 use Rattle.decoded_code.specs.Steps.{kept, whole}
 

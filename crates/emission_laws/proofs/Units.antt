@@ -7,7 +7,6 @@ use Rattle.nss_tree.specs.Units.{structure, constant, global, function}
 use Rattle.nwq_value.specs.declared.value.Ty.{Ty}
 use Rattle.nwq_value.specs.declared.value.Ty.TheVariants.{Void, Int}
 use Rattle.nwq_value.specs.Engine.{EngineTable}
-use Rattle.ncs_code.specs.Plain.{PlainOp}
 use Rattle.ncs_code.specs.Plain as ops
 use Rattle.ncs_code.specs.File.{header_size}
 use Rattle.ncs_code.specs.Laws.{SizeSome}

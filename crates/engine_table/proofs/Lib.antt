@@ -12,6 +12,5 @@ mod TokenLemmas
 mod Rows
 mod BuiltIn
 mod Lines
-mod Growing
 mod Literals
 mod Tables

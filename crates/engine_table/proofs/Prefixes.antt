@@ -20,11 +20,11 @@ use Rattle.engine_table.specs.declared.stage.Owner.{Owner}
 use Rattle.engine_table.specs.declared.stage.Stage.{Stage}
 use Rattle.engine_table.specs.Symbols.{Placed, at, sign_of}
 use Rattle.engine_table.specs.Grammar as grammar
-use Rattle.engine_table.specs.Grammar.{sign_at, type_in, structure_of, defined, has_constants, negative, brackets, Loose, Value, Heading, ParameterType, Line}
+use Rattle.engine_table.specs.Grammar.{sign_at, structure_of, defined, has_constants, negative, Loose, Value, Heading, ParameterType, Line}
 use Rattle.engine_table.specs.Headers.{IsPrefix, IsSpelled, IsSpelledPrefix, AreSpelled}
 use Rattle.engine_table.specs.Turns.{type_of}
 use Rattle.engine_table.proofs.Progress as progress
-use Rattle.engine_table.proofs.Progress.{two, three, four, moved, with_param, join, Before, Listed, Owned, Begun}
+use Rattle.engine_table.proofs.Progress.{two, three, four, moved, join, Before, Listed, Owned, Begun}
 
 -- ---- symbols that tokens spell
 

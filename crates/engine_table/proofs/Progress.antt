@@ -27,7 +27,7 @@ use Rattle.engine_table.specs.Symbols.{Placed, at}
 use Rattle.engine_table.specs.Grammar as grammar
 use Rattle.engine_table.specs.Grammar.{sign_at, type_in, structure_of, defined, has_constants, constant_in, negative, brackets, Loose, Value, Heading, ParameterType, Parameter, Parameters, ParameterList, Line}
 use Rattle.engine_table.specs.Headers as header
-use Rattle.engine_table.specs.Headers.{function_fault, constant_fault, value_fault, IsClear, Clashes, IsPrefix}
+use Rattle.engine_table.specs.Headers.{function_fault, constant_fault, value_fault, IsClear, Clashes}
 use Rattle.engine_table.specs.Turns.{TurnResult, goes, misfit, unless_fault, typed, start_turn, hash_turn, define_turn, given, typed_turn, named_turn, type_of, param_turn, constant_end, valued_turn, owner_fault, checked, got, minus_turn, is_minus_of_int, loose_by, value_by, params_turn, behind_turn, param_type_turn, closed_turn, turn}
 
 -- ---- regrouping

@@ -14,7 +14,7 @@ use Rattle.engine_table.specs.Symbols.{Placed, AreSymbols, placed_all}
 use Rattle.engine_table.specs.Headers.{Lines, none, more, routine_of, with_constant, after, after_all, nothing}
 use Rattle.engine_table.specs.Laws.{IsAdmissible, BuiltInHasTable, ClearLinesAreAdmissible}
 use Rattle.engine_table.specs.KeptTables.{HeadersHaveTables, BuiltInIsTable}
-use Rattle.engine_table.proofs.Growing.{table_empty, table_pushed, table_defined}
+use Rattle.nwq_value.specs.TableLemmas.{table_empty, table_pushed, table_defined}
 use Rattle.engine_table.proofs.Literals.{all_bytes, tokens_bounds, front, back}
 
 -- a constant with a value is kept where its name is free

@@ -22,7 +22,7 @@ use Rattle.engine_table.specs.Headers as header
 use Rattle.engine_table.specs.Headers.{function_fault, constant_fault, value_fault, differs, fault_unless, same_const, IsClear, Clashes, IsPrefix, IsInside, IsMisfit, Lines, HeaderFails, Comes, HasTable, IsFaulty, IsRefused, IsAnswer, OneHeader, after, after_all, nothing}
 use Rattle.engine_table.specs.Turns.{TurnResult, turn, ended, run_by, declarations_read, HasBegun}
 use Rattle.engine_table.proofs.Progress as progress
-use Rattle.engine_table.proofs.Progress.{two, three, four, moved, Begun, After, step, clear_made}
+use Rattle.engine_table.proofs.Progress.{two, three, Begun, After, step, clear_made}
 use Rattle.engine_table.proofs.Prefixes.{begun_prefix, unspelled}
 use Rattle.engine_table.proofs.Complete.{Got, Broke, line_by, line, by_turn, line_got, clash_breaks}
 

@@ -2,11 +2,11 @@
 use Rattle.std.proofs.Common.{◌≡◌, ◌<◌, ℕ, true, false, List, [], take, replicate, Ok, refl, sym, subst, ◌∙◌, arith}
 use Rattle.std.specs.Prelude.{None}
 use Rattle.gff_bytes.specs.File.{open_fault}
-use Rattle.gff_tree.specs.Tree.{PlainNode, is_sound}
+use Rattle.gff_tree.specs.Tree.{PlainNode, is_sound, struct_depth_limit}
 use Rattle.gff_tree.specs.Whole.{PlainGff}
 use Rattle.gff_read.specs.Walk.{Marks, struct_count, node_at, tree_of}
 use Rattle.gff_read.specs.Stands.{Stands, OneTree}
-use Rattle.gff_read.proofs.Steps.{ok_is}
+use Rattle.gff_read.proofs.Steps.{bind_ok, ok_is}
 use Rattle.gff_read.proofs.WalkLaws.{node_agrees, marked_none}
 use Rattle.gff_tree.specs.Count.{node_count}
 use Rattle.gff_read.proofs.CountLaws.{count_within}
@@ -40,3 +40,10 @@ tree_is bytes gff s =
 
 pub one_tree : OneTree
 one_tree bytes first second s t = ok_is first second (sym (tree_is bytes first s) ∙ tree_is bytes second t)
+
+pub read_stands : (bytes : List ℕ) (gff : PlainGff) → open_fault bytes ≡ None → tree_of bytes ≡ Ok gff → Stands bytes gff
+unfolding tree_of
+read_stands bytes gff clear e =
+    let b = bind_ok (node_at struct_depth_limit bytes 0 (replicate (struct_count bytes) false)) (λ top. Ok (record { file_type = take 4 bytes; top = top.0 })) gff e in
+    let is : record { file_type = take 4 bytes; top = b.0.0 } ≡ gff = ok_is (record { file_type = take 4 bytes; top = b.0.0 }) gff b.2 in
+    subst (Stands bytes) is (stands_read bytes (replicate (struct_count bytes) false) b.0.0 b.0.1 (take 4 bytes) refl b.1 clear refl)

@@ -4,3 +4,4 @@ pub mod Walk
 pub mod Charge
 pub mod Stands
 pub mod Used
+pub mod Laws

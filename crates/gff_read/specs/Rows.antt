@@ -52,7 +52,11 @@ number_in width bytes = little_number width bytes
 
 -- the field types in the order of their numbers
 abbrev pub kinds : List FieldKind
-kinds = kind.Byte ∷ kind.Char ∷ kind.Word ∷ kind.Short ∷ kind.Dword ∷ kind.Int ∷ kind.Dword64 ∷ kind.Int64 ∷ kind.Float ∷ kind.Double ∷ kind.Str ∷ kind.Res ∷ kind.Loc ∷ kind.Void ∷ kind.Struct ∷ kind.List ∷ []
+kinds =
+    kind.Byte ∷ kind.Char ∷ kind.Word ∷ kind.Short
+    ∷ kind.Dword ∷ kind.Int ∷ kind.Dword64 ∷ kind.Int64
+    ∷ kind.Float ∷ kind.Double ∷ kind.Str ∷ kind.Res
+    ∷ kind.Loc ∷ kind.Void ∷ kind.Struct ∷ kind.List ∷ []
 
 -- so many bytes of the field data, then a number of so many bytes
 abbrev pub bytes_for : List ℕ → ℕ → ℕ → ℕ → Result (List ℕ) TreeFault

@@ -18,5 +18,5 @@ mod walk;
 pub use budget::TREE_BYTES;
 pub use fault::TreeFault;
 pub use kind::FieldKind;
-pub use laws::one_tree;
+pub use laws::{one_tree, read_trees_stand};
 pub use reader::{read, read_within};

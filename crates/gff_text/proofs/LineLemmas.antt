@@ -1,5 +1,5 @@
 -- A text that a loop appends piece by piece.
-use Rattle.std.proofs.Common.{◌≡◌, ◌<◌, ◌+◌, ℕ, suc, List, [], ◌∷◌, ◌++◌, length, get_or, drop, drop-cons, add-one, map, Option, Some, Result, Ok, Err, sym, ap, subst, ◌∙◌, append_assoc}
+use Rattle.std.proofs.Common.{◌≡◌, ◌<◌, ◌+◌, ℕ, suc, List, ◌∷◌, ◌++◌, length, get_or, drop, drop-cons, add-one, map, Some, Result, Ok, Err, sym, ap, subst, ◌∙◌, append_assoc}
 use Rattle.std.specs.Prelude.{codes}
 use Rattle.std.specs.Result.{OnOk}
 use Rattle.std.specs.Fmt.{decimal}
@@ -7,10 +7,9 @@ use Rattle.std.proofs.lemmas.List.{length-map}
 use Rattle.nwq_value.specs.declared.memory.NoMemory.{NoMemory}
 use Rattle.gff_tree.specs.Fields.{NodesAreTheLists}
 use Rattle.std.specs.List.{flat_map}
-use Rattle.std.proofs.lemmas.List.{append-nil}
 use Rattle.gff_tree.specs.declared.tree.Field.{Field}
 use Rattle.gff_tree.specs.declared.tree.Node.{Node}
-use Rattle.gff_tree.specs.Tree.{PlainNode, PlainFields, PlainLeaf, Struct, Children, plain_node, plain_leaf, fields_list, nodes_in, nodes_from, nodes_list}
+use Rattle.gff_tree.specs.Tree.{PlainNode, PlainFields, PlainLeaf, Struct, Children, plain_node, plain_leaf, fields_list, nodes_in, nodes_list}
 use Rattle.nwq_text.specs.Escape.{escaped}
 use Rattle.gff_text.specs.Text.{line, leaf_text, struct_lines, field_lines, lines_below, list_lines}
 

@@ -1,7 +1,7 @@
 -- By what a proof tells plain trees apart: each is the list of steps that make it.
-use Rattle.std.specs.Prelude.{◌≡◌, ℕ, List, [], ◌∷◌, ◌++◌}
+use Rattle.std.specs.Prelude.{◌≡◌, ℕ, List, [], ◌∷◌}
 use Rattle.std.specs.Coded.{Coded, code_by, codes}
-use mathlib.Core.Path.{refl, ap, sym, ◌∙◌}
+use mathlib.Core.Path.{refl, ap, ◌∙◌}
 use Rattle.gff_tree.specs.Tree.{Scalar, PlainNode, Struct, PlainFields, NoField, MoreFields, PlainLeaf, Holds, Child, Children, PlainNodes, NoNode, MoreNodes}
 
 -- a step makes a part of a tree from the parts made last

@@ -11,7 +11,7 @@ use Rattle.machine_rules.specs.Runs.{entry, run, run_stored}
 use Rattle.world_rules.specs.Turns.{Begun, begin, drained, turn, turn_done}
 use Rattle.world_rules.specs.World.{World}
 use Rattle.world_rules.specs.Plays as plays
-use Rattle.world_rules.specs.Plays.{Bounds, Entered, Played, PlayEnd, Progress, Run, Runner, after_entry, entered_as, event_entry, finished, finished_as, full, further, next_entry, plays as plays_from, turn_entry}
+use Rattle.world_rules.specs.Plays.{Entered, PlayEnd, Run, entered_as, event_entry, finished, finished_as, further, turn_entry}
 use Rattle.ncs_machine.specs.Endings.{IsCut, WhereCut as WhereRunCut}
 use Rattle.ncs_machine.specs.declared.entry.Ran.{Ran}
 use Rattle.ncs_machine.specs.declared.entry.Ran.TheVariants as ran

@@ -3,7 +3,7 @@ use Rattle.std.proofs.Common.{◌≡◌, ℕ, zero, suc, Bool, true, false, Opti
 use Rattle.std.specs.Prelude.{◌==◌, if◌then◌else◌}
 use Rattle.world_rules.specs.Turns.{Begun, begin}
 use Rattle.world_rules.specs.Plays as plays
-use Rattle.world_rules.specs.Plays.{Bounds, PlayEnd, Played, Progress, Runner, after_entry, entry_entered, full, further, next_entry, plays as plays_from}
+use Rattle.world_rules.specs.Plays.{Bounds, Played, Progress, Runner, after_entry, entry_entered, full, further, next_entry, plays as plays_from}
 
 abbrev pub paused : {X : Type 0} → Progress X → Played X
 paused p = record { ending = plays.Paused; last = p }

@@ -12,7 +12,7 @@ use Rattle.world_rules.specs.Trace.{trace_text}
 use Rattle.world_rules.specs.Turns.{Begun, begin, drained}
 use Rattle.world_rules.specs.World.{World, count as object_count}
 use Rattle.world_rules.specs.Plays as plays
-use Rattle.world_rules.specs.Plays.{Runner, entered_as}
+use Rattle.world_rules.specs.Plays.{entered_as}
 use Rattle.ncs_machine.specs.Stored.{BeginKeepsFits, BegunFits, KindFits}
 use Rattle.module_player.specs.declared.entry.Entered.{Entered}
 use Rattle.module_player.specs.declared.turn.TurnOutcome.{TurnOutcome}

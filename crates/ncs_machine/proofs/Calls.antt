@@ -19,7 +19,7 @@ use Rattle.stack_shape.specs.Calls.{is_action, is_callable, argument_types}
 use Rattle.machine_rules.specs.Frames.{Frame}
 use Rattle.machine_rules.specs.Cells.{value_types}
 use Rattle.machine_rules.specs.Calls.{Taken, with_value, with_action, value_taken, action_taken, taken, arguments, is_execute_script}
-use Rattle.machine_rules.specs.Act.{Act, Asks, Executes, asked, behind_call, engine_called}
+use Rattle.machine_rules.specs.Act.{Act, Asks, Executes, asked, engine_called}
 use Rattle.machine_rules.specs.Act as acts
 use Rattle.machine_rules.specs.Machine.{Script, Host, State, Goes, answered, script_begun, executed, followed, script_named}
 use Rattle.machine_frames.specs.declared.arguments.Arguments.{Arguments}

@@ -1,6 +1,6 @@
 -- Captured states fit in a world in which nothing but events is planned. No contract speaks of
 -- these lemmas: they serve the proofs of the crates above.
-use Rattle.std.proofs.Common.{◌-◌, ℕ, zero, suc, Bool, true, false, List, [], ◌∷◌}
+use Rattle.std.proofs.Common.{ℕ, zero, suc, Bool, true, false, List, [], ◌∷◌}
 use Rattle.std.specs.Prelude.{pos, length, replicate, if◌then◌else◌}
 use Rattle.std.specs.List.{AllByRecursion, fold}
 use Rattle.area_rules.specs.Area.{PlainArea}

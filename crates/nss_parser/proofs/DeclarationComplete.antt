@@ -11,7 +11,7 @@ use Rattle.nss_symbols.specs.Symbols as symbol
 use Rattle.nss_symbols.specs.Symbols.{Symbol, Numbered, at, fixed}
 use Rattle.nss_parser.specs.Operators.{type_word}
 use Rattle.nss_symbols.specs.Outcome.{Outcome, Got, and_then, same_terminal, is_terminal, sees, first, here, take}
-use Rattle.nss_parser.specs.Grammar.{Expression, TypeTokens, ConstantTokens, Declared, DeclaredNames}
+use Rattle.nss_parser.specs.Grammar.{TypeTokens, ConstantTokens, Declared, DeclaredNames}
 use Rattle.nss_parser.specs.Grammar as grammar
 use Rattle.nss_parser.specs.ReadExpression.{level}
 use Rattle.nss_parser.specs.ReadDeclaration.{type_by, type_name, typed, constant_value, identifier, declared_after, declared, more_declared}

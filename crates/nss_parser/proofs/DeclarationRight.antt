@@ -10,7 +10,7 @@ use Rattle.nss_tree.specs.declared.units.Identifier.{Identifier}
 use Rattle.nss_symbols.specs.declared.terminal.Terminal.{Terminal}
 use Rattle.nss_symbols.specs.declared.terminal.Terminal.TheVariants as terminal
 use Rattle.nss_symbols.specs.Symbols as symbol
-use Rattle.nss_symbols.specs.Symbols.{Symbol, Numbered, at, fixed, numbered_from}
+use Rattle.nss_symbols.specs.Symbols.{Symbol, Numbered, at, fixed}
 use Rattle.nss_parser.specs.Operators.{type_word}
 use Rattle.nss_symbols.specs.Outcome.{Got, Parser, and_then, ◌>>=◌, branch, same_terminal, first, here, take, name, pure, stuck}
 use Rattle.nss_parser.specs.Grammar.{Expression, TypeTokens, ConstantTokens, Declared, DeclaredNames}

@@ -10,7 +10,7 @@ use Rattle.nss_tree.specs.Expressions.{PlainExpr, PlainExprs, joined_exprs}
 use Rattle.nss_symbols.specs.declared.terminal.Terminal.{Terminal}
 use Rattle.nss_symbols.specs.declared.terminal.Terminal.TheVariants as terminal
 use Rattle.nss_symbols.specs.Symbols as symbol
-use Rattle.nss_symbols.specs.Symbols.{Symbol, Numbered, at, fixed}
+use Rattle.nss_symbols.specs.Symbols.{Numbered, at, fixed}
 use Rattle.nss_parser.specs.Operators.{binary_operator, level_of, unary_level, assign_operator}
 use Rattle.nss_symbols.specs.Outcome.{Outcome, Got, and_then, same_terminal, sees, first}
 use Rattle.nss_parser.specs.ReadExpression.{prefix_of, assign_of, suffix_of, suffixes, arguments_from, arguments, primary, prefix, climb, level}

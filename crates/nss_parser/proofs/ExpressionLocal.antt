@@ -11,7 +11,7 @@ use Rattle.nss_symbols.specs.declared.terminal.Terminal.TheVariants as terminal
 use Rattle.nss_parser.specs.declared.operator.Suffix.{Suffix}
 use Rattle.nss_parser.specs.declared.operator.Suffix.TheVariants.{Member, Step}
 use Rattle.nss_symbols.specs.Symbols as symbol
-use Rattle.nss_symbols.specs.Symbols.{Symbol, Numbered}
+use Rattle.nss_symbols.specs.Symbols.{Symbol}
 use Rattle.nss_parser.specs.Operators.{level_of, unary_level}
 use Rattle.nss_symbols.specs.Outcome.{Parser, is_terminal}
 use Rattle.nss_parser.specs.ReadExpression.{prefix_of, binary_of, assign_of, suffix_of, suffix, suffixes, suffixes_by, after_argument, arguments_from, arguments, after_name, primary_by, primary, prefix, prefix_by, operation, climb, climb_by, assigned, assigned_by, after_first, level}

@@ -10,10 +10,10 @@ use Rattle.nss_tree.specs.Statements.{joined_stmts}
 use Rattle.nss_symbols.specs.declared.terminal.Terminal.{Terminal}
 use Rattle.nss_symbols.specs.declared.terminal.Terminal.TheVariants as terminal
 use Rattle.nss_symbols.specs.Symbols as symbol
-use Rattle.nss_symbols.specs.Symbols.{Symbol, Numbered, at, fixed, numbered_from}
+use Rattle.nss_symbols.specs.Symbols.{Symbol, Numbered, at, fixed}
 use Rattle.nss_symbols.specs.Outcome.{Parser, branch, same_terminal, sees, first, take, here}
 use Rattle.nss_parser.specs.ReadStatement.{type_begins, condition, optional, declaration, case_label, default_label, expression_statement, break_statement, continue_statement, return_statement, labelled, entry, entries_from, entries, block, after_then, if_statement, while_statement, do_statement, for_statement, switch_statement, statement_by, some_statement, statement}
-use Rattle.nss_parser.specs.Grammar.{Expression, Optional, TypeTokens, ConstantTokens, DeclaredNames, ends_open, Statement, Entry, Entries}
+use Rattle.nss_parser.specs.Grammar.{Expression, Optional, ConstantTokens, DeclaredNames, ends_open, Statement, Entry, Entries}
 use Rattle.nss_parser.specs.Grammar as grammar
 use Rattle.nss_parser.proofs.ExpressionFacts.{starts_length, starts_expression}
 use Rattle.nss_parser.proofs.ExpressionRight.{right_level, zero_expression}

@@ -11,7 +11,7 @@ use Rattle.nss_symbols.specs.Symbols as symbol
 use Rattle.nss_symbols.specs.Symbols.{Symbol, Numbered, at, fixed}
 use Rattle.nss_parser.specs.Operators.{type_word}
 use Rattle.nss_symbols.specs.Outcome.{Outcome, Got, Stuck, Deep, Parser, and_then, ◌>>=◌, same_terminal, sees, first, take, expect, pure, branch}
-use Rattle.nss_parser.specs.Grammar.{TypeTokens, ConstantTokens, Declared, DeclaredNames, Entries}
+use Rattle.nss_parser.specs.Grammar.{TypeTokens, Declared, DeclaredNames, Entries}
 use Rattle.nss_parser.specs.Grammar as grammar
 use Rattle.nss_parser.specs.Unit.{FieldNames, Field, Fields, ParameterTokens, ParameterList, Parameters, Body, Item, Items}
 use Rattle.nss_parser.specs.Unit as spelled

@@ -10,7 +10,7 @@ use Rattle.nss_tree.specs.Units as unit
 use Rattle.nss_symbols.specs.declared.terminal.Terminal.{Terminal}
 use Rattle.nss_symbols.specs.declared.terminal.Terminal.TheVariants as terminal
 use Rattle.nss_symbols.specs.Symbols as symbol
-use Rattle.nss_symbols.specs.Symbols.{Symbol, Numbered, at, fixed, numbered_from}
+use Rattle.nss_symbols.specs.Symbols.{Numbered, at, fixed}
 use Rattle.nss_symbols.specs.Outcome.{Parser, and_then, ◌>>=◌, is_terminal, first, choice, expect, pure, name}
 use Rattle.nss_parser.specs.Grammar.{TypeTokens, ConstantTokens, Declared, DeclaredNames, Entries}
 use Rattle.nss_parser.specs.Grammar as grammar

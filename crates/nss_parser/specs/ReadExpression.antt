@@ -11,7 +11,7 @@ use Rattle.nss_symbols.specs.declared.terminal.Terminal.TheVariants as terminal
 use Rattle.nss_parser.specs.declared.operator.Suffix.{Suffix}
 use Rattle.nss_parser.specs.declared.operator.Suffix.TheVariants.{Member, Step}
 use Rattle.nss_symbols.specs.Symbols as symbol
-use Rattle.nss_symbols.specs.Symbols.{Symbol, Numbered}
+use Rattle.nss_symbols.specs.Symbols.{Symbol}
 use Rattle.nss_parser.specs.Operators.{binary_operator, level_of, unary_level, assign_operator, prefix_operator, postfix_operator}
 use Rattle.nss_symbols.specs.Outcome.{Parser, ◌>>=◌, pure, stuck, deep, take, peek, branch, choice, is_terminal, expect, name}
 

@@ -144,7 +144,10 @@ is_positive n = not (n == 0)
 -- A `}` or `;` then resets the last number, to 1, or to 0 where it is the only one, and its count
 -- to 0; but not before `else`, and not before `while` where the count is above 0.
 abbrev pub reset : Terminal → Option Terminal → State → State
-reset m after s = if is_end m && not (is_some_and is_else after) && not (is_some_and is_while after && is_positive s.last.dos) then with_last s (record { number = reset_number s.below; dos = 0 }) else s
+reset m after s =
+    if is_end m && not (is_some_and is_else after) && not (is_some_and is_while after && is_positive s.last.dos)
+    then with_last s (record { number = reset_number s.below; dos = 0 })
+    else s
 
 -- what a token makes of the numbers, by the one before it and the one after it
 abbrev pub changed : Option Terminal → Option Terminal → Option Terminal → State → State

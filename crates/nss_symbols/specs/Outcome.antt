@@ -3,7 +3,7 @@
 use Rattle.std.specs.Prelude.{ℕ, Bool, true, false, List, [], ◌∷◌, Option, None, Some}
 use Rattle.nss_symbols.specs.declared.terminal.Terminal.{Terminal}
 use Rattle.nss_symbols.specs.Symbols as symbol
-use Rattle.nss_symbols.specs.Symbols.{Symbol, Numbered, at}
+use Rattle.nss_symbols.specs.Symbols.{Symbol, Numbered}
 use Rattle.nss_symbols.specs.contracts.terminal.Terminal.{the_type}
 use denote.Enum.Bare.{sameb}
 

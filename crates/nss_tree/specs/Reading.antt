@@ -6,7 +6,7 @@ use Rattle.nss_tree.specs.Expressions.{PlainExpr, PlainExprs}
 use Rattle.nss_tree.specs.Statements as s
 use Rattle.nss_tree.specs.Statements.{PlainStmt, PlainStmts, map_declared, map_stmt, map_stmts}
 use Rattle.nss_tree.specs.Units as u
-use Rattle.nss_tree.specs.Units.{PlainItem, PlainTree, map_item, map_items}
+use Rattle.nss_tree.specs.Units.{PlainItem, map_item}
 use Rattle.nss_tree.specs.Source.{SourceDeclared, SourceItem, SourceStmt, SourceStmts, SourceTree}
 use Rattle.nss_tree.specs.declared.constants.Constant.{Constant}
 use Rattle.nss_tree.specs.declared.constants.TypeName.{TypeName}

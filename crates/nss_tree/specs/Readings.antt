@@ -114,10 +114,12 @@ plain_prefix the n o x is = ap plain_expr is ∙ prefix_is n o x
 pub plain_postfix : (the : Expr) (n : ℕ) (o : PostfixOperator) (x : Box Expr Global) → the ≡ expr_view.Postfix n o x → plain_expr the ≡ e.postfix n o (plain_expr x.value)
 plain_postfix the n o x is = ap plain_expr is ∙ postfix_is n o x
 
-pub plain_binary : (the : Expr) (n : ℕ) (o : BinaryOperator) (x : Box Expr Global) (y : Box Expr Global) → the ≡ expr_view.Binary n o x y → plain_expr the ≡ e.binary n o (plain_expr x.value) (plain_expr y.value)
+pub plain_binary : (the : Expr) (n : ℕ) (o : BinaryOperator) (x : Box Expr Global) (y : Box Expr Global) → the ≡ expr_view.Binary n o x y
+    → plain_expr the ≡ e.binary n o (plain_expr x.value) (plain_expr y.value)
 plain_binary the n o x y is = ap plain_expr is ∙ binary_is n o x y
 
-pub plain_assign : (the : Expr) (n : ℕ) (o : AssignOperator) (x : Box Expr Global) (y : Box Expr Global) → the ≡ expr_view.Assign n o x y → plain_expr the ≡ e.assign n o (plain_expr x.value) (plain_expr y.value)
+pub plain_assign : (the : Expr) (n : ℕ) (o : AssignOperator) (x : Box Expr Global) (y : Box Expr Global) → the ≡ expr_view.Assign n o x y
+    → plain_expr the ≡ e.assign n o (plain_expr x.value) (plain_expr y.value)
 plain_assign the n o x y is = ap plain_expr is ∙ assign_is n o x y
 
 pub block_is : {E C T N : Type 0} (n : ℕ) (xs : Vec (Stmt E C T N) Global) → tree_of_stmt {E = E} {C = C} {T = T} {N = N} (stmt_view.Block n xs) ≡ s.block n (tree_of_stmts xs.items)
@@ -136,7 +138,8 @@ pub if_only_is : {E C T N : Type 0} (n : ℕ) (x : E) (a : Box (Stmt E C T N) Gl
 unfolding tree_of_stmt
 if_only_is n x a = refl
 
-pub if_else_is : {E C T N : Type 0} (n : ℕ) (x : E) (a : Box (Stmt E C T N) Global) (b : Box (Stmt E C T N) Global) → tree_of_stmt {E = E} {C = C} {T = T} {N = N} (stmt_view.IfElse n x a b) ≡ s.if_else n x (tree_of_stmt a.value) (tree_of_stmt b.value)
+pub if_else_is : {E C T N : Type 0} (n : ℕ) (x : E) (a : Box (Stmt E C T N) Global) (b : Box (Stmt E C T N) Global)
+    → tree_of_stmt {E = E} {C = C} {T = T} {N = N} (stmt_view.IfElse n x a b) ≡ s.if_else n x (tree_of_stmt a.value) (tree_of_stmt b.value)
 unfolding tree_of_stmt
 if_else_is n x a b = refl
 
@@ -148,7 +151,8 @@ pub do_loop_is : {E C T N : Type 0} (n : ℕ) (a : Box (Stmt E C T N) Global) (x
 unfolding tree_of_stmt
 do_loop_is n a x = refl
 
-pub for_loop_is : {E C T N : Type 0} (n : ℕ) (x : Option E) (y : Option E) (z : Option E) (a : Box (Stmt E C T N) Global) → tree_of_stmt {E = E} {C = C} {T = T} {N = N} (stmt_view.For n x y z a) ≡ s.for_loop n x y z (tree_of_stmt a.value)
+pub for_loop_is : {E C T N : Type 0} (n : ℕ) (x : Option E) (y : Option E) (z : Option E) (a : Box (Stmt E C T N) Global)
+    → tree_of_stmt {E = E} {C = C} {T = T} {N = N} (stmt_view.For n x y z a) ≡ s.for_loop n x y z (tree_of_stmt a.value)
 unfolding tree_of_stmt
 for_loop_is n x y z a = refl
 
@@ -192,7 +196,8 @@ tree_expression the n x is = ap tree_of_stmt is ∙ expression_is n x
 pub tree_if_only : {E C T N : Type 0} (the : Stmt E C T N) (n : ℕ) (x : E) (a : Box (Stmt E C T N) Global) → the ≡ stmt_view.If n x a → tree_of_stmt the ≡ s.if_only n x (tree_of_stmt a.value)
 tree_if_only the n x a is = ap tree_of_stmt is ∙ if_only_is n x a
 
-pub tree_if_else : {E C T N : Type 0} (the : Stmt E C T N) (n : ℕ) (x : E) (a : Box (Stmt E C T N) Global) (b : Box (Stmt E C T N) Global) → the ≡ stmt_view.IfElse n x a b → tree_of_stmt the ≡ s.if_else n x (tree_of_stmt a.value) (tree_of_stmt b.value)
+pub tree_if_else : {E C T N : Type 0} (the : Stmt E C T N) (n : ℕ) (x : E) (a : Box (Stmt E C T N) Global) (b : Box (Stmt E C T N) Global) → the ≡ stmt_view.IfElse n x a b
+    → tree_of_stmt the ≡ s.if_else n x (tree_of_stmt a.value) (tree_of_stmt b.value)
 tree_if_else the n x a b is = ap tree_of_stmt is ∙ if_else_is n x a b
 
 pub tree_while_loop : {E C T N : Type 0} (the : Stmt E C T N) (n : ℕ) (x : E) (a : Box (Stmt E C T N) Global) → the ≡ stmt_view.While n x a → tree_of_stmt the ≡ s.while_loop n x (tree_of_stmt a.value)
@@ -201,7 +206,8 @@ tree_while_loop the n x a is = ap tree_of_stmt is ∙ while_loop_is n x a
 pub tree_do_loop : {E C T N : Type 0} (the : Stmt E C T N) (n : ℕ) (a : Box (Stmt E C T N) Global) (x : E) → the ≡ stmt_view.Do n a x → tree_of_stmt the ≡ s.do_loop n (tree_of_stmt a.value) x
 tree_do_loop the n a x is = ap tree_of_stmt is ∙ do_loop_is n a x
 
-pub tree_for_loop : {E C T N : Type 0} (the : Stmt E C T N) (n : ℕ) (x : Option E) (y : Option E) (z : Option E) (a : Box (Stmt E C T N) Global) → the ≡ stmt_view.For n x y z a → tree_of_stmt the ≡ s.for_loop n x y z (tree_of_stmt a.value)
+pub tree_for_loop : {E C T N : Type 0} (the : Stmt E C T N) (n : ℕ) (x : Option E) (y : Option E) (z : Option E) (a : Box (Stmt E C T N) Global) → the ≡ stmt_view.For n x y z a
+    → tree_of_stmt the ≡ s.for_loop n x y z (tree_of_stmt a.value)
 tree_for_loop the n x y z a is = ap tree_of_stmt is ∙ for_loop_is n x y z a
 
 pub tree_switch : {E C T N : Type 0} (the : Stmt E C T N) (n : ℕ) (x : E) (xs : Vec (Stmt E C T N) Global) → the ≡ stmt_view.Switch n x xs → tree_of_stmt the ≡ s.switch n x (tree_of_stmts xs.items)
@@ -272,7 +278,17 @@ map_body f None = refl
 map_body f (Some xs) = refl
 
 -- for constructor functions
-pub ruleset plain_laws = (int_is, float_is, text_is, object_self_is, object_invalid_is, name_is, call_is, member_is, prefix_is, postfix_is, binary_is, assign_is, block_is, empty_is, expression_is, if_only_is, if_else_is, while_loop_is, do_loop_is, for_loop_is, switch_is, break_off_is, continue_on_is, return_from_is, declaration_is, case_label_is, default_label_is, plain_exprs_none, plain_exprs_more, plain_exprs_push, stmts_none, stmts_more, stmts_push)
+pub ruleset plain_laws = (
+    int_is, float_is, text_is, object_self_is, object_invalid_is, name_is, call_is, member_is,
+    prefix_is, postfix_is, binary_is, assign_is, block_is, empty_is, expression_is, if_only_is,
+    if_else_is, while_loop_is, do_loop_is, for_loop_is, switch_is, break_off_is, continue_on_is,
+    return_from_is, declaration_is, case_label_is, default_label_is, plain_exprs_none,
+    plain_exprs_more, plain_exprs_push, stmts_none, stmts_more, stmts_push)
 
 -- for a walk that matches
-pub ruleset plain_cases = (plain_int, plain_float, plain_text, plain_object_self, plain_object_invalid, plain_name, plain_call, plain_member, plain_prefix, plain_postfix, plain_binary, plain_assign, tree_block, tree_empty, tree_expression, tree_if_only, tree_if_else, tree_while_loop, tree_do_loop, tree_for_loop, tree_switch, tree_break_off, tree_continue_on, tree_return_from, tree_declaration, tree_case_label, tree_default_label)
+pub ruleset plain_cases = (
+    plain_int, plain_float, plain_text, plain_object_self, plain_object_invalid, plain_name,
+    plain_call, plain_member, plain_prefix, plain_postfix, plain_binary, plain_assign, tree_block,
+    tree_empty, tree_expression, tree_if_only, tree_if_else, tree_while_loop, tree_do_loop,
+    tree_for_loop, tree_switch, tree_break_off, tree_continue_on, tree_return_from,
+    tree_declaration, tree_case_label, tree_default_label)

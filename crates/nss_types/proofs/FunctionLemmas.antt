@@ -8,7 +8,7 @@ use Rattle.nss_tree.specs.Source.{SourceParameter, SourceStmts}
 use Rattle.typing_rules.specs.Nodes.{asked, three}
 use Rattle.typing_rules.specs.Rules.{head_rows, params_of, same_types}
 use Rattle.typing_rules.specs.Scopes.{OnlyAdds, ParametersOnlyAdd, StatementsOnlyAdd}
-use Rattle.typing_rules.specs.Sight.{Entry, Head, Meant, Sight, Signature}
+use Rattle.typing_rules.specs.Sight.{Head, Meant, Sight, Signature}
 use Rattle.typing_rules.specs.Typed.{TypedParameter}
 use Rattle.typing_rules.specs.Types.{same_type}
 use Rattle.typing_rules.specs.Verdicts.{after_body, after_params}

@@ -1,5 +1,5 @@
 -- The verdict on a parameter, by the fault that code finds.
-use Rattle.std.proofs.Common.{◌≡◌, Bool, false, not, ◌&&◌, Option, None, Some, refl, sym, ap, ◌∙◌}
+use Rattle.std.proofs.Common.{◌≡◌, Bool, false, not, ◌&&◌, Option, Some, refl, sym, ap, ◌∙◌}
 use Rattle.std.specs.Option.{option_and_then}
 use Rattle.nss_tree.specs.Source.{SourceParameter}
 use Rattle.nwq_value.specs.declared.engine.Const.{Const}

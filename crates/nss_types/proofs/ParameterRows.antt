@@ -1,12 +1,12 @@
 -- Parameters in a row.
-use Rattle.std.proofs.Common.{◌≡◌, ℕ, ◌+◌, ◌<◌, Bool, List, [], ◌∷◌, ◌++◌, length, drop, get_or, Option, None, Some, refl, sym, ap, ◌∙◌}
+use Rattle.std.proofs.Common.{◌≡◌, ℕ, ◌+◌, ◌<◌, Bool, List, [], ◌∷◌, ◌++◌, length, drop, get_or, Option, refl, sym, ap, ◌∙◌}
 use Rattle.std.proofs.lemmas.List.{at_drop_more}
 use Rattle.nss_tree.specs.Source.{SourceParameter}
 use Rattle.typing_rules.specs.Nodes.{at, faults_there, fine}
 use Rattle.typing_rules.specs.Sight.{Sight}
 use Rattle.typing_rules.specs.Typed.{TypedParameter}
 use Rattle.typing_rules.specs.Verdicts.{after_params, constant_faults, late_after, one_more, parameter_declared, parameter_verdict, params_faults, params_fine}
-use Rattle.nss_expressions.specs.Rows.{and_one, with_rest}
+use Rattle.nss_expressions.specs.Rows.{with_rest}
 use Rattle.nss_expressions.specs.RowLaws.{RowLaws, rest_begin, rest_step, rest_end}
 
 abbrev late_all : Bool → List SourceParameter → Bool

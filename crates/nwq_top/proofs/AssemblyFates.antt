@@ -8,7 +8,7 @@ use Rattle.ncs_code.specs.Plain.{PlainOp}
 use Rattle.ncs_code.specs.Spelling.{op_size, IsOp}
 use Rattle.ncs_code.specs.File.{header_size, ops_size, file_length, file_bytes, op_at, leads_well}
 use Rattle.ncs_code.specs.Laws.{PlaceLaws, StandsBehind}
-use Rattle.ncs_text.specs.Assembly.{Writes, IsRemark, Assembles, none, remark, instruction, IsAssembled, AssemblyStopsAt, IsLarge, LeadsAstray}
+use Rattle.ncs_text.specs.Assembly.{Writes, IsRemark, Assembles, none, remark, instruction, IsAssembled}
 use Rattle.ncs_text.specs.declared.fault.AsmFault.{AsmFault}
 use Rattle.ncs_text.specs.declared.fault.AsmFault.TheVariants as asm
 use Rattle.ncs_text.specs.Assembly as assembly

@@ -32,7 +32,7 @@ use Rattle.engine_table.specs.Headers.{OneHeader}
 use Rattle.engine_table.specs.KeptTables.{HeadersHaveTables, BuiltInIsTable}
 use Rattle.typing_rules.specs.Laws.{VerdictsAreRight, NoneKeptIsTyped}
 use Rattle.command_work.specs.Work as work
-use Rattle.command_work.specs.Work.{Work, file_named, then, Finished, puts, writes}
+use Rattle.command_work.specs.Work.{file_named, puts, writes}
 use Rattle.command_work.specs.Reading.{IsRead}
 use Rattle.command_sources.specs.Headers.{table_of_word}
 use Rattle.command_files.specs.Checks.{checked_named, loaded_in}

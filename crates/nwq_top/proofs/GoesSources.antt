@@ -43,7 +43,7 @@ use Rattle.command_files.specs.Codes as code
 use Rattle.command_files.specs.Checks.{checked_in, loaded_in}
 use Rattle.command_files.specs.Checks as check
 use Rattle.command_files.specs.Commands.{writes_and_puts}
-use Rattle.command_compile.specs.Typings.{TypingFate, IsTypingFate, typing_by, typed_in}
+use Rattle.command_compile.specs.Typings.{typed_in}
 use Rattle.command_compile.specs.Typings as typing
 use Rattle.command_compile.specs.Files.{file_by, file_in, compiled_in, compiled_named, code_name, compiled_line, writes_code, compiles_under, compiles}
 use Rattle.command_plays.specs.Plays.{ends_by}

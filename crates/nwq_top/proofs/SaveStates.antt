@@ -1,5 +1,5 @@
 -- There is a state of each play that `save` accepts, where its world has room in one.
-use Rattle.std.proofs.Common.{arith, ◌≡◌, ◌≢◌, ◌<◌, ◌≤◌, ℕ, suc, Bool, true, false, cond, List, [], ◌∷◌, length, map, Option, Some, None, refl, sym, ap, ap₂, ◌∙◌, subst}
+use Rattle.std.proofs.Common.{arith, ◌≡◌, ◌≢◌, ◌<◌, ℕ, suc, Bool, true, false, cond, List, [], ◌∷◌, length, map, Option, Some, refl, sym, ap, ap₂, ◌∙◌, subst}
 use Rattle.std.proofs.lemmas.Cmp.{nat_list_cmp_total, nat_list_eq_equiv}
 use Rattle.std.proofs.lemmas.List.Elements.{recursion_from_All}
 use Rattle.std.specs.Prelude.{IsTrue, ◌||◌}
@@ -8,27 +8,26 @@ use Rattle.std.specs.Str.{bytes_eq}
 use Rattle.std.specs.Cmp.Lexicographic.{slice_cmp}
 use Rattle.std.specs.Ordering.{nat_cmp, is_eq}
 use Rattle.std.specs.FinMap as fin_map
-use Rattle.nwq_value.specs.Engine.{EngineTable, IsTable}
+use Rattle.nwq_value.specs.Engine.{EngineTable}
 use Rattle.nwq_text.specs.Names.{is_script_name}
 use Rattle.nwq_outside.specs.Outside.{Contents, ContentsAreBytes}
 use Rattle.engine_table.specs.KeptTables.{HeadersHaveTables, BuiltInIsTable}
-use Rattle.gff_tree.specs.Whole.{PlainGff}
-use Rattle.area_rules.specs.Area.{PlainArea, area_of}
+use Rattle.area_rules.specs.Area.{PlainArea}
 use Rattle.emission_rules.specs.Units.{unit_file}
 use Rattle.ncs_code.specs.File.{IsCode}
 use Rattle.plan_text.specs.declared.plan.Plan.{Plan}
 use Rattle.plan_text.specs.declared.plan.Script.{Script as ScriptLine}
 use Rattle.plan_text.specs.Plans as plan_rules
-use Rattle.plan_text.specs.Plans.{is_listed, limits_of, IsPlan, PlansKeep}
+use Rattle.plan_text.specs.Plans.{is_listed, IsPlan, PlansKeep}
 use Rattle.saved_state.specs.declared.saved.Saved.{Saved}
 use Rattle.machine_rules.specs.Machine.{Script}
 use Rattle.world_rules.specs.Pure.{CellLookup}
 use Rattle.world_rules.specs.Plays.{Played, StoppedInside}
 use Rattle.state_format.specs.declared.parts.Parts.{Parts}
 use Rattle.state_format.specs.Parts.{IsBlob, IsMaybe}
-use Rattle.play_save.specs.Rules.{IsHeaderOf, IsAreaOf}
+use Rattle.play_save.specs.Rules.{IsHeaderOf}
 use Rattle.play_save.specs.Written.{AreListed, CodeIsBytes, HasRoom}
-use Rattle.play_states.specs.Resting.{first_played, FirstEntriesHaveStates}
+use Rattle.play_states.specs.Resting.{FirstEntriesHaveStates}
 use Rattle.play_inputs.specs.Listings.{line_names}
 use Rattle.play_worlds.specs.Worlds.{plan_world}
 use Rattle.command_work.specs.Reading.{IsRead}

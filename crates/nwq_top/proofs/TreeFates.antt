@@ -7,7 +7,7 @@ use Rattle.gff_bytes.specs.declared.rows.StructRow.{StructRow}
 use Rattle.gff_bytes.specs.File.{open_fault, data_at, list_word, struct_row, field_row, label_row}
 use Rattle.gff_read.specs.declared.fault.TreeFault.{TreeFault}
 use Rattle.gff_read.specs.declared.fault.TreeFault.TheVariants as fault
-use Rattle.gff_tree.specs.Tree.{PlainNode, PlainLeaf, Struct, struct_depth_limit}
+use Rattle.gff_tree.specs.Tree.{Struct, struct_depth_limit}
 use Rattle.gff_tree.specs.Tree as tree
 use Rattle.gff_tree.specs.Whole.{PlainGff}
 use Rattle.gff_read.specs.declared.kind.FieldKind.{FieldKind}

@@ -12,7 +12,7 @@ use Rattle.nwq_value.specs.Engine.{Constant, IsTable, IsConstant, IsRoutine, Are
 use Rattle.nwq_value.specs.Entries.{constant_in, constants_in, constant_under, routine_under, table_of, AreFound}
 use Rattle.nwq_value.specs.Index.{number_under, IsSame, Puts}
 use Rattle.nwq_value.proofs.KeyLemmas.{differ, equal, lookup_other, lookup_new, no_place, position_other, position_new, values_more, as_many}
-use Rattle.nwq_value.proofs.TableLemmas.{one_more, routine_cons, constant_cons, table_pushed, table_defined, routine_kept, routine_number}
+use Rattle.nwq_value.specs.TableLemmas.{one_more, routine_cons, constant_cons, table_pushed, table_defined, routine_kept, routine_number}
 
 -- ---- a name more
 

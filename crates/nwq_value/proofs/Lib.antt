@@ -5,6 +5,5 @@ mod NameLemmas
 mod OperatorExamples
 mod RoleLemmas
 mod RowLemmas
-mod TableLemmas
 mod TextLemmas
 mod ValueLemmas

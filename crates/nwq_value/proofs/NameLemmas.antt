@@ -6,7 +6,7 @@ use Rattle.std.specs.Str.{bytes_eq}
 use Rattle.nwq_value.specs.declared.engine.Const.{Const}
 use Rattle.nwq_value.specs.declared.engine.Routine.{Routine}
 use Rattle.nwq_value.specs.Engine.{Constant, routine_named, constant_named, NumberIsOfName, NoNumberNoName, ConstantIsOfName, NoConstantNoName}
-use Rattle.nwq_value.proofs.TableLemmas.{routine_cons, constant_cons}
+use Rattle.nwq_value.specs.TableLemmas.{routine_cons, constant_cons}
 
 differ : (a b : List ℕ) → bytes_eq a b ≡ false → b ≢ a
 differ a b e is = true≢false (sym ((bytes_decides a b).1 (sym is)) ∙ e)

@@ -8,4 +8,5 @@ pub mod Limits
 pub mod Operators
 pub mod Roles
 pub mod Rows
+pub mod TableLemmas
 pub mod Values

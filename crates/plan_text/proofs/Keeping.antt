@@ -13,7 +13,7 @@ use Rattle.plan_text.specs.Words.{Word}
 use Rattle.plan_text.specs.Fields.{within, number_between, greatest_nth, greatest_random}
 use Rattle.nwq_text.specs.Names.{is_script_name}
 use Rattle.nwq_text.specs.Number.{number_of}
-use Rattle.plan_text.specs.Plans.{Draft, Adds, one, more, one_more, with_number, given_once, IsEvent, IsStart, IsFreeStart, Plans, Lists, is_listed, ReadsBehind, Reads, empty, remark, says, Comes, whole, more, stops, Gives, headed, headless, nothing, plan_of, or_default, HasPlan, IsFaulty, IsVersion, IsBetween, AreRandoms, AreListed, IsLine, IsPlan, PlansKeep, IsLineOf, FaultsLieInside}
+use Rattle.plan_text.specs.Plans.{Draft, Adds, one, more, one_more, with_number, given_once, IsEvent, IsStart, IsFreeStart, Plans, Lists, is_listed, ReadsBehind, Reads, empty, remark, says, Comes, whole, more, stops, Gives, headed, headless, nothing, plan_of, or_default, IsVersion, IsBetween, AreRandoms, AreListed, IsLine, IsPlan, PlansKeep, IsLineOf, FaultsLieInside}
 use Rattle.plan_text.specs.Plans as plans
 
 -- ---- one line

@@ -1,19 +1,17 @@
 -- Agendas of entries that are in order already.
-use Rattle.std.proofs.Common.{◌≡◌, ◌≢◌, ◌<◌, ◌≤◌, ℕ, zero, suc, ◌+◌, Bool, true, false, List, [], ◌∷◌, ◌++◌, length, take, drop, get_or, map, sym, ap, refl, ◌∙◌, inl, inr, subst, add-one, arith}
-use Rattle.std.specs.Prelude.{not, IsTrue, ◌||◌, nat_eq}
-use Rattle.std.specs.List.{AllByRecursion, list_any}
+use Rattle.std.proofs.Common.{◌≡◌, ◌≢◌, ◌<◌, ℕ, zero, suc, ◌+◌, Bool, true, false, List, [], ◌∷◌, ◌++◌, length, take, drop, get_or, map, sym, ap, refl, ◌∙◌, inl, inr, subst, arith}
+use Rattle.std.specs.Prelude.{not, ◌||◌, nat_eq}
 use Rattle.std.specs.BTreeSet.{BTreeSet}
 use Rattle.std.proofs.lemmas.Bool.Decides.{nat_tests}
 use Rattle.delay_agenda.specs.declared.entry.Entry.{Entry}
 use Rattle.delay_agenda.specs.Order.{IsBefore, is_before, put_entry, IsBeforeAll, AreInOrder, AreBelow, HasNone, AreDistinct}
 use Rattle.delay_agenda.specs.Waiting.{Waiting, IsAgenda}
 use Rattle.saved_state.specs.declared.saved.Saved.{Saved}
-use Rattle.world_rules.specs.Kept.{IsPlaced}
 use Rattle.state_format.specs.declared.parts.Entry.{Entry as Part}
-use Rattle.play_save.specs.World.{entry_of, kind_of}
+use Rattle.play_save.specs.World.{entry_of}
 use Rattle.play_save.specs.Rules.{AreWaiting}
 use Rattle.play_save.specs.Breaking.{IsWaiting, IsBeforeFirst, HasNumbers, AddsNumber, has_number, is_numbered}
-use Rattle.play_save.proofs.Lists.{map_more, all_at, all_drop, drop_at}
+use Rattle.play_save.proofs.Lists.{map_more, drop_at}
 
 -- ---- an entry put behind all others
 

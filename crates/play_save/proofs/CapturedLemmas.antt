@@ -1,5 +1,5 @@
 -- Captured states that fit the tables that are kept, and those that fit every table.
-use Rattle.std.proofs.Common.{◌≡◌, ◌<◌, ◌≤◌, ℕ, zero, suc, List, [], ◌∷◌, ◌++◌, length, drop, sym, ap, refl, ◌∙◌, subst, arith}
+use Rattle.std.proofs.Common.{◌≡◌, ◌<◌, ◌≤◌, ℕ, zero, suc, List, [], ◌∷◌, length, drop, sym, ap, refl, ◌∙◌, subst, arith}
 use Rattle.std.specs.Prelude.{Option, Some, None, slice_get, Bool, true, false, IsTrue, ◌↔◌}
 use Rattle.std.proofs.lemmas.Bool.{iff_false}
 use Rattle.std.specs.List.{AllByRecursion}
@@ -11,7 +11,6 @@ use Rattle.ncs_code.specs.File.{file_bytes, file_length, header_size, spellings}
 use Rattle.ncs_code.specs.Spelling.{four}
 use Rattle.ncs_code.specs.Reading.{ops_of}
 use Rattle.ncs_code.specs.Laws.{SpellingLaws, FileLength}
-use Rattle.stack_rules.specs.Tables.{ShapeTable}
 use Rattle.stack_rules.specs.Rules.{MeetsRules, WellStacked}
 use Rattle.stack_rules.specs.Fits.{Fits}
 use Rattle.stack_check.specs.Checked.{FitsToo, kept_table}

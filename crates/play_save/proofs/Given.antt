@@ -1,5 +1,5 @@
 -- The world that is put together of a state's parts.
-use Rattle.std.proofs.Common.{◌≡◌, ◌<◌, ◌≤◌, ℕ, zero, suc, ◌+◌, Bool, true, false, List, [], ◌∷◌, length, take, get_or, map, sym, ap, refl, ◌∙◌, subst, add-one, inl, inr, arith}
+use Rattle.std.proofs.Common.{◌≡◌, ◌<◌, ◌≤◌, ℕ, zero, suc, ◌+◌, List, [], ◌∷◌, length, take, get_or, map, sym, ap, refl, ◌∙◌, subst, add-one, inl, inr, arith}
 use Rattle.std.specs.Prelude.{pos, Option, Some, None, MatchOption, slice_get}
 use Rattle.std.specs.Option.{option_map}
 use Rattle.std.specs.List.{AllByRecursion, IsDistinct}
@@ -10,7 +10,7 @@ use Rattle.area_rules.specs.Area.{PlainArea, changed, variables_changed_at}
 use Rattle.delay_agenda.specs.declared.entry.Entry.{Entry}
 use Rattle.delay_agenda.specs.Waiting.{Waiting, IsAgenda, turn_count}
 use Rattle.world_rules.specs.declared.data.Things.{Things}
-use Rattle.world_rules.specs.World.{World, queue_of, things_at, queue_in}
+use Rattle.world_rules.specs.World.{World, queue_of, queue_in}
 use Rattle.world_rules.specs.Kept.{IsWorld, IsPlaced, turns_allowed}
 use Rattle.saved_state.specs.declared.saved.Saved.{Saved}
 use Rattle.state_format.specs.declared.parts.Variable.{Variable as VariablePart}

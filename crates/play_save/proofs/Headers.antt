@@ -1,7 +1,7 @@
 -- A refused header has no table.
-use Rattle.std.specs.Prelude.{◌≡◌, ◌≢◌, ℕ, List, Some}
+use Rattle.std.specs.Prelude.{◌≢◌, ℕ, List, Some}
 use Rattle.nwq_value.specs.Engine.{EngineTable}
-use Rattle.engine_table.specs.Headers.{HasTable, IsRefused, OneHeader}
+use Rattle.engine_table.specs.Headers.{IsRefused, OneHeader}
 use Rattle.engine_table.specs.declared.fault.HeaderFault.{HeaderFault}
 use Rattle.engine_table.specs.declared.fault.HeaderFault.TheVariants.{NoMemory}
 use Rattle.play_save.specs.Rules.{IsHeaderOf}

@@ -1,21 +1,18 @@
 -- What a play goes on from: scripts that keep their tables, and captured states that fit them.
-use Rattle.std.proofs.Common.{◌≡◌, ◌≤◌, ◌<◌, ◌^◌, ◌&&◌, ℕ, zero, suc, Bool, true, List, [], ◌∷◌, length, take, map, sym, ap, refl, ◌∙◌, subst, nat_lt, nat_le, arith}
+use Rattle.std.proofs.Common.{◌≡◌, ◌≤◌, ◌<◌, ◌^◌, ◌&&◌, ℕ, zero, suc, true, List, [], ◌∷◌, length, map, sym, ap, refl, ◌∙◌, subst, nat_lt, nat_le, arith}
 use Rattle.std.proofs.lemmas.Bool.{and_parts}
 use Rattle.std.proofs.lemmas.Bool.Decides.{nat_tests}
-use Rattle.std.specs.Prelude.{Option, Some, None, IsTrue, slice_get}
+use Rattle.std.specs.Prelude.{Some, IsTrue, slice_get}
 use Rattle.std.specs.List.{AllByRecursion, list_all}
 use Rattle.nwq_value.specs.Engine.{EngineTable}
 use Rattle.nwq_value.specs.Limits.{text_limit, script_limit}
 use Rattle.nwq_text.specs.Names.{is_script_name, is_script_byte}
 use Rattle.ncs_code.specs.File.{IsCode, file_bytes}
-use Rattle.action_queue.specs.declared.queue.Item.{Item}
 use Rattle.machine_rules.specs.Machine.{Script as MachineScript}
-use Rattle.stack_rules.specs.Tables.{ShapeTable}
 use Rattle.stack_rules.specs.Rules.{MeetsRules}
 use Rattle.stack_rules.specs.Fits.{FitsOne}
 use Rattle.stack_rules.specs.Laws.{AllMeet}
-use Rattle.stack_check.specs.Checked.{StoredStand, AllStand}
-use Rattle.saved_state.specs.declared.saved.Saved.{Saved}
+use Rattle.stack_check.specs.Checked.{AllStand}
 use Rattle.ncs_machine.specs.declared.scripts.Loaded.{Loaded}
 use Rattle.ncs_machine.specs.Host.{script_of, scripts_of, tables_of}
 use Rattle.ncs_machine.specs.Stored.{EntryFits, ItemFits, ThingsFit, StatesFit}

@@ -1,6 +1,5 @@
 -- Scripts that were checked, one by one.
-use Rattle.std.proofs.Common.{◌≡◌, ◌<◌, ℕ, zero, suc, ◌+◌, List, [], ◌∷◌, ◌++◌, length, take, drop, get_or, map, sym, ap, refl, ◌∙◌, subst, add-one, arith}
-use Rattle.std.specs.Prelude.{Some, slice_get}
+use Rattle.std.proofs.Common.{◌≡◌, ◌<◌, ℕ, zero, suc, ◌+◌, List, [], ◌∷◌, ◌++◌, length, take, get_or, sym, ap, subst, add-one, arith}
 use Rattle.nwq_value.specs.Engine.{EngineTable}
 use Rattle.state_format.specs.declared.parts.Script.{Script}
 use Rattle.ncs_machine.specs.declared.scripts.Loaded.{Loaded}

@@ -1,5 +1,5 @@
 -- How parts are made of the values that they tell. No public clause speaks of it.
-use Rattle.std.specs.Prelude.{◌≡◌, ℕ, Bool, true, List, length, map, IsTrue}
+use Rattle.std.specs.Prelude.{◌≡◌, Bool, true, List, map, IsTrue}
 use Rattle.std.specs.List.{AllByRecursion, list_all}
 use Rattle.nwq_value.specs.declared.value.Value.{Value}
 use Rattle.saved_state.specs.declared.cell.Cell.{Cell}

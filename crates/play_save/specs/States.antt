@@ -5,10 +5,9 @@ use Rattle.std.specs.Str.{bytes_eq}
 use Rattle.nwq_value.specs.Engine.{EngineTable}
 use Rattle.nwq_value.specs.Limits.{instruction_limit, entry_limit, time_limit, script_limit, random_limit}
 use Rattle.nwq_text.specs.Names.{is_script_name}
-use Rattle.ncs_code.specs.File.{IsCode, file_bytes}
+use Rattle.ncs_code.specs.File.{file_bytes}
 use Rattle.plan_text.specs.Plans.{Limits}
 use Rattle.gff_tree.specs.Whole.{PlainGff}
-use Rattle.gff_read.specs.Stands.{Stands}
 use Rattle.delay_agenda.specs.declared.entry.Entry.{Entry}
 use Rattle.delay_agenda.specs.Waiting.{turn_count}
 use Rattle.saved_state.specs.declared.saved.Saved.{Saved}

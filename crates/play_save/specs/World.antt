@@ -1,5 +1,5 @@
 -- The world that a state's parts tell.
-use Rattle.std.specs.Prelude.{ℕ, pos, List, [], ◌∷◌, map}
+use Rattle.std.specs.Prelude.{pos, List, [], ◌∷◌, map}
 use Rattle.nwq_value.specs.Effect.{Effect}
 use Rattle.nwq_value.specs.declared.value.Value.TheVariants as value
 use Rattle.saved_state.specs.declared.cell.Cell.{Cell}

@@ -20,7 +20,7 @@ use Rattle.world_rules.specs.Changes.{is_numbered}
 use Rattle.world_rules.specs.AlikeLaws.{call}
 use Rattle.world_rules.specs.Engine.{may_run}
 use Rattle.world_rules.specs.Turns as turning
-use Rattle.world_rules.specs.Turns.{Begun, begin, turn, turned, turn_done, next_turn, unapply, expired, fault, drained}
+use Rattle.world_rules.specs.Turns.{Begun, begin, turn, turned, turn_done, next_turn, expired, fault}
 use Rattle.world_rules.specs.Plays as plays
 use Rattle.world_rules.specs.Plays.{Ending, Over, Stopped, Bounds, Progress, Played, Run, Entered, entry_entered, entered_as, event_entry, turn_entry, named_entry, finished_as, further, after_entry, next_entry, full}
 use Rattle.ncs_machine.specs.Host.{EngineView, host}

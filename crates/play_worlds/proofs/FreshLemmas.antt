@@ -1,18 +1,17 @@
 -- The worlds of plans are inside the plans' limits.
-use Rattle.std.proofs.Common.{◌≡◌, ◌≤◌, ℕ, suc, List, [], ◌∷◌, length, map, refl, sym, ap, subst, ◌∙◌}
+use Rattle.std.proofs.Common.{◌≡◌, ◌≤◌, suc, List, [], ◌∷◌, length, map, refl, sym, ap, subst, ◌∙◌}
 use Rattle.std.specs.Prelude.{◌⊎◌}
 use Rattle.std.specs.List.{AllByRecursion}
 use Rattle.nwq_value.specs.Limits.{event_limit, random_limit, time_limit}
 use Rattle.area_rules.specs.Area.{PlainArea}
 use Rattle.plan_text.specs.declared.plan.Line.{Line}
 use Rattle.plan_text.specs.declared.plan.Line.TheVariants.{Event, Start, Free}
-use Rattle.plan_text.specs.declared.plan.Plan.{Plan}
-use Rattle.plan_text.specs.Plans.{IsLine, IsPlan}
+use Rattle.plan_text.specs.Plans.{IsLine}
 use Rattle.saved_state.specs.declared.saved.Saved.{Saved}
 use Rattle.world_rules.specs.Turns.{Planned}
 use Rattle.world_rules.specs.Settled.{NewIsBetween, NewIsPlanned}
-use Rattle.play_worlds.specs.Worlds.{begun_by, plan_world}
-use Rattle.play_worlds.specs.Fresh.{IsFresh, PlanWorldsAreFresh}
+use Rattle.play_worlds.specs.Worlds.{begun_by}
+use Rattle.play_worlds.specs.Fresh.{PlanWorldsAreFresh}
 use Rattle.play_worlds.proofs.ObjectLemmas.{all_within}
 
 line_soon : (area : PlainArea) (line : Line) → IsLine line → (begun_by area line).due ≤ time_limit

@@ -7,7 +7,6 @@ use Rattle.nwq_value.specs.Values.{type_of}
 use Rattle.nwq_value.specs.Roles.{tys_eq}
 use Rattle.saved_state.specs.declared.cell.Cell.{Cell}
 use Rattle.saved_state.specs.declared.cell.Cell.TheVariants.{Value as Holds, Base}
-use Rattle.emission_rules.specs.Operations.{beneath}
 use Rattle.machine_rules.specs.Cells.{values_on, values_at, value_types, with_values, overwritten, range_pushed, range_written}
 use Rattle.source_meaning.specs.Values.{parts_of}
 use Rattle.source_laws.specs.Kept.{pushed, Stands, AreHeld}

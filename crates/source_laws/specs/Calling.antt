@@ -88,7 +88,9 @@ CapturesCarry host R x tables execute functions =
     (scope : List ℕ) (size n depth place : ℕ) (e : TypedExpr) (p : Progress) (kept : Kept R x scope size p.globals p.locals p.world) (temps between : List Cell)
     → IsFine host.table functions x scope e → LinesStand x.code x.places (resume_place place) (emit x.layout n depth e ++ Instruction ops.Retn ∷ [])
     → length temps + size ≡ depth → AreHeld temps → x.layout.globals ≡ x.bp
-    → R (captured x.script (resume_place place) x.layout.globals depth (record { cells = temps ++ (kept.frame ++ (between ++ kept.under)); bp = x.bp })) (deferred (running_at host tables execute x) scope e p)
+    → R (captured x.script (resume_place place) x.layout.globals depth
+          (record { cells = temps ++ (kept.frame ++ (between ++ kept.under)); bp = x.bp }))
+        (deferred (running_at host tables execute x) scope e p)
 
 -- A script that is run does what running it means, from before the instruction that runs it to
 -- behind that one, where a credit is left for that instruction.

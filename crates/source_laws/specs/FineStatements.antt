@@ -10,7 +10,7 @@ use Rattle.typing_rules.specs.Cells.{cell_types, cells}
 use Rattle.emission_rules.specs.Bounds.{IsCell}
 use Rattle.emission_rules.specs.Layout.{position, declared_cells}
 use Rattle.emission_rules.specs.Statements.{is_label}
-use Rattle.source_meaning.specs.Statements.{after_names, after_stmt}
+use Rattle.source_meaning.specs.Statements.{after_stmt}
 use Rattle.source_meaning.specs.Scripts.{Function}
 use Rattle.source_laws.specs.Kept.{Site}
 use Rattle.source_laws.specs.Fine.{IsFine}

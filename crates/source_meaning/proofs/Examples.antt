@@ -18,7 +18,7 @@ use Rattle.nwq_value.specs.Operators.{value_eq}
 use Rattle.typing_rules.specs.declared.places.EntryPoint.TheVariants.{Main, Conditional}
 use Rattle.typing_rules.specs.declared.places.Place.TheVariants.{Local}
 use Rattle.typing_rules.specs.declared.places.Callee.TheVariants.{Engine}
-use Rattle.typing_rules.specs.Typed.{TypedExpr, TypedUnit}
+use Rattle.typing_rules.specs.Typed.{TypedUnit}
 use Rattle.typing_rules.specs.Typed as e
 use Rattle.world_rules.specs.Engine.{engine}
 use Rattle.world_rules.specs.Trace.{line_text, trace_text}

@@ -1,5 +1,5 @@
 -- What the functions on calls and returns owe.
-use Rattle.std.proofs.Common.{arith, ◌≡◌, ◌≤◌, ◌<◌, ◌-◌, ◌+◌, ℕ, zero, suc, ℤ, List, ◌++◌, length, take, drop, Bool, true, false, None, Some, slice_get, sym, subst, ◌∙◌, ap, refl}
+use Rattle.std.proofs.Common.{arith, ◌≡◌, ◌≤◌, ◌-◌, ◌+◌, ℕ, zero, suc, ℤ, List, ◌++◌, length, take, drop, None, Some, slice_get, sym, subst, ◌∙◌, ap, refl}
 use Rattle.std.specs.Prelude.{IfSome, get_or}
 use Rattle.nwq_value.specs.Engine.{EngineTable}
 use Rattle.ncs_code.specs.Plain.{PlainOp}
@@ -20,10 +20,10 @@ use Rattle.stack_check.specs.declared.facts.Unseen.{Unseen}
 use Rattle.stack_lists.specs.Held.{HeapGrows, Holds, IsIn, shape_of}
 use Rattle.stack_lists.specs.Rows.{row_in}
 use Rattle.stack_check.specs.Facts.{FindsMore, current}
-use Rattle.stack_check.specs.Inference.{BeginsAlike, Formed, TrialIn, RowIs, Keeps, LooksOwed, Visited, WhereQuiet, Takes, Owed, TrialBegins, Sound, Sees, Calls, Within, window}
+use Rattle.stack_check.specs.Inference.{BeginsAlike, Formed, TrialIn, RowIs, Keeps, LooksOwed, Visited, WhereQuiet, Takes, Owed, Sound, Sees, Calls, Within, window}
 use Rattle.stack_lists.specs.Growth.{heap_same, still_shape, same_shape}
 use Rattle.stack_check.proofs.Keeping.{keeps_grows}
-use Rattle.stack_check.proofs.Calling.{behind, call_begins, call_looks, call_owed, call_sound, call_sound_none, call_there, never_begins}
+use Rattle.stack_check.proofs.Calling.{behind, call_begins, call_looks, call_owed, call_sound, call_sound_none, never_begins}
 
 -- the entry of a trial that counts
 callee_entry : (facts : Facts) (target : ℕ) (callee : Trial) → Formed facts → (c : Calls facts target callee) → callee.entry ≡ Called target

@@ -1,5 +1,5 @@
 -- Calls and returns, in what was found and in every table.
-use Rattle.std.proofs.Common.{arith, rules, ◌≡◌, ◌≢◌, ◌≤◌, ◌<◌, ◌+◌, ℕ, ℤ, zero, suc, List, [], ◌∷◌, ◌++◌, length, map, Option, None, Some, slice_get, take, drop, ◌-◌, inl, inr, ◌⊎◌, sym, subst, ◌∙◌, ap, refl}
+use Rattle.std.proofs.Common.{arith, ◌≡◌, ◌≤◌, ◌+◌, ℕ, ℤ, List, [], ◌∷◌, ◌++◌, length, map, Option, None, Some, slice_get, take, drop, ◌-◌, sym, subst, ◌∙◌, ap, refl}
 use Rattle.std.specs.Option.{option_map, option_and_then}
 use Rattle.std.proofs.lemmas.List.{append_assoc, append_cancel_right, drop-append-le, length-append, length-take, take-append-drop, take-append-le}
 use Rattle.nwq_value.specs.Engine.{EngineTable}

@@ -43,7 +43,8 @@ fn visit_step(
     at: &FoundOp<'_>,
 ) -> Result<Seen, NoMemory>
     requires keeps { Keeps judged.now.table.now judged.now.code.now heap.old facts.old }
-    requires row { row_in facts.old.rows at.now.from.trial at.now.from.place ≡ Some at.now.from.held }
+    requires row { row_in facts.old.rows at.now.from.trial at.now.from.place ≡
+        Some at.now.from.held }
     requires op { op_at judged.now.code.now at.now.from.place ≡ Some (plain at.now.op.now) }
     requires one { IsOneStep (plain at.now.op.now) }
     requires next { at.now.next ≡ next_place at.now.from.place (plain at.now.op.now) }
@@ -179,7 +180,8 @@ fn visit_store(
     types: &StoredTypes,
 ) -> Result<Seen, NoMemory>
     requires keeps { Keeps judged.now.table.now judged.now.code.now heap.old facts.old }
-    requires row { row_in facts.old.rows at.now.from.trial at.now.from.place ≡ Some at.now.from.held }
+    requires row { row_in facts.old.rows at.now.from.trial at.now.from.place ≡
+        Some at.now.from.held }
     requires op { op_at judged.now.code.now at.now.from.place ≡ Some (plain at.now.op.now) }
     requires stores { Stores (plain at.now.op.now) (shape_of heap.old at.now.from.held) types.now }
     requires next { at.now.next ≡ next_place at.now.from.place (plain at.now.op.now) }
@@ -214,7 +216,8 @@ fn visit_plain(
     at: &FoundOp<'_>,
 ) -> Result<Seen, NoMemory>
     requires keeps { Keeps judged.now.table.now judged.now.code.now heap.old facts.old }
-    requires row { row_in facts.old.rows at.now.from.trial at.now.from.place ≡ Some at.now.from.held }
+    requires row { row_in facts.old.rows at.now.from.trial at.now.from.place ≡
+        Some at.now.from.held }
     requires op { op_at judged.now.code.now at.now.from.place ≡ Some (plain at.now.op.now) }
     requires one { IsOneStep (plain at.now.op.now) }
     requires plain { IsPlain (plain at.now.op.now) }
@@ -241,7 +244,8 @@ fn visit_stored(
     locals: u32,
 ) -> Result<Seen, NoMemory>
     requires keeps { Keeps judged.now.table.now judged.now.code.now heap.old facts.old }
-    requires row { row_in facts.old.rows at.now.from.trial at.now.from.place ≡ Some at.now.from.held }
+    requires row { row_in facts.old.rows at.now.from.trial at.now.from.place ≡
+        Some at.now.from.held }
     requires op { op_at judged.now.code.now at.now.from.place ≡ Some (plain at.now.op.now) }
     requires store { plain at.now.op.now ≡ StoreState globals locals }
     requires next { at.now.next ≡ next_place at.now.from.place (plain at.now.op.now) }

@@ -1,5 +1,5 @@
 -- What captured states hold that fit a table.
-use Rattle.std.proofs.Common.{◌≡◌, ℕ, List, [], ◌∷◌, ◌++◌, map, reverse, Option, None, Some, inl, inr, ◌⊎◌, sym, subst, ◌∙◌}
+use Rattle.std.proofs.Common.{◌≡◌, List, [], ◌∷◌, ◌++◌, map, reverse, Option, None, Some, inl, inr, sym, subst}
 use Rattle.std.proofs.lemmas.List.{reverse-append, reverse-reverse}
 use Rattle.nwq_value.specs.declared.value.Ty.{Ty}
 use Rattle.saved_state.specs.declared.cell.Cell.{Cell}
@@ -9,7 +9,7 @@ use Rattle.stack_shape.specs.declared.shape.Slot.TheVariants.{Of}
 use Rattle.machine_rules.specs.Machine.{Host}
 use Rattle.machine_rules.specs.Outlines.{slots}
 use Rattle.stack_rules.specs.Fits.{AllValues, FitsAction, HoldsValues, Tables}
-use Rattle.stack_rules.specs.Laws.{FittingHoldsValues, IsReached, Unchanged, ByCall, ByMissing, ByDepth, KeepsWhatIsHanded, KeptHoldsValues}
+use Rattle.stack_rules.specs.Laws.{FittingHoldsValues, Unchanged, ByCall, ByMissing, ByDepth, KeptHoldsValues}
 
 some_is : {A : Type 0} (a b : A) → Some a ≡ Some b → a ≡ b
 some_is a b h = cc

@@ -38,7 +38,7 @@ use Rattle.machine_rules.specs.Machine.{Script, with_answer}
 use Rattle.machine_rules.specs.Outlines.{Outline, Typed, Keeps, outline, outlines, slots, slots_under, outlines_after}
 use Rattle.machine_rules.specs.Laws.{EffectsAreFollowed, CallsAreFollowed, CapturesTypes, StoresAreFollowed}
 use Rattle.stack_rules.specs.Tables.{Callee, ShapeTable, first_shape}
-use Rattle.stack_rules.specs.Rules.{GoesOnBehindCall, MayCall, MayReturn, Leads, MayStore, Follows, Obeys, MeetsRules}
+use Rattle.stack_rules.specs.Rules.{GoesOnBehindCall, MayCall, Leads, MayStore, Obeys, MeetsRules}
 use Rattle.stack_rules.specs.Rules as owed
 use Rattle.stack_rules.specs.Fits.{Tables, IsListed, FitsOne, FitsAction}
 use Rattle.stack_rules.specs.Safe.{outline_slots, from_base, IsUnder, AreSaved, ShapeLiesOn, Waits, AreWaiting, AllFit, IsSafeFrame}

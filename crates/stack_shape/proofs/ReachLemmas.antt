@@ -6,7 +6,6 @@ use Rattle.nwq_value.specs.declared.value.Ty.{Ty}
 use Rattle.nwq_value.specs.declared.value.Ty.TheVariants.{Int, Text}
 use Rattle.nwq_value.specs.declared.engine.Routine.{Routine}
 use Rattle.nwq_value.specs.Engine.{EngineTable}
-use Rattle.nwq_value.specs.Roles.{tys_eq}
 use Rattle.ncs_code.specs.Plain.{PlainOp}
 use Rattle.ncs_code.specs.Plain as ops
 use Rattle.stack_shape.specs.declared.shape.Slot.{Slot}
@@ -14,13 +13,13 @@ use Rattle.stack_shape.specs.declared.shape.Slot.TheVariants.{Of, Base}
 use Rattle.stack_shape.specs.declared.range.CellRange.{CellRange}
 use Rattle.stack_shape.specs.declared.effect.StackEffect.{StackEffect}
 use Rattle.stack_shape.specs.declared.store.StoredTypes.{StoredTypes}
-use Rattle.stack_shape.specs.Ranges.{cell_count, depth_of, range_at, range_of}
+use Rattle.stack_shape.specs.Ranges.{cell_count, depth_of, range_at}
 use Rattle.stack_shape.specs.TopFirst.{types_on, types_at}
-use Rattle.stack_shape.specs.StackEffects.{where_alike, no_effect, exchange, pushed, copied, written, range_int_changed, removed, kept_of, kept, runs, one_int, two_ints, two_alike, type_of_one, type_of_both, type_of_lit, compared, added, reckoned, negated, stack_effect}
-use Rattle.stack_shape.specs.Calls.{fits_call, call_effect, argument_types, result_types, action_count}
+use Rattle.stack_shape.specs.StackEffects.{where_alike, no_effect, exchange, copied, written, range_int_changed, removed, kept_of, kept, runs, one_int, two_ints, two_alike, type_of_both, compared, added, reckoned, negated, stack_effect}
+use Rattle.stack_shape.specs.Calls.{fits_call, call_effect, argument_types, result_types}
 use Rattle.stack_shape.specs.Stored.{TopShape, found_types, stored_types}
-use Rattle.stack_shape.specs.Rule.{affected, based, restored, stored, called_shape, called_with, rule}
-use Rattle.stack_shape.specs.Reach.{reach, counted_cells, range_end, range_count, in_cells, beneath_bp, call_reach, compared_reach}
+use Rattle.stack_shape.specs.Rule.{affected, restored, stored, called_shape, rule}
+use Rattle.stack_shape.specs.Reach.{reach, counted_cells, range_end, range_count, in_cells, call_reach, compared_reach}
 use Rattle.stack_shape.specs.Laws.{beneath_under, deeper_saved, deeper, Reaches, RuleReaches, RuleLooksNoDeeper}
 use Rattle.stack_shape.proofs.EffectLemmas.{on_map, values_are_there}
 use Rattle.stack_shape.proofs.RangeLemmas.{numbers_of_range}

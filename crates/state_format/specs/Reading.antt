@@ -221,7 +221,14 @@ parts_of x =
 
 unfoldable pub parts_at : Reader Parts
 parts_at bytes =
-    mapped parts_of (both magic_at (both (maybe_at blob_at) (both (list_at script_at) (both blob_at (both counts_at (both (list_at (number_at 4)) (both (list_at object_at) (list_at entry_at))))))) bytes)
+    mapped parts_of
+    (both magic_at
+    (both (maybe_at blob_at)
+    (both (list_at script_at)
+    (both blob_at
+    (both counts_at
+    (both (list_at (number_at 4))
+    (both (list_at object_at) (list_at entry_at))))))) bytes)
 
 -- the parts of all the bytes
 abbrev pub whole : Parts × List ℕ → Result Parts ℕ

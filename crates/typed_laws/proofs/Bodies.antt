@@ -20,7 +20,7 @@ use Rattle.typing_rules.specs.Types.{is_action, same_type}
 use Rattle.typing_rules.specs.Typed.{TypedStmts, TypedParameter, TypedItem}
 use Rattle.typing_rules.specs.Rules.{when, TypedHead, params_of, signature_of, same_types, may_declare, head_of, function_rule, function_rows, gives, parameter_of, parameter_rule, default_fits}
 use Rattle.typing_rules.specs.Meaning as rules
-use Rattle.typing_rules.specs.Meaning.{TypesParams, TypesHead, TypesItem, TypesItems, ParameterParts, HeadParts, FunctionParts}
+use Rattle.typing_rules.specs.Meaning.{TypesParams, TypesHead, TypesItem, TypesItems, ParameterParts, FunctionParts}
 use Rattle.typing_rules.specs.Verdicts.{after_names, after_item, after_items, line_type, in_function, in_body, head, head_verdict, body_fine}
 use Rattle.typing_rules.specs.Laws.{ItemsAreRight}
 use Rattle.source_meaning.specs.Scripts.{Function, functions}

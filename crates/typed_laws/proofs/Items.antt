@@ -22,7 +22,7 @@ use Rattle.typing_rules.specs.Typed.{TypedName, TypedStmts, TypedLine, TypedPara
 use Rattle.typing_rules.specs.Nodes.{fine, Fits, There, absent, present}
 use Rattle.typing_rules.specs.Sight.{Meaning, variable, constant, Entry, Structure, Head, Sight, value_type, any_type, result_type, declared_type, variable_of, declared, is_callable_role}
 use Rattle.typing_rules.specs.Rules.{no_fields, Fields, struct_rule, gives, TypedHead}
-use Rattle.typing_rules.specs.Meaning.{TypesNames, TypesFields, TypesLines, TypesParams, TypesItem, TypesItems, FunctionParts}
+use Rattle.typing_rules.specs.Meaning.{TypesNames, TypesFields, TypesLines, TypesParams, TypesItem, TypesItems}
 use Rattle.typing_rules.specs.Meaning as rules
 use Rattle.typing_rules.specs.Verdicts.{after_names, line_type, struct_verdict, struct_members, constant_meaning, constant_name_verdict, parameter_declared, late_after, after_params, in_function, in_body, after_item}
 use Rattle.typing_rules.specs.Laws.{ItemsAreRight}

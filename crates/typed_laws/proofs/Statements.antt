@@ -20,10 +20,10 @@ use Rattle.typing_rules.specs.Typed.{TypedExpr, TypedName, TypedStmt, TypedStmts
 use Rattle.typing_rules.specs.Nodes.{There, absent, present}
 use Rattle.typing_rules.specs.Sight.{Meaning, variable, constant, Entry, Labels, Head, Sight, is_taken, crosses_with, cells as sight_cells, type_means, value_type, variable_of, declared, scope_entered, inside, looped, switched, with_declaration, is_callable_role}
 use Rattle.typing_rules.specs.Rules.{line_rows, value_fits, is_condition, result_fits, is_again, is_outside, has_default_label}
-use Rattle.typing_rules.specs.Meaning.{TypesValue, TypesNames, VariableParts, TypesStmt, TypesStmts}
+use Rattle.typing_rules.specs.Meaning.{TypesValue, TypesNames, TypesStmt, TypesStmts}
 use Rattle.typing_rules.specs.Meaning as rules
 use Rattle.typing_rules.specs.Verdicts as verdicts
-use Rattle.typing_rules.specs.Verdicts.{line_type, after, afters, after_then, constant_value}
+use Rattle.typing_rules.specs.Verdicts.{line_type, after, after_then}
 use Rattle.typing_rules.specs.Cells.{Structs, cells}
 use Rattle.emission_rules.specs.Layout.{position, declared_cells, names_positions, positions, all_positions}
 use Rattle.emission_rules.specs.Statements.{is_label}

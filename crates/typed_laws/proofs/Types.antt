@@ -10,7 +10,7 @@ use Rattle.nss_tree.specs.declared.constants.TypeName.TheVariants as spelled
 use Rattle.nss_tree.specs.declared.units.Identifier.{Identifier}
 use Rattle.nwq_value.specs.declared.value.Ty.{Ty}
 use Rattle.nwq_value.specs.declared.value.Ty.TheVariants.{Void, Int, Text, Object, Effect, Event, Action, Struct, Refused}
-use Rattle.typing_rules.specs.Sight.{Member, Members, Structure, Meant, IsRefused, IsMissing, Is, is_of_struct, struct_means, type_means, value_type, any_type, members_of, members_in, find_member, cells_of_members}
+use Rattle.typing_rules.specs.Sight.{Member, Members, Structure, Meant, IsRefused, IsMissing, Is, is_of_struct, struct_means, type_means, value_type, any_type, members_of, find_member, cells_of_members}
 use Rattle.typing_rules.specs.Sight as sight
 use Rattle.typing_rules.specs.Types.{is_void, is_int, is_action, same_type}
 use Rattle.typing_rules.specs.Typed.{TypedLine}

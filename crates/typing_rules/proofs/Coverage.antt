@@ -6,7 +6,6 @@ use Rattle.nwq_value.specs.declared.value.Ty.{Ty}
 use Rattle.nwq_value.specs.declared.engine.Const.{Const}
 use Rattle.typing_rules.specs.declared.fault.FaultKind.{FaultKind}
 use Rattle.typing_rules.specs.declared.fault.FaultKind.TheVariants.{RefusedType, Unknown, Redeclared, Arity, Mismatch, Cells}
-use Rattle.typing_rules.specs.Typed.{TypedExpr, TypedStmts, TypedName, TypedParameter}
 use Rattle.typing_rules.specs.Types.{is_int}
 use Rattle.typing_rules.specs.Typed as typed
 use Rattle.typing_rules.specs.Nodes.{Rows, row, no_row}

@@ -11,7 +11,7 @@ use Rattle.typing_rules.specs.Nodes.{There, absent, present}
 use Rattle.typing_rules.specs.Sight.{Head, Meant, Signature, Sight, scope_entered, inside, looped, switched, declared, value_type, any_type}
 use Rattle.typing_rules.specs.Rules.{when, parameter_of, head_of, TypedHead}
 use Rattle.typing_rules.specs.Verdicts.{after, afters, after_then, after_names, after_params, after_body, after_item, line_type, parameter_declared, in_function, in_body}
-use Rattle.typing_rules.specs.Meaning.{TypesNames, TypesStmt, TypesStmts, TypesParams, HeadParts, TypesItem, TypesItems, TypesUnit}
+use Rattle.typing_rules.specs.Meaning.{TypesNames, TypesStmt, TypesStmts, TypesParams, TypesItem, TypesItems}
 use Rattle.typing_rules.specs.Meaning as rules
 use Rattle.typing_rules.specs.Numbers.{number_of, number_of_parameter, numbers, all_numbers, body_numbers, item_numbers, items_numbers, numbers_from, NumberedInOrder}
 

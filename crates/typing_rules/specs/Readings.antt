@@ -14,7 +14,7 @@ use Rattle.typing_rules.specs.declared.expressions.Expression.{Expression, Row_o
 use Rattle.typing_rules.specs.declared.expressions.Expression.TheBlock.{hidden-the_row-Expression-0, items_hidden-the_row-Expression-0}
 use Rattle.typing_rules.specs.declared.expressions.Expression.TheViews as view
 use Rattle.typing_rules.specs.declared.expressions.Expression as expr
-use Rattle.typing_rules.specs.Typed.{TypedExpr, TypedExprs}
+use Rattle.typing_rules.specs.Typed.{TypedExprs}
 use Rattle.typing_rules.specs.Typed as t
 use Rattle.typing_rules.specs.Reading.{plain, plain_all, plain_row}
 

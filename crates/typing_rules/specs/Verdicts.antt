@@ -20,7 +20,7 @@ use Rattle.typing_rules.specs.declared.places.EntryPoint.{EntryPoint}
 use Rattle.typing_rules.specs.Typed.{TypedExpr, TypedExprs, literal, no_typed, more_typed, TypedName, TypedStmt, TypedStmts, TypedLine, TypedParameter, TypedItem, TypedUnit}
 use Rattle.typing_rules.specs.Nodes.{Verdict, Fine, fine, asked, passed, two, three, four, no_parts, if_there, at, faults_there}
 use Rattle.typing_rules.specs.Sight as sight
-use Rattle.typing_rules.specs.Sight.{Head, Structure, Member, Members, Sight, start, name_means, callee, wanted, type_means, value_type, declared_type, result_type, first_types, cells, cells_if, declared, scope_entered, inside, looped, switched, left, case_seen, default_seen, declaration_seen, function_begun}
+use Rattle.typing_rules.specs.Sight.{Head, Structure, Members, Sight, start, name_means, callee, wanted, type_means, value_type, declared_type, result_type, first_types, cells, cells_if, declared, scope_entered, inside, looped, switched, left, case_seen, default_seen, declaration_seen, function_begun}
 use Rattle.typing_rules.specs.Rules.{name_rule, name_rows, float_rule, float_rows, call_rule, call_rows, takes_action, others, member_rule, member_rows, prefix_rule, prefix_rows, postfix_rule, postfix_rows, binary_rule, binary_rows, assign_rule, assign_rows, constant_means, constant_rule, constant_rows, constant_type, line_rows, variable_rule, variable_rows, constant_name_rule, constant_name_rows, Fields, no_fields, fields_with, field_rule, field_rows, struct_rule, struct_rows, parameter_rule, parameter_rows, TypedHead, signature_of, head_rule, head_rows, function_rule, function_rows, if_rule, if_rows, if_else_rule, if_else_rows, while_rule, do_rule, do_rows, for_rule, for_rows, switch_rule, switch_rows, break_rule, continue_rule, outside_rows, return_rule, return_rows, case_rule, case_rows, default_rule, default_rows, entry_rule, entry_rows}
 
 -- ---- lists of parts
@@ -194,7 +194,11 @@ abbrev mutual
   stmt_faults hs c (if_else n e a b) = (value_faults hs c e ++ (stmt_faults hs (inside c) a ++ stmt_faults hs (after_then c a) b)) ++ at n (stmt_verdict hs c (if_else n e a b))
   stmt_faults hs c (while_loop n e a) = (value_faults hs c e ++ stmt_faults hs (looped c) a) ++ at n (stmt_verdict hs c (while_loop n e a))
   stmt_faults hs c (do_loop n a e) = (stmt_faults hs (looped c) a ++ value_faults hs c e) ++ at n (stmt_verdict hs c (do_loop n a e))
-  stmt_faults hs c (for_loop n x y z a) = (faults_there (value_faults hs c) x ++ (faults_there (value_faults hs c) y ++ (faults_there (value_faults hs c) z ++ stmt_faults hs (looped c) a))) ++ at n (stmt_verdict hs c (for_loop n x y z a))
+  stmt_faults hs c (for_loop n x y z a) =
+      (faults_there (value_faults hs c) x
+      ++ (faults_there (value_faults hs c) y
+      ++ (faults_there (value_faults hs c) z ++ stmt_faults hs (looped c) a)))
+      ++ at n (stmt_verdict hs c (for_loop n x y z a))
   stmt_faults hs c (switch n e xs) = (value_faults hs c e ++ stmts_faults hs (switched c) xs) ++ at n (stmt_verdict hs c (switch n e xs))
   stmt_faults hs c (break_off n) = at n (stmt_verdict hs c (break_off n))
   stmt_faults hs c (continue_on n) = at n (stmt_verdict hs c (continue_on n))

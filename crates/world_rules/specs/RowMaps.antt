@@ -74,7 +74,8 @@ cleared_map f o w =
     ∙ (ap (λ v. if w.version == 2 then v else map_world f (with_actions o [] w)) (at_rest_map f o (with_actions o [] w))
     ∙ map_if (map_world f) (w.version == 2) (at_rest o (with_actions o [] w)) (with_actions o [] w))
 
-changed_variables_map : {X Y : Type 0} (f : X → Y) (o : ℕ) (change : List Variable → List Variable) (w : World X) → changed_variables o change (map_world f w) ≡ map_world f (changed_variables o change w)
+changed_variables_map : {X Y : Type 0} (f : X → Y) (o : ℕ) (change : List Variable → List Variable) (w : World X)
+    → changed_variables o change (map_world f w) ≡ map_world f (changed_variables o change w)
 changed_variables_map f o change w = map_if (map_world f) (is_valid o w) (with_variables o change w) w
 
 applied_map : {X Y : Type 0} (f : X → Y) (duration : ℤ) (o : ℕ) (e : Effect) (ms : ℤ) (w : World X) → applied duration o e ms (map_world f w) ≡ map_world f (applied duration o e ms w)

@@ -1,4 +1,4 @@
-use Rattle.std.proofs.Common.{◌-◌, length}
+use Rattle.std.proofs.Common.{◌-◌}
 use Rattle.ncs_code.specs.File.{file_length}
 use Rattle.decoded_code.specs.Steps.{AreDecoded}
 use Rattle.decoded_code.proofs.steps.steps_of.Given as goal

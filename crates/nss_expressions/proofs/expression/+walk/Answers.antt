@@ -1,10 +1,10 @@
-use Rattle.std.proofs.Common.{[], None, Some, ◌≡◌, ◌∙◌, ◌+◌, false, arith, sym, ap, refl}
+use Rattle.std.proofs.Common.{[], None, Some, ◌∙◌, ◌+◌, false, arith, ap, refl}
 use Rattle.std.specs.Option.{option_map}
 use Rattle.std.proofs.lemmas.Result.{IfOk-from_err}
 use Rattle.nss_tree.specs.Expressions as tree
 use Rattle.nss_tree.specs.Reading.{plain_expr, plain_exprs}
 use Rattle.nss_tree.specs.Readings.{plain_call, plain_float, plain_member, plain_name, plain_object_invalid, plain_object_self, plain_prefix, plain_postfix, plain_binary, plain_assign}
-use Rattle.typing_rules.specs.Nodes.{asked, fine, kept, two}
+use Rattle.typing_rules.specs.Nodes.{asked, kept, two}
 use Rattle.typing_rules.specs.Reading.{plain, plain_all}
 use Rattle.typing_rules.specs.Rules.{call_rows, call_rule, member_rows, member_rule, name_rows, name_rule, prefix_rows, prefix_rule, postfix_rows, postfix_rule, binary_rows, binary_rule, assign_rows, assign_rule}
 use Rattle.typing_rules.specs.Sight.{callee, name_means, types_wanted, wanted}

@@ -1,5 +1,4 @@
 use Rattle.std.proofs.Common.{arith, ap, sym, ◌∙◌, subst, length, List, []}
-use Rattle.area_rules.specs.Area.{object_at}
 use Rattle.saved_state.specs.declared.saved.Saved.{Saved}
 use Rattle.state_format.specs.declared.parts.Object.{Object}
 use Rattle.world_rules.specs.declared.data.Things.{Things}

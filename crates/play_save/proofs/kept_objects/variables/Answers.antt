@@ -1,4 +1,4 @@
-use Rattle.std.proofs.Common.{arith, ap, sym, ◌∙◌, drop, List}
+use Rattle.std.proofs.Common.{arith, ap, ◌∙◌, drop, List}
 use Rattle.std.specs.Prelude.{slice_get}
 use Rattle.local_variables.specs.Variables.{Variable, variable_of as variable_seen}
 use Rattle.state_format.specs.Parts.{IsVariable}

@@ -1,4 +1,4 @@
-use Rattle.std.proofs.Common.{sym, arith, subst, ◌≤◌}
+use Rattle.std.proofs.Common.{arith}
 use Rattle.state_format.specs.Parts.{IsCell}
 use Rattle.play_save.specs.World.{cell_of}
 use Rattle.play_save.specs.Rules.{is_short_cell}

@@ -1,10 +1,8 @@
-use Rattle.std.proofs.Common.{refl, arith, ap, sym, ◌∙◌, ◌≡◌, List, length, take, subst, ◌≤◌}
-use Rattle.std.specs.List.{AllByRecursion, IsDistinct}
-use Rattle.std.specs.Prelude.{MatchOption, Option, Some, None}
-use Rattle.local_variables.specs.Variables.{same_variable, Variable}
-use Rattle.area_rules.specs.Area.{PlainArea}
+use Rattle.std.proofs.Common.{refl, arith, ap, sym, ◌∙◌}
+use Rattle.std.specs.List.{IsDistinct}
+use Rattle.local_variables.specs.Variables.{same_variable}
 use Rattle.state_format.specs.declared.parts.Object.{Object}
-use Rattle.play_save.specs.World.{variables_of, with_variables}
+use Rattle.play_save.specs.World.{variables_of}
 use Rattle.play_save.proofs.Lists.{all_at}
 use Rattle.play_save.proofs.Given.{given_none, given_more, given_within, given_whole, made_of, made_not}
 use Rattle.play_save.proofs.world.give.Goals as goal

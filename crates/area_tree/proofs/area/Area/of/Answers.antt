@@ -1,4 +1,4 @@
-use Rattle.std.proofs.Common.{◌≡◌, length, map, sym, ap, subst, arith}
+use Rattle.std.proofs.Common.{length, map, sym, ap, subst, arith}
 use Rattle.gff_tree.specs.Whole.{plain_gff}
 use Rattle.area_rules.specs.Area.{bare, HaveDistinct}
 use Rattle.area_tree.specs.Index.{Indexes}

@@ -2,7 +2,7 @@ use Rattle.std.proofs.Common.{◌∙◌, ap, subst}
 use Rattle.std.specs.Option.{option_and_then}
 use Rattle.nwq_value.specs.Engine.{constant_named, IsTable}
 use Rattle.nwq_value.specs.Entries.{constant_under}
-use Rattle.nwq_value.proofs.TableLemmas.{lent_apart}
+use Rattle.nwq_value.specs.TableLemmas.{lent_apart}
 use Rattle.nwq_value.proofs.table.Table.constant.Goals as goal
 
 pub returns-in-Some-clause-value : goal.returns-in-Some-clause-value

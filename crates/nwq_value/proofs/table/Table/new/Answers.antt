@@ -1,5 +1,5 @@
 use Rattle.nwq_value.proofs.FoundLemmas.{found_nothing}
-use Rattle.nwq_value.proofs.TableLemmas.{table_empty}
+use Rattle.nwq_value.specs.TableLemmas.{table_empty}
 use Rattle.nwq_value.proofs.table.Table.new.Goals as goal
 
 pub invariant_of-result : goal.invariant_of-result

@@ -1,4 +1,4 @@
-use Rattle.std.proofs.Common.{subst, ◌<◌}
+use Rattle.std.proofs.Common.{subst}
 use Rattle.state_format.specs.declared.parts.Parts.{Parts}
 use Rattle.play_save.specs.Rules.{IsHeaderOf}
 use Rattle.play_save.specs.States.{script_parts, IsPlayOf, HasCome, IsWorldOf}

@@ -1,4 +1,5 @@
--- What becomes of a table's names and facts as it grows.
+-- What becomes of a table's names and facts as it grows. No contract speaks of these lemmas: they
+-- serve the proofs here and of the tables that are read of a header.
 use Rattle.std.proofs.Common.{◌≡◌, ℕ, zero, suc, ◌+◌, ◌<◌, Bool, true, false, if◌then◌else◌, List, [], ◌∷◌, ◌++◌, length, map, slice_get, Option, None, Some, refl, sym, ap, subst, ◌∙◌, arith, IfSome, Bor}
 use Rattle.std.proofs.lemmas.Grind.{common_steps}
 use Rattle.std.specs.Cmp.Lexicographic.{nat_list_eq_equiv, bytes_decides}

@@ -1,0 +1,14 @@
+-- How the walk through a file stands to the tree that its bytes stand for.
+use Rattle.std.specs.Prelude.{◌≡◌, ℕ, List, None, Ok}
+use Rattle.gff_bytes.specs.File.{open_fault}
+use Rattle.gff_tree.specs.Whole.{PlainGff}
+use Rattle.gff_read.specs.Walk.{tree_of}
+use Rattle.gff_read.specs.Stands.{Stands}
+
+-- the walk reads the tree that bytes stand for
+abbrev pub TreesAreRead : Type 0
+TreesAreRead = (bytes : List ℕ) (gff : PlainGff) → Stands bytes gff → tree_of bytes ≡ Ok gff
+
+-- where the sections lie right, bytes stand for the tree that is read
+abbrev pub ReadTreesStand : Type 0
+ReadTreesStand = (bytes : List ℕ) (gff : PlainGff) → open_fault bytes ≡ None → tree_of bytes ≡ Ok gff → Stands bytes gff
