@@ -131,8 +131,8 @@ mutual
     for_loop : {x y z : Option PlainExpr} {s : SourceStmt} {xs ys zs ss : List Numbered} (n a b c d : ℕ)
         → Optional x xs → Optional y ys → Optional z zs → Statement s ss
         → Statement (stmt.for_loop n x y z s)
-          (fixed n terminal.For ∷ fixed a terminal.Open
-          ∷ (xs ++ fixed b terminal.Semicolon ∷ (ys ++ fixed c terminal.Semicolon ∷ (zs ++ fixed d terminal.Close ∷ ss))))
+        (fixed n terminal.For ∷ fixed a terminal.Open
+        ∷ (xs ++ fixed b terminal.Semicolon ∷ (ys ++ fixed c terminal.Semicolon ∷ (zs ++ fixed d terminal.Close ∷ ss))))
     switch : {x : PlainExpr} {all : SourceStmts} {xs ys : List Numbered} (n a b c d : ℕ) → Expression x xs → Entries true all ys
         → Statement (stmt.switch n x all) (fixed n terminal.Switch ∷ fixed a terminal.Open ∷ (xs ++ fixed b terminal.Close ∷ fixed c terminal.OpenBrace ∷ (ys ++ fixed d terminal.CloseBrace ∷ [])))
     break_off : (n k : ℕ) → Statement (stmt.break_off n) (fixed n terminal.Break ∷ fixed k terminal.Semicolon ∷ [])

@@ -89,8 +89,8 @@ CapturesCarry host R x tables execute functions =
     → IsFine host.table functions x scope e → LinesStand x.code x.places (resume_place place) (emit x.layout n depth e ++ Instruction ops.Retn ∷ [])
     → length temps + size ≡ depth → AreHeld temps → x.layout.globals ≡ x.bp
     → R (captured x.script (resume_place place) x.layout.globals depth
-          (record { cells = temps ++ (kept.frame ++ (between ++ kept.under)); bp = x.bp }))
-        (deferred (running_at host tables execute x) scope e p)
+    (record { cells = temps ++ (kept.frame ++ (between ++ kept.under)); bp = x.bp }))
+    (deferred (running_at host tables execute x) scope e p)
 
 -- A script that is run does what running it means, from before the instruction that runs it to
 -- behind that one, where a credit is left for that instruction.
