@@ -5,6 +5,7 @@ use Rattle.gff_bytes.specs.File.{open_fault}
 use Rattle.gff_tree.specs.Tree.{PlainNode, is_sound, struct_depth_limit}
 use Rattle.gff_tree.specs.Whole.{PlainGff}
 use Rattle.gff_read.specs.Walk.{Marks, struct_count, node_at, tree_of}
+use Rattle.gff_read.specs.Laws.{TreesAreFew, TreesAreSound}
 use Rattle.gff_read.specs.Stands.{Stands, OneTree}
 use Rattle.gff_read.proofs.Steps.{bind_ok, ok_is}
 use Rattle.gff_read.proofs.WalkLaws.{node_agrees, marked_none}
@@ -47,3 +48,9 @@ read_stands bytes gff clear e =
     let b = bind_ok (node_at struct_depth_limit bytes 0 (replicate (struct_count bytes) false)) (λ top. Ok (record { file_type = take 4 bytes; top = top.0 })) gff e in
     let is : record { file_type = take 4 bytes; top = b.0.0 } ≡ gff = ok_is (record { file_type = take 4 bytes; top = b.0.0 }) gff b.2 in
     subst (Stands bytes) is (stands_read bytes (replicate (struct_count bytes) false) b.0.0 b.0.1 (take 4 bytes) refl b.1 clear refl)
+
+pub stood_sound : TreesAreSound
+stood_sound bytes gff s = top_sound bytes 0 gff.top s.uses s.top
+
+pub stood_few : TreesAreFew
+stood_few bytes gff s = count_within bytes gff.top s.uses s.top s.distinct

@@ -1,6 +1,6 @@
 //! Laws, as the contracts of functions that do nothing.
 
-ghost use Rattle.gff_read.specs.Laws.{TreesAreRead, ReadTreesStand};
+ghost use Rattle.gff_read.specs.Laws.{ReadTreesStand, TreesAreFew, TreesAreRead, TreesAreSound};
 ghost use Rattle.gff_read.specs.Stands.{OneTree};
 
 /// Bytes stand for one tree at most.
@@ -13,4 +13,10 @@ pub fn one_tree()
 pub fn read_trees_stand()
     ensures read { TreesAreRead }
     ensures stands { ReadTreesStand }
+{}
+
+/// A tree that bytes stand for is sound, and has no more structs than they.
+pub fn trees_are_sound()
+    ensures sound { TreesAreSound }
+    ensures few { TreesAreFew }
 {}

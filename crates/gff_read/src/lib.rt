@@ -18,5 +18,5 @@ mod walk;
 pub use budget::TREE_BYTES;
 pub use fault::TreeFault;
 pub use kind::FieldKind;
-pub use laws::{one_tree, read_trees_stand};
+pub use laws::{one_tree, read_trees_stand, trees_are_sound};
 pub use reader::{read, read_within};
