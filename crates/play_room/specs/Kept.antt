@@ -7,6 +7,9 @@ use Rattle.saved_state.specs.declared.cell.Cell.TheVariants.{Value as Holds, Bas
 use Rattle.saved_state.specs.declared.saved.Saved.{Saved}
 use Rattle.area_rules.specs.Area.{PlainArea}
 use Rattle.area_rules.specs.Objects.{AreaObject, Script}
+use Rattle.delay_agenda.specs.declared.entry.Entry.{Entry}
+use Rattle.delay_agenda.specs.declared.entry.Kind.{Kind}
+use Rattle.delay_agenda.specs.declared.entry.Kind.TheVariants.{Event, Stored, Turn, Unapply}
 use Rattle.world_rules.specs.declared.data.Stood.{Stood}
 use Rattle.world_rules.specs.declared.data.Things.{Things}
 use Rattle.world_rules.specs.Pure.{CellLookup}
@@ -53,9 +56,19 @@ pub record ThingsAreKept (next : ℕ) (t : Things Saved) : Type 0 where
   pub effects : AllByRecursion (StoodIsKept next) t.effects
   pub items : AllByRecursion ItemHasRoom t.queue.actions
 
+-- the object that an entry is of has a number that fits
+abbrev pub object_of : Kind Saved → ℕ
+object_of (Event o script user) = o
+object_of (Stored o s) = o
+object_of (Turn o) = o
+object_of (Unapply o) = o
+
+abbrev pub EntryIsKept : Entry Saved → Type 0
+EntryIsKept e = IsNumber 4 (object_of e.kind) × EntryHasRoom e
+
 pub record WorldIsKept (w : World Saved) : Type 0 where
   pub random : AllByRecursion (IsNumber 4) w.random
   pub area : AreaIsKept w.area
   pub things : AllByRecursion (ThingsAreKept w.agenda.next) w.things
-  pub agenda : AllByRecursion EntryHasRoom w.agenda.entries
+  pub agenda : AllByRecursion EntryIsKept w.agenda.entries
   pub user : IsSigned w.user

@@ -1,5 +1,5 @@
 -- That the values of every play have room in the fields of a state.
-use Rattle.std.specs.Prelude.{◌<◌, ◌^◌, ℕ, List}
+use Rattle.std.specs.Prelude.{◌<◌, ◌^◌, ◌≤◌, ℕ, List, length}
 use Rattle.std.specs.List.{AllByRecursion}
 use Rattle.nwq_value.specs.Engine.{EngineTable, IsTable}
 use Rattle.ncs_code.specs.File.{IsCode}
@@ -18,7 +18,6 @@ use Rattle.module_player.specs.CodePlays.{code_play_on}
 use Rattle.play_worlds.specs.Worlds.{plan_world}
 use Rattle.play_room.specs.Room.{HasRoom}
 use Rattle.play_room.specs.Kept.{CellsAreBytes, WorldIsKept}
-use Rattle.std.specs.Prelude.{◌≤◌, length}
 
 -- a world that is kept, and in which few entries were posted, has room in a state
 abbrev pub KeptHasRoom : Type 0
