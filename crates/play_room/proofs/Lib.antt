@@ -1,1 +1,5 @@
 pub mod Keeps
+mod Texts
+mod Changes
+mod Calls
+mod Turns
