@@ -1,5 +1,7 @@
-pub mod Keeps
+mod Keeps
+mod Lists
 mod Texts
 mod Changes
 mod Calls
 mod Turns
+mod Cells
