@@ -5,3 +5,6 @@ mod Changes
 mod Calls
 mod Turns
 mod Cells
+mod Acting
+mod Running
+mod Playing
