@@ -8,3 +8,4 @@ mod Cells
 mod Acting
 mod Running
 mod Playing
+mod Rooms
