@@ -3,6 +3,7 @@ use Rattle.std.proofs.Common.{◌≡◌, ◌<◌, ◌≤◌, ◌+◌, ◌-◌, �
 use Rattle.std.specs.Prelude.{if◌then◌else◌, ◌==◌, not, filter, cond, int_lt, slice_get, codes}
 use Rattle.std.specs.Option.{option_map}
 use Rattle.std.specs.List.{AllByRecursion, find, list_any, take_while}
+use Rattle.std.proofs.lemmas.Option.{slice_get_within}
 use Rattle.std.specs.Fmt.{signed_decimal}
 use Rattle.std.specs.Int.{w32, cast_signed, int_wrapping_neg}
 use Rattle.std.specs.Char.{is_ascii_digit}
@@ -23,7 +24,7 @@ use Rattle.action_queue.specs.declared.queue.Item.{Item}
 use Rattle.action_queue.specs.declared.queue.Item.TheVariants.{Do, Wait, Speak}
 use Rattle.delay_agenda.specs.declared.entry.Kind.TheVariants.{Event, Stored, Turn, Unapply}
 use Rattle.saved_state.specs.declared.saved.Saved.{Saved}
-use Rattle.state_format.specs.Parts.{AreStateBytes, IsNumber, IsSigned}
+use Rattle.state_format.specs.Parts.{AreStateBytes, IsMaybe, IsNumber, IsSigned}
 use Rattle.world_rules.specs.declared.data.Told.TheVariants as line
 use Rattle.world_rules.specs.Arguments.{int_at, text_at, object_at, effect_at, event_at, at_least_zero}
 use Rattle.world_rules.specs.Pure.{CellLookup, absolute, leading_number, string_number, hex_string, left_part, right_part, middle_part, inserted, pure_functions, pure}
@@ -35,8 +36,9 @@ use Rattle.world_rules.specs.Engine.{engine, by_role, by_row, by_routine, row_nu
 use Rattle.play_room.specs.Room.{IsText, EffectHasRoom, ValueHasRoom, SavedHasRoom, VariableHasRoom, ItemHasRoom}
 use Rattle.play_room.specs.Kept.{CellsAreBytes, MaybeValueHasRoom, ActionHasRoom, AreaIsKept, ObjectIsKept, StoodIsKept, WorldIsKept}
 use Rattle.play_room.proofs.Keeps.{CallsKeep}
-use Rattle.play_room.proofs.Texts.{all_filter, IfThere, there, found_there, place_below, first_bytes, last_bytes, joined_bytes, cut_text, no_text, signed_bytes, hex_string_bytes, small_fits, zero_fits, bits_fit, negated_fits, int_fits, text_fits, object_fits, effect_fits, event_fits, ints_fit}
-use Rattle.play_room.proofs.Changes.{either_kept, told_kept, post_kept, without_turn_kept, stood_of, actions_kept, busy_kept, action_kept, effects_kept, lasting_kept, passing_kept, fewer_kept, variables_kept, put_keeps, object_kept, named_text, read_int, read_text, tag_number}
+use Rattle.play_room.proofs.Lists.{all_filter, some_of, found_of, mapped, either}
+use Rattle.play_room.proofs.Texts.{first_bytes, last_bytes, joined_bytes, cut_text, no_text, signed_bytes, hex_string_bytes, small_fits, zero_fits, bits_fit, test_fits, int_fits, text_fits, object_fits, effect_fits, event_fits, ints_fit}
+use Rattle.play_room.proofs.Changes.{told_kept, post_kept, without_turn_kept, stood_of, actions_kept, busy_kept, action_kept, effects_kept, lasting_kept, passing_kept, fewer_kept, variables_kept, put_keeps, object_kept, named_text, read_int, read_text, tag_number}
 
 -- a value that has room, where there is one, and a world that is kept
 abbrev IsKeptAnswer : Answered Saved → Type 0
@@ -49,20 +51,16 @@ record CallHasRoom (c : Call Saved) : Type 0 where
 
 -- ---- functions of strings and numbers
 
-either_fits : (b : Bool) (n m : ℤ) → IsSigned n → IsSigned m → IsSigned (if b then n else m)
-either_fits true n m x y = x
-either_fits false n m x y = y
-
 absolute_fits : (n : ℤ) → IsSigned n → IsSigned (absolute n)
-absolute_fits n fits = either_fits (int_lt n (pos 0)) (int_wrapping_neg w32 n) n (negated_fits n fits) fits
+absolute_fits n fits = either IsSigned (int_lt n (pos 0)) (int_wrapping_neg w32 n) n (bits_fit _) fits
 
 leading_fits : (bytes : List ℕ) → IsSigned (leading_number bytes)
-leading_fits bytes = bits_fit (digits_value 10 (take_while is_ascii_digit bytes) % 4294967296) (mod-lt (digits_value 10 (take_while is_ascii_digit bytes)) (omega arith))
+leading_fits bytes = bits_fit (digits_value 10 (take_while is_ascii_digit bytes) % 4294967296)
 
 number_fits : (bytes : List ℕ) → IsSigned (string_number bytes)
 number_fits [] = zero_fits
 number_fits (b ∷ bytes) =
-    either_fits (b == 45) (int_wrapping_neg w32 (leading_number bytes)) (leading_number (b ∷ bytes)) (negated_fits (leading_number bytes) (leading_fits bytes)) (leading_fits (b ∷ bytes))
+    either IsSigned (b == 45) (int_wrapping_neg w32 (leading_number bytes)) (leading_number (b ∷ bytes)) (bits_fit _) (leading_fits (b ∷ bytes))
 
 middle_bytes : (bytes : List ℕ) (start count : ℤ) → AreStateBytes bytes → AreStateBytes (middle_part bytes start count)
 middle_bytes bytes (pos start) count are = first_bytes (at_least_zero count) (drop start bytes) (last_bytes start bytes are)
@@ -109,17 +107,16 @@ functions_give cell bytes = (
   ),
 )
 
-function_gives : (f : Option (List Value → Value)) → IfThere GivesRoom f → (values : List Value) → AllByRecursion ValueHasRoom values → MaybeValueHasRoom (option_map (λ g. g values) f)
-function_gives None gives values all = tt
-function_gives (Some f) gives values all = gives values all
-
 pure_gives : (cell : CellLookup) → CellsAreBytes cell → (k : ℕ) (values : List Value) → AllByRecursion ValueHasRoom values → MaybeValueHasRoom (pure cell k values)
-pure_gives cell bytes k values all = function_gives (slice_get (pure_functions cell) k) (there GivesRoom (pure_functions cell) k (functions_give cell bytes)) values all
+pure_gives cell bytes k values all =
+    given (pure cell k values)
+    (mapped ValueHasRoom GivesRoom (λ f. f values) (λ f gives. gives values all) (slice_get (pure_functions cell) k) (some_of GivesRoom (pure_functions cell) k (functions_give cell bytes)))
+  where
+    given : (o : Option Value) → IsMaybe ValueHasRoom o → MaybeValueHasRoom o
+    given None h = h
+    given (Some v) h = h
 
 -- ---- the engine's own routines
-
-same_answer : (v : Value) (w : World Saved) → ValueHasRoom v → WorldIsKept w → IsKeptAnswer (record { value = Some v; world = w })
-same_answer v w room k = (room, k)
 
 drawn_kept : (n : ℤ) (w : World Saved) → IsSigned n → WorldIsKept w → IsKeptAnswer (drawn n w)
 drawn_kept (negsuc n) w fits k = (zero_fits, k)
@@ -135,7 +132,7 @@ drawn_kept (pos (suc n)) w fits k = from w.random k.random
 
 assigned_kept : (target : ℕ) (action : Option Saved) (w : World Saved) → IsNumber 4 target → ActionHasRoom action → WorldIsKept w → WorldIsKept (assigned target action w)
 assigned_kept target None w number room k = k
-assigned_kept target (Some x) w number room k = either_kept (is_valid target w) (post w.clock (Stored target x) w) w (post_kept w.clock (Stored target x) w number room k) k
+assigned_kept target (Some x) w number room k = either WorldIsKept (is_valid target w) (post w.clock (Stored target x) w) w (post_kept w.clock (Stored target x) w number room k) k
 
 delayed_kept : (caller : ℕ) (ms : ℤ) (action : Option Saved) (w : World Saved) → IsNumber 4 caller → ActionHasRoom action → WorldIsKept w → WorldIsKept (delayed caller ms action w)
 delayed_kept caller ms None w number room k = k
@@ -143,27 +140,27 @@ delayed_kept caller ms (Some x) w number room k = post_kept (later ms w) (Stored
 
 awake_kept : (o : ℕ) (w : World Saved) → IsNumber 4 o → WorldIsKept w → WorldIsKept (awake o w)
 awake_kept o w number k =
-    either_kept (queue_of o w).busy w (post w.clock (Turn o) (with_busy o true w)) k (post_kept w.clock (Turn o) (with_busy o true w) number tt (busy_kept o true w k))
+    either WorldIsKept (queue_of o w).busy w (post w.clock (Turn o) (with_busy o true w)) k (post_kept w.clock (Turn o) (with_busy o true w) number tt (busy_kept o true w k))
 
 appended_kept : (o : ℕ) (item : Item Saved) (w : World Saved) → IsNumber 4 o → ItemHasRoom item → WorldIsKept w → WorldIsKept (appended o item w)
 appended_kept o item w number room k =
-    either_kept (is_valid o w) (awake o (with_action o item w)) w (awake_kept o (with_action o item w) number (action_kept o item w room k)) k
+    either WorldIsKept (is_valid o w) (awake o (with_action o item w)) w (awake_kept o (with_action o item w) number (action_kept o item w room k)) k
 
 appended_do_kept : (o : ℕ) (action : Option Saved) (w : World Saved) → IsNumber 4 o → ActionHasRoom action → WorldIsKept w → WorldIsKept (appended_do o action w)
 appended_do_kept o None w number room k = k
 appended_do_kept o (Some x) w number room k = appended_kept o (Do x) w number room k
 
 at_rest_kept : (o : ℕ) (w : World Saved) → WorldIsKept w → WorldIsKept (at_rest o w)
-at_rest_kept o w k = either_kept (has_turn o w) (with_busy o false (without_turn o w)) w (busy_kept o false (without_turn o w) (without_turn_kept o w k)) k
+at_rest_kept o w k = either WorldIsKept (has_turn o w) (with_busy o false (without_turn o w)) w (busy_kept o false (without_turn o w) (without_turn_kept o w k)) k
 
 cleared_kept : (o : ℕ) (w : World Saved) → WorldIsKept w → WorldIsKept (cleared o w)
 cleared_kept o w k =
     let none = actions_kept o [] w tt k in
-    either_kept (w.version == 2) (at_rest o (with_actions o [] w)) (with_actions o [] w) (at_rest_kept o (with_actions o [] w) none) none
+    either WorldIsKept (w.version == 2) (at_rest o (with_actions o [] w)) (with_actions o [] w) (at_rest_kept o (with_actions o [] w) none) none
 
 changed_kept : (o : ℕ) (change : List Variable → List Variable) (w : World Saved) → ((vars : List Variable) → AllByRecursion VariableHasRoom vars → AllByRecursion VariableHasRoom (change vars))
     → WorldIsKept w → WorldIsKept (changed_variables o change w)
-changed_kept o change w keeps k = either_kept (is_valid o w) (with_variables o change w) w (variables_kept o change w keeps k) k
+changed_kept o change w keeps k = either WorldIsKept (is_valid o w) (with_variables o change w) w (variables_kept o change w keeps k) k
 
 applied_kept : (duration : ℤ) (o : ℕ) (e : Effect) (ms : ℤ) (w : World Saved) → IsNumber 4 o → EffectHasRoom e → WorldIsKept w → WorldIsKept (applied duration o e ms w)
 applied_kept (pos zero) o e ms w number room k = told_kept o (line.Apply (pos 0) e) w k
@@ -174,13 +171,13 @@ applied_kept (pos (suc (suc (suc n)))) o e ms w number room k = k
 applied_kept (negsuc n) o e ms w number room k = k
 
 applied_to_kept : (duration : ℤ) (o : ℕ) (e : Effect) (ms : ℤ) (w : World Saved) → IsNumber 4 o → EffectHasRoom e → WorldIsKept w → WorldIsKept (applied_to duration o e ms w)
-applied_to_kept duration o e ms w number room k = either_kept (is_valid o w) (applied duration o e ms w) w (applied_kept duration o e ms w number room k) k
+applied_to_kept duration o e ms w number room k = either WorldIsKept (is_valid o w) (applied duration o e ms w) w (applied_kept duration o e ms w number room k) k
 
 removed_kept : (o : ℕ) (e : Effect) (w : World Saved) → WorldIsKept w → WorldIsKept (removed o e w)
 removed_kept o e w k =
     let rest = without_first (is_effect e) (effects_of o w) in
     let fewer = effects_kept o rest w (fewer_kept (StoodIsKept w.agenda.next) (is_effect e) (effects_of o w) (stood_of o w k)) k in
-    either_kept (list_any (is_effect e) (effects_of o w)) (told o (line.Remove e) (with_effects o rest w)) w (told_kept o (line.Remove e) (with_effects o rest w) fewer) k
+    either WorldIsKept (list_any (is_effect e) (effects_of o w)) (told o (line.Remove e) (with_effects o rest w)) w (told_kept o (line.Remove e) (with_effects o rest w) fewer) k
 
 name_or_text : (first second : List ℕ) → IsText first → IsText second → IsText (name_or first second)
 name_or_text [] second x y = y
@@ -194,19 +191,11 @@ event_text scripts all =
 signalled_kept : (o : ℕ) (user : ℤ) (w : World Saved) → IsNumber 4 o → IsSigned user → WorldIsKept w → WorldIsKept (signalled o user w)
 signalled_kept o user w number fits k =
     let script = event_script (object w.area o).scripts in
-    either_kept (is_valid o w) (post w.clock (Event o script user) w) w
+    either WorldIsKept (is_valid o w) (post w.clock (Event o script user) w) w
     (post_kept w.clock (Event o script user) w number (event_text (object w.area o).scripts (object_kept w.area o k.area).scripts, fits) k) k
 
-valid_fits : (b : Bool) → IsSigned (as_int b)
-valid_fits true = small_fits 1 (omega arith)
-valid_fits false = zero_fits
-
 read_bytes : (o : ℕ) (found : List ℕ) (w : World Saved) → AreStateBytes found → AreStateBytes (read o found [] w)
-read_bytes o found w are = by_test (is_valid o w)
-  where
-    by_test : (b : Bool) → AreStateBytes (if b then found else [])
-    by_test true = are
-    by_test false = tt
+read_bytes o found w are = either AreStateBytes (is_valid o w) found [] are tt
 
 -- ---- the rows
 
@@ -241,10 +230,10 @@ rows_keep = (
                         (
                           λ c w r k. (cut_text _ (read_bytes (object_at 0 c.values) (object w.area (object_at 0 c.values)).tag w (object_kept w.area (object_at 0 c.values) k.area).tag), k),
                           (
-                            λ c w r k. (valid_fits (is_valid (object_at 0 c.values) w), k),
+                            λ c w r k. (test_fits (is_valid (object_at 0 c.values) w), k),
                             (
                               λ c w r k. (
-                                either_fits (is_valid (object_at 0 c.values) w) _ (pos 0)
+                                either IsSigned (is_valid (object_at 0 c.values) w) _ (pos 0)
                                     (read_int (is_int (text_at 1 c.values)) (object w.area (object_at 0 c.values)).vars (object_kept w.area (object_at 0 c.values) k.area).vars) zero_fits,
                                 k,
                               ),
@@ -322,7 +311,7 @@ rows_keep = (
   ),
 )
 
-row_kept : (row : Option (Row Saved)) → IfThere RowKeeps row → (c : Call Saved) (w : World Saved) → CallHasRoom c → WorldIsKept w → IsKeptAnswer (by_row row c w)
+row_kept : (row : Option (Row Saved)) → IsMaybe RowKeeps row → (c : Call Saved) (w : World Saved) → CallHasRoom c → WorldIsKept w → IsKeptAnswer (by_row row c w)
 row_kept None keeps c w r k = (tt, k)
 row_kept (Some row) keeps c w r k = keeps c w r k
 
@@ -341,7 +330,7 @@ world_gives n ty.Refused values number all = tt
 
 module _ (cell : CellLookup) (bytes : CellsAreBytes cell) (n : ℕ) (c : Call Saved) (w : World Saved) (r : CallHasRoom c) (k : WorldIsKept w) where
   role_kept : (routine : Routine) (own : Role) → IsNumber 2 n → IsKeptAnswer (by_role cell n routine own c w)
-  role_kept routine (role.Built number) few = row_kept (row_numbered number rows) (found_there RowKeeps (λ (x : Row Saved). x.number == number) rows rows_keep) c w r k
+  role_kept routine (role.Built number) few = row_kept (row_numbered number rows) (found_of RowKeeps (λ (x : Row Saved). x.number == number) rows rows_keep) c w r k
   role_kept routine (role.Pure f) few = (pure_gives cell bytes f c.values r.values, k)
   role_kept routine role.World few = (world_gives n routine.result c.values few r.values, told_kept c.caller _ w k)
   role_kept routine role.Uncallable few = (tt, k)
@@ -354,4 +343,4 @@ pub calls_keep : CallsKeep
 unfolding engine
 calls_keep cell table bytes is n caller values action w number room stored k =
     routine_kept cell bytes n (call caller values action) w (record { caller = number; values = room; action = stored }) k (slice_get table.routines n)
-    (λ routine at. (let below = place_below table.routines n routine at in let few = is.few in omega (arith, below, few)))
+    (λ routine at. (let below = slice_get_within table.routines n routine at in let few = is.few in omega (arith, below, few)))

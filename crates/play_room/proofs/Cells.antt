@@ -4,7 +4,6 @@ use Rattle.std.specs.Prelude.{not, ◌==◌, nat_le, All}
 use Rattle.std.specs.Int.{w32, cast_signed}
 use Rattle.std.specs.Int.Signed.{mag_rem, mag_shr}
 use Rattle.std.specs.List.{AllByRecursion}
-use Rattle.std.proofs.lemmas.Int.{ints}
 use Rattle.std.proofs.lemmas.List.Elements.{recursion_from_All}
 use Rattle.nwq_value.specs.declared.value.Ty.{Ty}
 use Rattle.nwq_value.specs.declared.value.Ty.TheVariants as ty
@@ -30,30 +29,15 @@ use Rattle.state_format.specs.Parts.{IsMaybe, IsNumber, IsSigned, AreStateBytes}
 use Rattle.play_room.specs.Room.{IsText, ValueHasRoom, CellHasRoom}
 use Rattle.play_room.specs.Kept.{StackedHasRoom}
 use Rattle.play_room.proofs.Lists.{all_append, all_take, all_drop, all_mapped, mapped, mapped_any, after, after_any, either, some_or_none}
+use Rattle.play_room.proofs.Texts.{cut_text, bits_fit, test_fits, zero_fits, no_text}
 
 -- ---- operators
-
--- however many bits are read as a signed number, it fits
-pub read_signed : (n : ℕ) → IsSigned (cast_signed w32 n)
-read_signed n = omega (arith, ints)
-
-pub test_signed : (b : Bool) → IsSigned (as_int b)
-test_signed true = record { sfits = omega arith }
-test_signed false = record { sfits = omega arith }
 
 remainder_signed : (x y : ℤ) → IsSigned x → IsSigned (remainder x y)
 remainder_signed x y h = record { sfits = omega (arith, mag_rem x y, h.sfits) }
 
 shifted_signed : (x y : ℤ) → IsSigned x → IsSigned (shift_right x y)
 shifted_signed x y h = record { sfits = omega (arith, mag_shr x (2 ^ shift_count y), h.sfits) }
-
-short_text : (n : ℕ) (bytes : List ℕ) → length (take n bytes) ≤ n
-short_text zero bytes = omega arith
-short_text (suc n) [] = omega arith
-short_text (suc n) (b ∷ bytes) = let rest = short_text n bytes in omega (arith, rest)
-
-pub cut_text : (bytes : List ℕ) → AreStateBytes bytes → IsText (take text_limit bytes)
-cut_text bytes h = (short_text text_limit bytes, all_take (λ b. b < 256) text_limit bytes h)
 
 -- ---- cells
 
@@ -163,7 +147,7 @@ destructed total offset size cells all =
 -- ---- comparisons
 
 answered : (answer : Bool → Bool) (upper lower : List Value) (rest : List Cell) → CellsHaveRoom rest → LeavesRoom (runs_eq answer upper lower rest)
-answered answer upper lower rest all = some_or_none CellsHaveRoom (tys_eq (value_types upper) (value_types lower)) (Some (_ ∷ rest)) (test_signed _, all)
+answered answer upper lower rest all = some_or_none CellsHaveRoom (tys_eq (value_types upper) (value_types lower)) (Some (_ ∷ rest)) (test_fits _, all)
 
 run_answered : (answer : Bool → Bool) (count : Option ℕ) (cells : List Cell) → CellsHaveRoom cells → LeavesRoom (runs_compared answer count cells)
 run_answered answer count cells all =
@@ -186,7 +170,7 @@ if_ints_room kind o h = some_or_none CellsHaveRoom (kind == 0x20) o h
 
 added_room : (kind : ℕ) (cells : List Cell) → CellsHaveRoom cells → LeavesRoom (added kind cells)
 added_room kind cells all =
-    either LeavesRoom (kind == 0x20) (of_ints sum cells) _ (of_two sum (λ x y h. read_signed _) cells all)
+    either LeavesRoom (kind == 0x20) (of_ints sum cells) _ (of_two sum (λ x y h. bits_fit _) cells all)
     (some_or_none CellsHaveRoom (kind == 0x23) (of_texts joined_texts cells) (joined_fits cells all))
 
 -- ---- what is pushed
@@ -205,11 +189,11 @@ literal_room self (ops.Object n) fits h = self_or_none (n == 0) self h
 
 start_room : (t : Ty) → IsMaybe ValueHasRoom (start_value t)
 start_room ty.Void = tt
-start_room ty.Int = record { sfits = omega arith }
-start_room ty.Text = (omega arith, tt)
+start_room ty.Int = zero_fits
+start_room ty.Text = no_text
 start_room ty.Object = omega arith
 start_room ty.Effect = (omega arith, tt)
-start_room ty.Event = record { sfits = omega arith }
+start_room ty.Event = zero_fits
 start_room ty.Action = tt
 start_room (ty.Struct n) = tt
 start_room ty.Refused = tt
@@ -229,41 +213,41 @@ cells_room (ops.RsAdd kind) self s fits h all = pushed (starting_value kind) s.c
 cells_room (ops.CpTopSp offset size) self s fits h all = copied (range_at offset size) s.cells all
 cells_room (ops.Const lit) self s fits h all = pushed (literal_value self lit) s.cells (literal_room self lit fits h) all
 cells_room (ops.Action routine count) self s fits h all = tt
-cells_room ops.LogAnd self s fits h all = of_two both (λ x y h. test_signed _) s.cells all
-cells_room ops.LogOr self s fits h all = of_two either_of (λ x y h. test_signed _) s.cells all
-cells_room ops.IncOr self s fits h all = of_two bits_or (λ x y h. read_signed _) s.cells all
-cells_room ops.ExcOr self s fits h all = of_two bits_xor (λ x y h. read_signed _) s.cells all
-cells_room ops.BoolAnd self s fits h all = of_two bits_and (λ x y h. read_signed _) s.cells all
+cells_room ops.LogAnd self s fits h all = of_two both (λ x y h. test_fits _) s.cells all
+cells_room ops.LogOr self s fits h all = of_two either_of (λ x y h. test_fits _) s.cells all
+cells_room ops.IncOr self s fits h all = of_two bits_or (λ x y h. bits_fit _) s.cells all
+cells_room ops.ExcOr self s fits h all = of_two bits_xor (λ x y h. bits_fit _) s.cells all
+cells_room ops.BoolAnd self s fits h all = of_two bits_and (λ x y h. bits_fit _) s.cells all
 cells_room (ops.Equal kind size) self s fits h all = compared_room (λ b. b) kind size s.cells all
 cells_room (ops.Nequal kind size) self s fits h all = compared_room not kind size s.cells all
-cells_room (ops.Geq kind) self s fits h all = if_ints_room kind _ (of_two greater_or_equal (λ x y h. test_signed _) s.cells all)
-cells_room (ops.Gt kind) self s fits h all = if_ints_room kind _ (of_two greater (λ x y h. test_signed _) s.cells all)
-cells_room (ops.Lt kind) self s fits h all = if_ints_room kind _ (of_two less (λ x y h. test_signed _) s.cells all)
-cells_room (ops.Leq kind) self s fits h all = if_ints_room kind _ (of_two less_or_equal (λ x y h. test_signed _) s.cells all)
-cells_room ops.ShLeft self s fits h all = of_two shift_left (λ x y h. read_signed _) s.cells all
+cells_room (ops.Geq kind) self s fits h all = if_ints_room kind _ (of_two greater_or_equal (λ x y h. test_fits _) s.cells all)
+cells_room (ops.Gt kind) self s fits h all = if_ints_room kind _ (of_two greater (λ x y h. test_fits _) s.cells all)
+cells_room (ops.Lt kind) self s fits h all = if_ints_room kind _ (of_two less (λ x y h. test_fits _) s.cells all)
+cells_room (ops.Leq kind) self s fits h all = if_ints_room kind _ (of_two less_or_equal (λ x y h. test_fits _) s.cells all)
+cells_room ops.ShLeft self s fits h all = of_two shift_left (λ x y h. bits_fit _) s.cells all
 cells_room ops.ShRight self s fits h all = of_two shift_right shifted_signed s.cells all
-cells_room ops.UshRight self s fits h all = of_two shift_right_unsigned (λ x y h. read_signed _) s.cells all
+cells_room ops.UshRight self s fits h all = of_two shift_right_unsigned (λ x y h. bits_fit _) s.cells all
 cells_room (ops.Add kind) self s fits h all = added_room kind s.cells all
-cells_room (ops.Sub kind) self s fits h all = if_ints_room kind _ (of_two difference (λ x y h. read_signed _) s.cells all)
-cells_room (ops.Mul kind) self s fits h all = if_ints_room kind _ (of_two product (λ x y h. read_signed _) s.cells all)
-cells_room (ops.Div kind) self s fits h all = if_ints_room kind _ (of_two quotient (λ x y h. read_signed _) s.cells all)
+cells_room (ops.Sub kind) self s fits h all = if_ints_room kind _ (of_two difference (λ x y h. bits_fit _) s.cells all)
+cells_room (ops.Mul kind) self s fits h all = if_ints_room kind _ (of_two product (λ x y h. bits_fit _) s.cells all)
+cells_room (ops.Div kind) self s fits h all = if_ints_room kind _ (of_two quotient (λ x y h. bits_fit _) s.cells all)
 cells_room ops.Mod self s fits h all = of_two remainder remainder_signed s.cells all
-cells_room (ops.Neg kind) self s fits h all = some_or_none CellsHaveRoom (kind == 0x03) (of_int opposite s.cells) (of_one opposite (λ x. read_signed _) s.cells all)
-cells_room ops.Comp self s fits h all = of_one complement (λ x. read_signed _) s.cells all
+cells_room (ops.Neg kind) self s fits h all = some_or_none CellsHaveRoom (kind == 0x03) (of_int opposite s.cells) (of_one opposite (λ x. bits_fit _) s.cells all)
+cells_room ops.Comp self s fits h all = of_one complement (λ x. bits_fit _) s.cells all
 cells_room (ops.MovSp offset) self s fits h all = dropped (depth_of offset) s.cells all
 cells_room (ops.Jmp offset) self s fits h all = all
 cells_room (ops.Jsr offset) self s fits h all = tt
 cells_room (ops.Jz offset) self s fits h all = int_dropped_room s.cells all
 cells_room ops.Retn self s fits h all = tt
 cells_room (ops.Destruct total offset size) self s fits h all = destructed total offset size s.cells all
-cells_room ops.Not self s fits h all = of_one negation (λ x. test_signed _) s.cells all
-cells_room (ops.DecISp offset) self s fits h all = changed one_less (λ x. read_signed _) (range_at offset 4) s.cells all
-cells_room (ops.IncISp offset) self s fits h all = changed one_more (λ x. read_signed _) (range_at offset 4) s.cells all
+cells_room ops.Not self s fits h all = of_one negation (λ x. test_fits _) s.cells all
+cells_room (ops.DecISp offset) self s fits h all = changed one_less (λ x. bits_fit _) (range_at offset 4) s.cells all
+cells_room (ops.IncISp offset) self s fits h all = changed one_more (λ x. bits_fit _) (range_at offset 4) s.cells all
 cells_room (ops.Jnz offset) self s fits h all = int_dropped_room s.cells all
 cells_room (ops.CpDownBp offset size) self s fits h all = written (bp_range s offset size) s.cells all
 cells_room (ops.CpTopBp offset size) self s fits h all = copied (bp_range s offset size) s.cells all
-cells_room (ops.DecIBp offset) self s fits h all = changed one_less (λ x. read_signed _) (bp_range s offset 4) s.cells all
-cells_room (ops.IncIBp offset) self s fits h all = changed one_more (λ x. read_signed _) (bp_range s offset 4) s.cells all
+cells_room (ops.DecIBp offset) self s fits h all = changed one_less (λ x. bits_fit _) (bp_range s offset 4) s.cells all
+cells_room (ops.IncIBp offset) self s fits h all = changed one_more (λ x. bits_fit _) (bp_range s offset 4) s.cells all
 cells_room ops.SaveBp self s fits h all = tt
 cells_room ops.RestoreBp self s fits h all = tt
 cells_room (ops.StoreState globals locals) self s fits h all = tt

@@ -23,12 +23,8 @@ use Rattle.world_rules.specs.World.{World, things_at, queue_in, effects_in, queu
 use Rattle.world_rules.specs.Changes.{told, post, later, changed_at, changed_object, with_queue, with_effects, with_actions, with_busy, with_action, with_effect, with_variables, without_turn, without_first}
 use Rattle.play_room.specs.Room.{IsText, EffectHasRoom, VariableHasRoom, ItemHasRoom, ObjectHasRoom, KindHasRoom}
 use Rattle.play_room.specs.Kept.{ObjectIsKept, AreaIsKept, StoodIsKept, ThingsAreKept, object_of, EntryIsKept, WorldIsKept}
-use Rattle.play_room.proofs.Texts.{all_append, all_either, IfThere, there, no_text, zero_fits}
-
--- whichever is done
-pub either_kept : (b : Bool) (w v : World Saved) → WorldIsKept w → WorldIsKept v → WorldIsKept (if b then w else v)
-either_kept true w v x y = x
-either_kept false w v x y = y
+use Rattle.play_room.proofs.Lists.{all_append, all_weaker, some_of, either}
+use Rattle.play_room.proofs.Texts.{no_text, zero_fits}
 
 pub told_kept : (o : ℕ) (what : Told) (w : World Saved) → WorldIsKept w → WorldIsKept (told o what w)
 told_kept o what w k = record { random = k.random; area = k.area; things = k.things; agenda = k.agenda; user = k.user }
@@ -46,7 +42,7 @@ all_put P e (a ∷ rest) pe ps = all_put_if P (is_before a e) e a rest (put_entr
 
 all_without : (P : Entry Saved → Type 0) (o : ℕ) (es : List (Entry Saved)) → AllByRecursion P es → AllByRecursion P (without_turns o es)
 all_without P o [] ps = tt
-all_without P o (e ∷ es) ps = all_either P (is_turn_of o e) (without_turns o es) (e ∷ without_turns o es) (all_without P o es ps.1) (ps.0, all_without P o es ps.1)
+all_without P o (e ∷ es) ps = either (AllByRecursion P) (is_turn_of o e) (without_turns o es) (e ∷ without_turns o es) (all_without P o es ps.1) (ps.0, all_without P o es ps.1)
 
 -- more entries may be posted
 stood_later : (n m : ℕ) → n ≤ m → (s : Stood) → StoodIsKept n s → StoodIsKept m s
@@ -57,12 +53,11 @@ stood_later n m up s k = (below s.number k.0, k.1)
     below (Some i) h = omega (arith, h, up)
 
 effects_later : (n m : ℕ) → n ≤ m → (effects : List Stood) → AllByRecursion (StoodIsKept n) effects → AllByRecursion (StoodIsKept m) effects
-effects_later n m up [] all = tt
-effects_later n m up (s ∷ effects) all = (stood_later n m up s all.0, effects_later n m up effects all.1)
+effects_later n m up effects all = all_weaker (StoodIsKept n) (StoodIsKept m) (stood_later n m up) effects all
 
 pub things_later : (n m : ℕ) → n ≤ m → (things : List (Things Saved)) → AllByRecursion (ThingsAreKept n) things → AllByRecursion (ThingsAreKept m) things
-things_later n m up [] all = tt
-things_later n m up (t ∷ things) all = (record { effects = effects_later n m up t.effects all.0.effects; items = all.0.items }, things_later n m up things all.1)
+things_later n m up things all =
+    all_weaker (ThingsAreKept n) (ThingsAreKept m) (λ (t : Things Saved) h. record { effects = effects_later n m up t.effects h.effects; items = h.items }) things all
 
 -- an entry of an object whose number fits
 pub post_kept : (due : ℕ) (kind : Kind Saved) (w : World Saved) → IsNumber 4 (object_of kind) → KindHasRoom kind → WorldIsKept w → WorldIsKept (post due kind w)
@@ -89,15 +84,15 @@ pub things_changed : (next o : ℕ) (change : Things Saved → Things Saved) (th
 things_changed next zero change things keeps all = all
 things_changed next (suc i) change things keeps all = all_changed (ThingsAreKept next) i change things keeps all
 
-things_kept : (next o : ℕ) (things : List (Things Saved)) → AllByRecursion (ThingsAreKept next) things → IfThere (ThingsAreKept next) (things_at o things)
+things_kept : (next o : ℕ) (things : List (Things Saved)) → AllByRecursion (ThingsAreKept next) things → IsMaybe (ThingsAreKept next) (things_at o things)
 things_kept next zero things all = tt
-things_kept next (suc i) things all = there (ThingsAreKept next) things i all
+things_kept next (suc i) things all = some_of (ThingsAreKept next) things i all
 
-items_in : (next : ℕ) (t : Option (Things Saved)) → IfThere (ThingsAreKept next) t → AllByRecursion ItemHasRoom (queue_in t).actions
+items_in : (next : ℕ) (t : Option (Things Saved)) → IsMaybe (ThingsAreKept next) t → AllByRecursion ItemHasRoom (queue_in t).actions
 items_in next None h = tt
 items_in next (Some t) h = h.items
 
-stood_in : (next : ℕ) (t : Option (Things Saved)) → IfThere (ThingsAreKept next) t → AllByRecursion (StoodIsKept next) (effects_in t)
+stood_in : (next : ℕ) (t : Option (Things Saved)) → IsMaybe (ThingsAreKept next) t → AllByRecursion (StoodIsKept next) (effects_in t)
 stood_in next None h = tt
 stood_in next (Some t) h = h.effects
 
@@ -158,7 +153,7 @@ passing_kept due o e w number room k =
 
 pub fewer_kept : {A : Type 0} (P : A → Type 0) (test : A → Bool) (xs : List A) → AllByRecursion P xs → AllByRecursion P (without_first test xs)
 fewer_kept P test [] ps = tt
-fewer_kept P test (x ∷ xs) ps = all_either P (test x) xs (x ∷ without_first test xs) ps.1 (ps.0, fewer_kept P test xs ps.1)
+fewer_kept P test (x ∷ xs) ps = either (AllByRecursion P) (test x) xs (x ∷ without_first test xs) ps.1 (ps.0, fewer_kept P test xs ps.1)
 
 -- ---- objects
 
@@ -190,7 +185,7 @@ variables_kept o change w keeps k = record {
 
 pub put_keeps : (v : Variable) → VariableHasRoom v → KeepsVariables (put v)
 put_keeps v room [] all = (room, tt)
-put_keeps v room (w ∷ vars) all = all_either VariableHasRoom (same_variable v w) (v ∷ vars) (w ∷ put v vars) (room, all.1) (all.0, put_keeps v room vars all.1)
+put_keeps v room (w ∷ vars) all = either (AllByRecursion VariableHasRoom) (same_variable v w) (v ∷ vars) (w ∷ put v vars) (room, all.1) (all.0, put_keeps v room vars all.1)
 
 one_kept : (os : List AreaObject) (i : ℕ) → AllByRecursion ObjectIsKept os → ObjectIsKept (object_at os i)
 one_kept [] i all = record { tag = tt; scripts = tt; vars = tt }
@@ -203,29 +198,21 @@ object_kept area o k = one_kept area.objects (o - 1) k.objects
 abbrev IsNamed : Script → Type 0
 IsNamed s = IsText s.name
 
-either_text : (b : Bool) (first second : List ℕ) → IsText first → IsText second → IsText (if b then first else second)
-either_text true first second x y = x
-either_text false first second x y = y
-
 pub named_text : (label : List ℕ) (scripts : List Script) → AllByRecursion IsNamed scripts → IsText (script_named label scripts)
 named_text label [] all = no_text
-named_text label (s ∷ scripts) all = either_text (bytes_eq label s.label) s.name (script_named label scripts) all.0 (named_text label scripts all.1)
+named_text label (s ∷ scripts) all = either IsText (bytes_eq label s.label) s.name (script_named label scripts) all.0 (named_text label scripts all.1)
 
 -- what is read of variables
-first_kept : (test : Variable → Bool) (vars : List Variable) → AllByRecursion VariableHasRoom vars → IfThere VariableHasRoom (first test vars)
+first_kept : (test : Variable → Bool) (vars : List Variable) → AllByRecursion VariableHasRoom vars → IsMaybe VariableHasRoom (first test vars)
 first_kept test [] all = tt
-first_kept test (v ∷ vars) all = chosen (test v) v (first test vars) all.0 (first_kept test vars all.1)
-  where
-    chosen : (b : Bool) (x : Variable) (o : Option Variable) → VariableHasRoom x → IfThere VariableHasRoom o → IfThere VariableHasRoom (if b then Some x else o)
-    chosen true x o p q = p
-    chosen false x o p q = q
+first_kept test (v ∷ vars) all = either (IsMaybe VariableHasRoom) (test v) (Some v) (first test vars) all.0 (first_kept test vars all.1)
 
-int_kept : (v : Option Variable) → IfThere VariableHasRoom v → IsSigned (int_of v)
+int_kept : (v : Option Variable) → IsMaybe VariableHasRoom v → IsSigned (int_of v)
 int_kept None h = zero_fits
 int_kept (Some (IntVar name n)) h = h.1
 int_kept (Some (TextVar name text)) h = zero_fits
 
-text_kept : (v : Option Variable) → IfThere VariableHasRoom v → AreStateBytes (text_of v)
+text_kept : (v : Option Variable) → IsMaybe VariableHasRoom v → AreStateBytes (text_of v)
 text_kept None h = tt
 text_kept (Some (IntVar name n)) h = tt
 text_kept (Some (TextVar name text)) h = h.1
@@ -245,7 +232,7 @@ tagged_few : (tag : List ℕ) (n most : ℕ) (os : List AreaObject) → n + leng
 tagged_few tag n most [] few = tt
 tagged_few tag n most (o ∷ os) few =
     let rest = tagged_few tag (suc n) most os (omega (arith, few)) in
-    all_either (λ (k : ℕ). k ≤ most) (bytes_eq tag o.tag) (n ∷ tagged tag (suc n) os) (tagged tag (suc n) os) (omega (arith, few), rest) rest
+    either (AreUpTo most) (bytes_eq tag o.tag) (n ∷ tagged tag (suc n) os) (tagged tag (suc n) os) (omega (arith, few), rest) rest
 
 one_few : (ns : List ℕ) (i most : ℕ) → AreUpTo most ns → get_or ns i 0 ≤ most
 one_few [] i most all = omega arith

@@ -1,10 +1,20 @@
 -- Facts of the members of lists and options, where what is made of these is made of their members.
 use Rattle.std.proofs.Common.{◌≡◌, ℕ, zero, suc, Bool, true, false, List, [], ◌∷◌, ◌++◌, map, take, drop, reverse, Option, Some, None, sym, subst, if◌then◌else◌}
-use Rattle.std.specs.Prelude.{slice_get}
+use Rattle.std.specs.Prelude.{filter, slice_get}
 use Rattle.std.specs.Option.{option_map, option_and_then}
-use Rattle.std.specs.List.{AllByRecursion}
+use Rattle.std.specs.List.{AllByRecursion, find}
 use Rattle.std.proofs.lemmas.List.{reverse-append}
 use Rattle.state_format.specs.Parts.{IsMaybe}
+
+-- ---- one of two
+
+pub either : {A : Type 0} (P : A → Type 0) (b : Bool) (x y : A) → P x → P y → P (if b then x else y)
+either P true x y h k = h
+either P false x y h k = k
+
+pub some_or_none : {A : Type 0} (P : A → Type 0) (b : Bool) (o : Option A) → IsMaybe P o → IsMaybe P (if b then o else None)
+some_or_none P true o h = h
+some_or_none P false o h = tt
 
 -- ---- lists
 
@@ -27,10 +37,18 @@ module _ {A : Type 0} (P : A → Type 0) where
   all_reverse [] h = tt
   all_reverse (x ∷ xs) h = subst (AllByRecursion P) (sym (reverse-append (x ∷ []) xs)) (all_append (reverse xs) (x ∷ []) (all_reverse xs h.1) (h.0, tt))
 
+  pub all_filter : (test : A → Bool) (xs : List A) → AllByRecursion P xs → AllByRecursion P (filter test xs)
+  all_filter test [] h = tt
+  all_filter test (x ∷ xs) h = either (AllByRecursion P) (test x) (x ∷ filter test xs) (filter test xs) (h.0, all_filter test xs h.1) (all_filter test xs h.1)
+
   pub some_of : (xs : List A) (n : ℕ) → AllByRecursion P xs → IsMaybe P (slice_get xs n)
   some_of [] n h = tt
   some_of (x ∷ xs) zero h = h.0
   some_of (x ∷ xs) (suc n) h = some_of xs n h.1
+
+  pub found_of : (test : A → Bool) (xs : List A) → AllByRecursion P xs → IsMaybe P (find test xs)
+  found_of test [] h = tt
+  found_of test (x ∷ xs) h = either (IsMaybe P) (test x) (Some x) (find test xs) h.0 (found_of test xs h.1)
 
 pub all_weaker : {A : Type 0} (P Q : A → Type 0) → ((x : A) → P x → Q x) → (xs : List A) → AllByRecursion P xs → AllByRecursion Q xs
 all_weaker P Q weaker [] h = tt
@@ -58,11 +76,3 @@ module _ {A B : Type 0} (Q : B → Type 0) where
   pub after_any : (f : A → Option B) → ((a : A) → IsMaybe Q (f a)) → (o : Option A) → IsMaybe Q (option_and_then f o)
   after_any f keeps None = tt
   after_any f keeps (Some a) = keeps a
-
-pub either : {A : Type 0} (P : A → Type 0) (b : Bool) (x y : A) → P x → P y → P (if b then x else y)
-either P true x y h k = h
-either P false x y h k = k
-
-pub some_or_none : {A : Type 0} (P : A → Type 0) (b : Bool) (o : Option A) → IsMaybe P o → IsMaybe P (if b then o else None)
-some_or_none P true o h = h
-some_or_none P false o h = tt

@@ -7,15 +7,14 @@ use Rattle.std.specs.Int.{w32, cast_signed, cast_unsigned, int_wrapping_neg}
 use Rattle.std.specs.Str.Parse.{AllDigits}
 use Rattle.std.proofs.lemmas.Bool.Decides.{nat_tests}
 use Rattle.std.proofs.lemmas.Fmt.{decimal_is_IsNumeral}
-use Rattle.std.proofs.lemmas.Int.{wrapping_neg_is, SFits-int_wrap}
+use Rattle.std.proofs.lemmas.Int.{ints}
 use Rattle.std.proofs.lemmas.List.{length-take}
-use Rattle.std.proofs.lemmas.List.Elements.{All-take, All-drop, All-from_recursion, recursion_from_All}
 use Rattle.std.proofs.lemmas.Str.Parse.{digit_from_value}
-use Rattle.std.proofs.Math.Facts.{sfits_to_z, Fits-of_lt}
 use Rattle.nwq_text.specs.Escape.{hex_digit}
 use Rattle.nwq_text.specs.Names.{is_script_byte, is_script_name}
 use Rattle.nwq_value.specs.Effect.{Effect as EffectRecord}
 use Rattle.nwq_value.specs.Limits.{text_limit}
+use Rattle.nwq_value.specs.Operators.{as_int}
 use Rattle.nwq_value.specs.declared.value.Value.{Value}
 use Rattle.nwq_value.specs.declared.value.Value.TheVariants.{Int, Text, Object, Effect, Event}
 use Rattle.world_rules.specs.Arguments.{int_in, text_in, object_in, effect_in, event_in, int_at, text_at, object_at, effect_at, event_at, ints_of}
@@ -23,56 +22,15 @@ use Rattle.world_rules.specs.Pure.{hex_digits, hex_string}
 use Rattle.state_format.specs.Parts.{AreStateBytes, IsNumber, IsSigned}
 use Rattle.play_room.specs.Room.{IsText, EffectHasRoom, ValueHasRoom}
 use Rattle.play_room.specs.Kept.{MaybeValueHasRoom}
-
--- ---- lists
-
-pub all_append : {A : Type 0} (P : A → Type 0) (xs ys : List A) → AllByRecursion P xs → AllByRecursion P ys → AllByRecursion P (xs ++ ys)
-all_append P [] ys ps qs = qs
-all_append P (x ∷ xs) ys ps qs = (ps.0, all_append P xs ys ps.1 qs)
-
--- one of two lists
-pub all_either : {A : Type 0} (P : A → Type 0) (b : Bool) (xs ys : List A) → AllByRecursion P xs → AllByRecursion P ys → AllByRecursion P (if b then xs else ys)
-all_either P true xs ys ps qs = ps
-all_either P false xs ys ps qs = qs
-
-pub all_filter : {A : Type 0} (P : A → Type 0) (test : A → Bool) (xs : List A) → AllByRecursion P xs → AllByRecursion P (filter test xs)
-all_filter P test [] ps = tt
-all_filter P test (x ∷ xs) ps = all_either P (test x) (x ∷ filter test xs) (filter test xs) (ps.0, all_filter P test xs ps.1) (all_filter P test xs ps.1)
-
-pub all_weaker : {A : Type 0} (P Q : A → Type 0) → ((x : A) → P x → Q x) → (xs : List A) → AllByRecursion P xs → AllByRecursion Q xs
-all_weaker P Q f [] ps = tt
-all_weaker P Q f (x ∷ xs) ps = (f x ps.0, all_weaker P Q f xs ps.1)
-
--- what is at a place of a list, where there is something
-abbrev pub IfThere : {A : Type 0} → (A → Type 0) → Option A → Type 0
-IfThere P None = Unit {0}
-IfThere P (Some x) = P x
-
-pub there : {A : Type 0} (P : A → Type 0) (xs : List A) (i : ℕ) → AllByRecursion P xs → IfThere P (slice_get xs i)
-there P [] i ps = tt
-there P (x ∷ xs) zero ps = ps.0
-there P (x ∷ xs) (suc i) ps = there P xs i ps.1
-
-if_there : {A : Type 0} (P : A → Type 0) (b : Bool) (x : A) (o : Option A) → P x → IfThere P o → IfThere P (cond b (Some x) o)
-if_there P true x o p q = p
-if_there P false x o p q = q
-
-pub found_there : {A : Type 0} (P : A → Type 0) (test : A → Bool) (xs : List A) → AllByRecursion P xs → IfThere P (find test xs)
-found_there P test [] ps = tt
-found_there P test (x ∷ xs) ps = if_there P (test x) x (find test xs) ps.0 (found_there P test xs ps.1)
-
-pub place_below : {A : Type 0} (xs : List A) (n : ℕ) (x : A) → slice_get xs n ≡ Some x → n < length xs
-place_below [] n x e = absurd cc
-place_below (y ∷ xs) zero x e = omega arith
-place_below (y ∷ xs) (suc n) x e = let below = place_below xs n x e in omega (arith, below)
+use Rattle.play_room.proofs.Lists.{all_append, all_take, all_drop}
 
 -- ---- bytes
 
 pub first_bytes : (n : ℕ) (bytes : List ℕ) → AreStateBytes bytes → AreStateBytes (take n bytes)
-first_bytes n bytes are = recursion_from_All (λ (b : ℕ). b < 256) (take n bytes) (All-take (λ (b : ℕ). b < 256) n bytes (All-from_recursion (λ (b : ℕ). b < 256) bytes are))
+first_bytes n bytes are = all_take (λ (b : ℕ). b < 256) n bytes are
 
 pub last_bytes : (n : ℕ) (bytes : List ℕ) → AreStateBytes bytes → AreStateBytes (drop n bytes)
-last_bytes n bytes are = recursion_from_All (λ (b : ℕ). b < 256) (drop n bytes) (All-drop (λ (b : ℕ). b < 256) n bytes (All-from_recursion (λ (b : ℕ). b < 256) bytes are))
+last_bytes n bytes are = all_drop (λ (b : ℕ). b < 256) n bytes are
 
 pub joined_bytes : (xs ys : List ℕ) → AreStateBytes xs → AreStateBytes ys → AreStateBytes (xs ++ ys)
 joined_bytes xs ys ps qs = all_append (λ (b : ℕ). b < 256) xs ys ps qs
@@ -119,11 +77,13 @@ small_fits n small = search (rules, arith)
 pub zero_fits : IsSigned (pos 0)
 zero_fits = small_fits 0 (omega arith)
 
-pub bits_fit : (n : ℕ) → n < 4294967296 → IsSigned (cast_signed w32 n)
-bits_fit n small = sfits_to_z (Fits-of_lt small)
+-- however many bits are read as a signed number, it fits
+pub bits_fit : (n : ℕ) → IsSigned (cast_signed w32 n)
+bits_fit n = omega (arith, ints)
 
-pub negated_fits : (n : ℤ) → IsSigned n → IsSigned (int_wrapping_neg w32 n)
-negated_fits n fits = subst (FitsSigned w32) (sym (wrapping_neg_is w32 n fits)) (SFits-int_wrap w32 (neg_ℤ n))
+pub test_fits : (b : Bool) → IsSigned (as_int b)
+test_fits true = small_fits 1 (omega arith)
+test_fits false = zero_fits
 
 -- ---- names of scripts
 
@@ -148,7 +108,7 @@ script_name_text name is =
 
 -- ---- arguments
 
-pub argument : (values : List Value) (i : ℕ) → AllByRecursion ValueHasRoom values → MaybeValueHasRoom (slice_get values i)
+argument : (values : List Value) (i : ℕ) → AllByRecursion ValueHasRoom values → MaybeValueHasRoom (slice_get values i)
 argument [] i all = tt
 argument (v ∷ values) zero all = all.0
 argument (v ∷ values) (suc i) all = argument values i all.1
