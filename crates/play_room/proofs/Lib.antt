@@ -9,3 +9,5 @@ mod Acting
 mod Running
 mod Playing
 mod Rooms
+mod Trees
+mod Beginning
