@@ -1,23 +1,22 @@
 -- What an instruction comes to, in a frame whose values have room: a frame, and what is asked of the
 -- engine, whose values have room.
-use Rattle.std.proofs.Common.{◌≡◌, ℕ, zero, suc, ◌+◌, ◌-◌, ◌^◌, ◌<◌, ◌≤◌, Bool, true, false, List, [], ◌∷◌, length, take, reverse, Option, Some, None, arith, refl, if◌then◌else◌}
+use Rattle.std.proofs.Common.{◌≡◌, ℕ, zero, suc, ◌+◌, ◌≤◌, Bool, true, false, List, [], ◌∷◌, length, take, Option, Some, None, arith, refl, if◌then◌else◌}
 use Rattle.std.specs.Prelude.{nat_le, slice_get, ◌==◌, ◌&&◌}
 use Rattle.std.specs.List.{AllByRecursion}
 use Rattle.std.specs.Option.{option_map, option_and_then}
 use Rattle.std.proofs.lemmas.Bool.Decides.{nat_tests}
 use Rattle.nwq_value.specs.declared.value.Ty.{Ty}
 use Rattle.nwq_value.specs.declared.value.Value.{Value}
-use Rattle.nwq_value.specs.declared.value.Value.TheVariants.{Int, Text, Object, Effect, Event}
+use Rattle.nwq_value.specs.declared.value.Value.TheVariants.{Text, Object}
 use Rattle.nwq_value.specs.declared.engine.Param.{Param}
 use Rattle.nwq_value.specs.declared.engine.Routine.{Routine}
 use Rattle.nwq_value.specs.Engine.{EngineTable}
-use Rattle.nwq_value.specs.Limits.{file_limit}
 use Rattle.nwq_value.specs.Roles.{ty_eq}
 use Rattle.nwq_value.specs.Values.{type_of}
 use Rattle.ncs_code.specs.Plain.{PlainOp}
 use Rattle.ncs_code.specs.Plain as ops
 use Rattle.ncs_code.specs.Spelling.{IsOp, op_size}
-use Rattle.ncs_code.specs.File.{IsCode, file_length, header_size, ops_size, op_at, op_from, resume_place}
+use Rattle.ncs_code.specs.File.{IsCode, header_size, ops_size, op_at, op_from, resume_place}
 use Rattle.saved_state.specs.declared.cell.Cell.{Cell}
 use Rattle.saved_state.specs.declared.cell.Cell.TheVariants.{Value as Holds, Base}
 use Rattle.saved_state.specs.declared.saved.Saved.{Saved}
@@ -29,7 +28,7 @@ use Rattle.machine_rules.specs.Cells.{values_on, zero_on_top}
 use Rattle.machine_rules.specs.Calls.{Taken, with_value, with_action, value_taken, action_taken, taken, arguments, is_execute_script}
 use Rattle.machine_rules.specs.Act.{Act, Moves, Asks, Executes, Returns, Divides, act, moved, returned, restored, stored, stored_cells, executed, asked, behind_call, engine_called, is_division, place_after, next_place, cells_after}
 use Rattle.state_format.specs.Parts.{IsMaybe, IsNumber}
-use Rattle.play_room.specs.Room.{ValueHasRoom, CellHasRoom, SavedHasRoom}
+use Rattle.play_room.specs.Room.{CellHasRoom, SavedHasRoom}
 use Rattle.play_room.specs.Kept.{StackedHasRoom, ActionHasRoom}
 use Rattle.play_room.proofs.Lists.{all_drop, all_reverse, mapped, after, after_any, either, some_or_none}
 use Rattle.play_room.proofs.Cells.{CellsHaveRoom, ValuesHaveRoom, cells_room}

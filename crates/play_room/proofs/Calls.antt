@@ -1,16 +1,13 @@
 -- Each call of a routine gives a value that has room, and keeps the values of its world.
-use Rattle.std.proofs.Common.{◌≡◌, ◌<◌, ◌≤◌, ◌+◌, ◌-◌, ◌%◌, ◌^◌, ℕ, ℤ, pos, negsuc, zero, suc, Bool, true, false, List, [], ◌∷◌, ◌++◌, length, take, drop, Option, None, Some, refl, sym, ap, subst, arith, mod-lt, length-drop}
-use Rattle.std.specs.Prelude.{if◌then◌else◌, ◌==◌, not, filter, cond, int_lt, slice_get, codes}
-use Rattle.std.specs.Option.{option_map}
-use Rattle.std.specs.List.{AllByRecursion, find, list_any, take_while}
+use Rattle.std.proofs.Common.{◌≡◌, ◌<◌, ◌-◌, ◌%◌, ℕ, ℤ, pos, negsuc, zero, suc, true, false, List, [], ◌∷◌, ◌++◌, length, take, drop, Option, None, Some, refl, arith, mod-lt}
+use Rattle.std.specs.Prelude.{◌==◌, not, filter, int_lt, slice_get, codes}
+use Rattle.std.specs.List.{AllByRecursion, list_any, take_while}
 use Rattle.std.proofs.lemmas.Option.{slice_get_within}
 use Rattle.std.specs.Fmt.{signed_decimal}
-use Rattle.std.specs.Int.{w32, cast_signed, int_wrapping_neg}
+use Rattle.std.specs.Int.{w32, int_wrapping_neg}
 use Rattle.std.specs.Char.{is_ascii_digit}
 use Rattle.std.specs.Str.Parse.{digits_value}
 use Rattle.nwq_value.specs.Effect.{Effect}
-use Rattle.nwq_value.specs.Engine.{EngineTable, IsTable}
-use Rattle.nwq_value.specs.Limits.{text_limit}
 use Rattle.nwq_value.specs.declared.engine.Role.{Role}
 use Rattle.nwq_value.specs.declared.engine.Role.TheVariants as role
 use Rattle.nwq_value.specs.declared.engine.Routine.{Routine}
@@ -22,7 +19,7 @@ use Rattle.area_rules.specs.Objects.{Script}
 use Rattle.area_rules.specs.Area.{object, script_named}
 use Rattle.action_queue.specs.declared.queue.Item.{Item}
 use Rattle.action_queue.specs.declared.queue.Item.TheVariants.{Do, Wait, Speak}
-use Rattle.delay_agenda.specs.declared.entry.Kind.TheVariants.{Event, Stored, Turn, Unapply}
+use Rattle.delay_agenda.specs.declared.entry.Kind.TheVariants.{Event, Stored, Turn}
 use Rattle.saved_state.specs.declared.saved.Saved.{Saved}
 use Rattle.state_format.specs.Parts.{AreStateBytes, IsMaybe, IsNumber, IsSigned}
 use Rattle.world_rules.specs.declared.data.Told.TheVariants as line
@@ -31,10 +28,10 @@ use Rattle.world_rules.specs.Pure.{CellLookup, absolute, leading_number, string_
 use Rattle.world_rules.specs.World.{World, is_valid, queue_of, effects_of}
 use Rattle.world_rules.specs.Changes.{told, post, later, with_actions, with_busy, with_action, with_effects, with_variables, has_turn, without_turn, without_first, is_effect}
 use Rattle.world_rules.specs.AlikeLaws.{call}
-use Rattle.world_rules.specs.Rows.{Call, Answered, Row, rows, drawn, drawn_from, assigned, delayed, awake, appended, appended_do, at_rest, cleared, read, changed_variables, applied, applied_to, removed, name_or, event_script, signalled, as_int}
+use Rattle.world_rules.specs.Rows.{Call, Answered, Row, rows, drawn, drawn_from, assigned, delayed, awake, appended, appended_do, at_rest, cleared, read, changed_variables, applied, applied_to, removed, name_or, event_script, signalled}
 use Rattle.world_rules.specs.Engine.{engine, by_role, by_row, by_routine, row_numbered, world_value}
-use Rattle.play_room.specs.Room.{IsText, EffectHasRoom, ValueHasRoom, SavedHasRoom, VariableHasRoom, ItemHasRoom}
-use Rattle.play_room.specs.Kept.{CellsAreBytes, MaybeValueHasRoom, ActionHasRoom, AreaIsKept, ObjectIsKept, StoodIsKept, WorldIsKept}
+use Rattle.play_room.specs.Room.{IsText, EffectHasRoom, ValueHasRoom, VariableHasRoom, ItemHasRoom}
+use Rattle.play_room.specs.Kept.{CellsAreBytes, MaybeValueHasRoom, ActionHasRoom, StoodIsKept, WorldIsKept}
 use Rattle.play_room.proofs.Keeps.{CallsKeep}
 use Rattle.play_room.proofs.Lists.{all_filter, some_of, found_of, mapped, either}
 use Rattle.play_room.proofs.Texts.{first_bytes, last_bytes, joined_bytes, cut_text, no_text, signed_bytes, hex_string_bytes, small_fits, zero_fits, bits_fit, test_fits, int_fits, text_fits, object_fits, effect_fits, event_fits, ints_fit}

@@ -1,7 +1,6 @@
 -- Instructions that change nothing but the cells leave values that have room.
-use Rattle.std.proofs.Common.{ℕ, ℤ, zero, suc, ◌+◌, ◌-◌, ◌^◌, ◌<◌, ◌≤◌, Bool, true, false, List, [], ◌∷◌, length, take, drop, Option, Some, None, arith, if◌then◌else◌}
+use Rattle.std.proofs.Common.{ℕ, ℤ, zero, suc, ◌+◌, ◌-◌, ◌^◌, ◌<◌, Bool, List, [], ◌∷◌, length, take, drop, Option, Some, arith, if◌then◌else◌}
 use Rattle.std.specs.Prelude.{not, ◌==◌, nat_le, All}
-use Rattle.std.specs.Int.{w32, cast_signed}
 use Rattle.std.specs.Int.Signed.{mag_rem, mag_shr}
 use Rattle.std.specs.List.{AllByRecursion}
 use Rattle.std.proofs.lemmas.List.Elements.{recursion_from_All}
@@ -9,10 +8,9 @@ use Rattle.nwq_value.specs.declared.value.Ty.{Ty}
 use Rattle.nwq_value.specs.declared.value.Ty.TheVariants as ty
 use Rattle.nwq_value.specs.declared.value.Value.{Value}
 use Rattle.nwq_value.specs.declared.value.Value.TheVariants.{Int, Text, Object, Effect, Event}
-use Rattle.nwq_value.specs.Limits.{text_limit}
 use Rattle.nwq_value.specs.Roles.{tys_eq}
 use Rattle.nwq_value.specs.Values.{start_value}
-use Rattle.nwq_value.specs.Operators.{as_int, both, either as either_of, negation, bits_and, bits_or, bits_xor, complement, shift_left, shift_right, shift_right_unsigned, shift_count, sum, difference, product, quotient, remainder, opposite, less, less_or_equal, greater, greater_or_equal, joined_texts}
+use Rattle.nwq_value.specs.Operators.{both, either as either_of, negation, bits_and, bits_or, bits_xor, complement, shift_left, shift_right, shift_right_unsigned, shift_count, sum, difference, product, quotient, remainder, opposite, less, less_or_equal, greater, greater_or_equal, joined_texts}
 use Rattle.ncs_code.specs.Plain.{PlainLit, PlainOp}
 use Rattle.ncs_code.specs.Plain as ops
 use Rattle.ncs_code.specs.Spelling.{Fits, LitFits}
@@ -26,7 +24,7 @@ use Rattle.machine_rules.specs.Values.{literal_value, starting_value}
 use Rattle.machine_rules.specs.Cells.{values_on, values_at, value_types, with_values, overwritten, on_int, on_text, of_int, of_ints, of_texts, value_pushed, range_pushed, values_written, range_written, int_written, int_changed, values_dropped, values_kept, range_kept, runs_eq, runs_compared, pair_eq, pair_compared}
 use Rattle.machine_rules.specs.Act.{if_ints, compared, added, int_dropped, one_more, one_less, bp_range, cells_after}
 use Rattle.state_format.specs.Parts.{IsMaybe, IsNumber, IsSigned, AreStateBytes}
-use Rattle.play_room.specs.Room.{IsText, ValueHasRoom, CellHasRoom}
+use Rattle.play_room.specs.Room.{IsText, ValueHasRoom}
 use Rattle.play_room.specs.Kept.{StackedHasRoom}
 use Rattle.play_room.proofs.Lists.{all_append, all_take, all_drop, all_mapped, mapped, mapped_any, after, after_any, either, some_or_none}
 use Rattle.play_room.proofs.Texts.{cut_text, bits_fit, test_fits, zero_fits, no_text}

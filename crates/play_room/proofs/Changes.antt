@@ -1,27 +1,27 @@
 -- What the small changes of a world leave of its values.
-use Rattle.std.proofs.Common.{◌≡◌, ◌<◌, ◌≤◌, ◌+◌, ◌-◌, ◌^◌, ℕ, ℤ, pos, negsuc, zero, suc, Bool, true, false, List, [], ◌∷◌, ◌++◌, length, get_or, Option, None, Some, refl, sym, ap, subst, arith}
-use Rattle.std.specs.Prelude.{if◌then◌else◌, ◌==◌, slice_get}
-use Rattle.std.specs.List.{AllByRecursion, list_any}
+use Rattle.std.proofs.Common.{◌≡◌, ◌<◌, ◌≤◌, ◌+◌, ◌-◌, ℕ, ℤ, pos, negsuc, zero, suc, Bool, true, false, List, [], ◌∷◌, ◌++◌, length, get_or, Option, None, Some, refl, sym, ap, subst, arith}
+use Rattle.std.specs.Prelude.{if◌then◌else◌}
+use Rattle.std.specs.List.{AllByRecursion}
 use Rattle.std.specs.Str.{bytes_eq}
 use Rattle.nwq_value.specs.Effect.{Effect}
 use Rattle.local_variables.specs.Variables.{Variable, IntVar, TextVar, first, int_of, text_of, same_variable, put}
 use Rattle.area_rules.specs.Objects.{AreaObject, Script}
-use Rattle.area_rules.specs.Area.{PlainArea, object_at, object, tagged, by_tag, script_named, variables_changed_at, changed}
+use Rattle.area_rules.specs.Area.{PlainArea, object_at, object, tagged, by_tag, script_named, variables_changed_at}
 use Rattle.action_queue.specs.Queued.{Queued}
 use Rattle.action_queue.specs.declared.queue.Item.{Item}
 use Rattle.delay_agenda.specs.Order.{is_before, put_entry}
 use Rattle.delay_agenda.specs.Waiting.{is_turn_of, without_turns}
 use Rattle.delay_agenda.specs.declared.entry.Entry.{Entry}
 use Rattle.delay_agenda.specs.declared.entry.Kind.{Kind}
-use Rattle.delay_agenda.specs.declared.entry.Kind.TheVariants.{Turn, Unapply}
+use Rattle.delay_agenda.specs.declared.entry.Kind.TheVariants.{Unapply}
 use Rattle.saved_state.specs.declared.saved.Saved.{Saved}
 use Rattle.state_format.specs.Parts.{AreStateBytes, IsMaybe, IsNumber, IsSigned}
 use Rattle.world_rules.specs.declared.data.Stood.{Stood}
 use Rattle.world_rules.specs.declared.data.Things.{Things}
 use Rattle.world_rules.specs.declared.data.Told.{Told}
 use Rattle.world_rules.specs.World.{World, things_at, queue_in, effects_in, queue_of, effects_of}
-use Rattle.world_rules.specs.Changes.{told, post, later, changed_at, changed_object, with_queue, with_effects, with_actions, with_busy, with_action, with_effect, with_variables, without_turn, without_first}
-use Rattle.play_room.specs.Room.{IsText, EffectHasRoom, VariableHasRoom, ItemHasRoom, ObjectHasRoom, KindHasRoom}
+use Rattle.world_rules.specs.Changes.{told, post, changed_at, changed_object, with_queue, with_effects, with_actions, with_busy, with_action, with_effect, with_variables, without_turn, without_first}
+use Rattle.play_room.specs.Room.{IsText, EffectHasRoom, VariableHasRoom, ItemHasRoom, KindHasRoom}
 use Rattle.play_room.specs.Kept.{ObjectIsKept, AreaIsKept, StoodIsKept, ThingsAreKept, object_of, EntryIsKept, WorldIsKept}
 use Rattle.play_room.proofs.Lists.{all_append, all_weaker, some_of, either}
 use Rattle.play_room.proofs.Texts.{no_text, zero_fits}

@@ -1,27 +1,25 @@
 -- Runs of scripts keep the values of frames and worlds.
-use Rattle.std.proofs.Common.{◌≡◌, ℕ, zero, suc, ◌<◌, ◌≤◌, ◌^◌, Bool, true, false, List, [], ◌∷◌, ◌++◌, map, length, reverse, Option, Some, None, arith, refl, if◌then◌else◌}
+use Rattle.std.proofs.Common.{◌≡◌, ℕ, zero, suc, ◌≤◌, List, [], ◌∷◌, map, length, reverse, Option, Some, None, arith, refl}
 use Rattle.std.specs.Prelude.{slice_get, nat_lt}
 use Rattle.std.specs.Char.{to_ascii_lowercase}
 use Rattle.std.specs.Str.{bytes_eq}
-use Rattle.std.specs.List.{AllByRecursion, position}
+use Rattle.std.specs.List.{AllByRecursion}
 use Rattle.std.specs.Option.{option_map}
 use Rattle.std.proofs.lemmas.List.Quantifiers.{position-Some}
 use Rattle.nwq_value.specs.declared.value.Value.{Value}
 use Rattle.nwq_value.specs.Engine.{EngineTable, IsTable}
 use Rattle.nwq_value.specs.Limits.{script_limit}
-use Rattle.ncs_code.specs.Plain.{PlainOp}
 use Rattle.ncs_code.specs.File.{IsCode, op_at}
 use Rattle.saved_state.specs.declared.cell.Cell.{Cell}
 use Rattle.saved_state.specs.declared.cell.Cell.TheVariants.{Value as Holds, Base}
 use Rattle.saved_state.specs.declared.saved.Saved.{Saved}
-use Rattle.saved_state.specs.Cells.{resumed}
 use Rattle.machine_rules.specs.Frames.{Frame, started, continued}
 use Rattle.machine_rules.specs.Act.{Act, Moves, Asks, Executes, Returns, Divides, act}
-use Rattle.machine_rules.specs.Machine.{Script, Host, State, Next, Goes, Ends, Divided, waiting_limit, script_begun, script_named, executed, followed, next_op, over, step, with_answer}
+use Rattle.machine_rules.specs.Machine.{Script, State, Next, Goes, Ends, Divided, waiting_limit, script_begun, script_named, executed, followed, next_op, over, step, with_answer}
 use Rattle.machine_rules.specs.Runs.{after_step, run, entry, run_script, run_stored}
 use Rattle.world_rules.specs.Pure.{CellLookup}
 use Rattle.world_rules.specs.World.{World}
-use Rattle.world_rules.specs.Engine.{may_run, no_script, too_deep}
+use Rattle.world_rules.specs.Engine.{may_run, too_deep}
 use Rattle.ncs_machine.specs.Host.{EngineView, engine_answer, host}
 use Rattle.state_format.specs.Parts.{IsMaybe, IsNumber}
 use Rattle.play_room.specs.Room.{CellHasRoom, SavedHasRoom}
@@ -29,7 +27,7 @@ use Rattle.play_room.specs.Kept.{StackedHasRoom, CellsAreBytes, MaybeValueHasRoo
 use Rattle.play_room.proofs.Keeps.{WorldLaws}
 use Rattle.play_room.proofs.Lists.{all_append, all_reverse, some_of, mapped, after, either}
 use Rattle.play_room.proofs.Cells.{CellsHaveRoom}
-use Rattle.play_room.proofs.Acting.{FrameIsKept, AskedIsKept, ActIsKept, StandsWell, stands_well, act_kept}
+use Rattle.play_room.proofs.Acting.{FrameIsKept, ActIsKept, StandsWell, stands_well, act_kept}
 
 -- ---- states
 

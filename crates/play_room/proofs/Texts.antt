@@ -1,9 +1,9 @@
 -- Numbers, bytes and texts that have room, and what routines find among their arguments.
-use Rattle.std.proofs.Common.{◌≡◌, ◌<◌, ◌≤◌, ◌+◌, ◌-◌, ◌/◌, ◌%◌, ◌^◌, ℕ, ℤ, pos, negsuc, zero, suc, Bool, true, false, List, [], ◌∷◌, ◌++◌, length, take, drop, get_or, Option, None, Some, refl, sym, subst, arith, rules, mod-lt}
-use Rattle.std.specs.Prelude.{◌&&◌, cond, if◌then◌else◌, neg_ℤ, nat_lt, nat_le, slice_get, filter, IsTrue, FitsSigned, int_lt}
-use Rattle.std.specs.List.{AllByRecursion, find, list_all}
+use Rattle.std.proofs.Common.{◌≡◌, ◌<◌, ◌≤◌, ◌+◌, ◌/◌, ◌%◌, ℕ, ℤ, pos, negsuc, zero, suc, Bool, true, false, List, [], ◌∷◌, ◌++◌, length, take, drop, Option, None, Some, refl, arith, rules, mod-lt}
+use Rattle.std.specs.Prelude.{◌&&◌, if◌then◌else◌, nat_lt, nat_le, slice_get, IsTrue}
+use Rattle.std.specs.List.{AllByRecursion, list_all}
 use Rattle.std.specs.Fmt.{decimal, signed_decimal}
-use Rattle.std.specs.Int.{w32, cast_signed, cast_unsigned, int_wrapping_neg}
+use Rattle.std.specs.Int.{w32, cast_signed, cast_unsigned}
 use Rattle.std.specs.Str.Parse.{AllDigits}
 use Rattle.std.proofs.lemmas.Bool.Decides.{nat_tests}
 use Rattle.std.proofs.lemmas.Fmt.{decimal_is_IsNumeral}
@@ -12,7 +12,6 @@ use Rattle.std.proofs.lemmas.List.{length-take}
 use Rattle.std.proofs.lemmas.Str.Parse.{digit_from_value}
 use Rattle.nwq_text.specs.Escape.{hex_digit}
 use Rattle.nwq_text.specs.Names.{is_script_byte, is_script_name}
-use Rattle.nwq_value.specs.Effect.{Effect as EffectRecord}
 use Rattle.nwq_value.specs.Limits.{text_limit}
 use Rattle.nwq_value.specs.Operators.{as_int}
 use Rattle.nwq_value.specs.declared.value.Value.{Value}

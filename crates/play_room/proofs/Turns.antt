@@ -1,5 +1,5 @@
 -- What entries begin with and what they do without a script keeps the values of a world.
-use Rattle.std.proofs.Common.{ℕ, pos, Bool, true, false, List, [], ◌∷◌, Option, None, Some}
+use Rattle.std.proofs.Common.{ℕ, Bool, true, false, List, [], ◌∷◌, Option, None, Some}
 use Rattle.std.specs.Prelude.{if◌then◌else◌, nat_le}
 use Rattle.std.specs.List.{AllByRecursion, find}
 use Rattle.action_queue.specs.declared.queue.Item.{Item}
@@ -13,7 +13,7 @@ use Rattle.world_rules.specs.declared.data.Stood.{Stood}
 use Rattle.world_rules.specs.declared.data.Told.TheVariants as line
 use Rattle.world_rules.specs.World.{World, queue_of, effects_of}
 use Rattle.world_rules.specs.Changes.{told, later, with_actions, with_effects, without_first, is_numbered}
-use Rattle.world_rules.specs.Turns.{Begun, Turned, user_number, with_entries, entry_begun, begin, next_turn, turned, turn, turn_done, expired, unapply}
+use Rattle.world_rules.specs.Turns.{Begun, user_number, with_entries, entry_begun, next_turn, turned, expired}
 use Rattle.play_room.specs.Room.{ItemHasRoom, KindHasRoom}
 use Rattle.play_room.specs.Kept.{ActionHasRoom, StoodIsKept, EntryIsKept, WorldIsKept}
 use Rattle.play_room.proofs.Keeps.{NoScriptKeeps, TooDeepKeeps, BegunIsKept, BeginKeeps, TurnKeeps, TurnDoneKeeps, FaultKeeps, UnapplyKeeps, DrainedKeeps}
