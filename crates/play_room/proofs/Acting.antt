@@ -1,5 +1,5 @@
--- What an instruction comes to, in a frame whose values have room: a frame, and what is asked of the
--- engine, whose values have room.
+-- What an instruction comes to in a frame whose values have room: a frame, and what the engine is
+-- asked, whose values have room.
 use Rattle.std.proofs.Common.{◌≡◌, ℕ, zero, suc, ◌+◌, ◌≤◌, Bool, true, false, List, [], ◌∷◌, length, take, Option, Some, None, arith, refl, if◌then◌else◌}
 use Rattle.std.specs.Prelude.{nat_le, slice_get, ◌==◌, ◌&&◌}
 use Rattle.std.specs.List.{AllByRecursion}
@@ -61,20 +61,20 @@ pub record StandsWell (place : ℕ) (op : PlainOp) : Type 0 where
 -- ---- instructions of files
 
 -- the instruction is one of these, and its place is within them
-record IsWithin (limit place : ℕ) (op : PlainOp) : Type 0 where
+record StandsWithin (limit place : ℕ) (op : PlainOp) : Type 0 where
   is_op : IsOp op
   within : place ≤ limit
 
-widened : (at size rest place : ℕ) (o : Option PlainOp) → IsMaybe (IsWithin (at + size + rest) place) o → IsMaybe (IsWithin (at + (size + rest)) place) o
+widened : (at size rest place : ℕ) (o : Option PlainOp) → IsMaybe (StandsWithin (at + size + rest) place) o → IsMaybe (StandsWithin (at + (size + rest)) place) o
 widened at size rest place None h = tt
 widened at size rest place (Some x) h = let w = h.within in record { is_op = h.is_op; within = omega (arith, w) }
 
-op_within : (at : ℕ) (code : List PlainOp) (place : ℕ) → AllByRecursion IsOp code → IsMaybe (IsWithin (at + ops_size code) place) (op_from at code place)
+op_within : (at : ℕ) (code : List PlainOp) (place : ℕ) → AllByRecursion IsOp code → IsMaybe (StandsWithin (at + ops_size code) place) (op_from at code place)
 op_within at [] place all = tt
 op_within at (op ∷ code) place all = on (op_within (at + op_size op) code place all.1) (place == at) refl
   where
-    on : IsMaybe (IsWithin (at + op_size op + ops_size code) place) (op_from (at + op_size op) code place) → (b : Bool) → (place == at) ≡ b
-        → IsMaybe (IsWithin (at + (op_size op + ops_size code)) place) (if b then Some op else op_from (at + op_size op) code place)
+    on : IsMaybe (StandsWithin (at + op_size op + ops_size code) place) (op_from (at + op_size op) code place) → (b : Bool) → (place == at) ≡ b
+        → IsMaybe (StandsWithin (at + (op_size op + ops_size code)) place) (if b then Some op else op_from (at + op_size op) code place)
     on rest true e = record { is_op = all.0; within = grind (arith, nat_tests) }
     on rest false e = widened at (op_size op) (ops_size code) place (op_from (at + op_size op) code place) rest
 
@@ -82,7 +82,7 @@ pub stands_well : (code : List PlainOp) (place : ℕ) → IsCode code → IsMayb
 unfolding op_at
 stands_well code place is = bounded (op_from header_size code place) (op_within header_size code place is.each)
   where
-    bounded : (o : Option PlainOp) → IsMaybe (IsWithin (header_size + ops_size code) place) o → IsMaybe (StandsWell place) o
+    bounded : (o : Option PlainOp) → IsMaybe (StandsWithin (header_size + ops_size code) place) o → IsMaybe (StandsWell place) o
     bounded None h = tt
     bounded (Some op) h = let w = h.within in let b = is.bounded in record { is_op = h.is_op; resumes = omega (arith, w, b) }
 

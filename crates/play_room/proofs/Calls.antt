@@ -32,7 +32,7 @@ use Rattle.world_rules.specs.Rows.{Call, Answered, Row, rows, drawn, drawn_from,
 use Rattle.world_rules.specs.Engine.{engine, by_role, by_row, by_routine, row_numbered, world_value}
 use Rattle.play_room.specs.Room.{IsText, EffectHasRoom, ValueHasRoom, VariableHasRoom, ItemHasRoom}
 use Rattle.play_room.specs.Kept.{CellsAreBytes, MaybeValueHasRoom, ActionHasRoom, StoodIsKept, WorldIsKept}
-use Rattle.play_room.proofs.Keeps.{CallsKeep}
+use Rattle.play_room.proofs.Keeps.{CallsKeepValues}
 use Rattle.play_room.proofs.Lists.{all_filter, some_of, found_of, mapped, either}
 use Rattle.play_room.proofs.Texts.{first_bytes, last_bytes, joined_bytes, cut_text, no_text, signed_bytes, hex_string_bytes, small_fits, zero_fits, bits_fit, test_fits, int_fits, text_fits, object_fits, effect_fits, event_fits, ints_fit}
 use Rattle.play_room.proofs.Changes.{told_kept, post_kept, without_turn_kept, stood_of, actions_kept, busy_kept, action_kept, effects_kept, lasting_kept, passing_kept, fewer_kept, variables_kept, put_keeps, object_kept, named_text, read_int, read_text, tag_number}
@@ -336,7 +336,7 @@ module _ (cell : CellLookup) (bytes : CellsAreBytes cell) (n : ℕ) (c : Call Sa
   routine_kept None few = (tt, k)
   routine_kept (Some routine) few = role_kept routine routine.role (few routine refl)
 
-pub calls_keep : CallsKeep
+pub calls_keep : CallsKeepValues
 unfolding engine
 calls_keep cell table bytes is n caller values action w number room stored k =
     routine_kept cell bytes n (call caller values action) w (record { caller = number; values = room; action = stored }) k (slice_get table.routines n)

@@ -20,10 +20,10 @@ use Rattle.module_player.specs.CodePlays.{code_runner, code_play_on, run_of, pla
 use Rattle.state_format.specs.Parts.{IsNumber}
 use Rattle.play_room.specs.Room.{KindHasRoom}
 use Rattle.play_room.specs.Kept.{CellsAreBytes, ActionHasRoom, object_of, WorldIsKept}
-use Rattle.play_room.proofs.Keeps.{BegunIsKept, WorldLaws}
+use Rattle.play_room.proofs.Keeps.{BegunIsKept, WorldKeepsValues}
 use Rattle.play_room.proofs.Running.{script_kept, saved_kept, named_number}
 
-module _ (laws : WorldLaws) (cell : CellLookup) (table : EngineTable) (bytes : CellsAreBytes cell) (is : IsTable table)
+module _ (laws : WorldKeepsValues) (cell : CellLookup) (table : EngineTable) (bytes : CellsAreBytes cell) (is : IsTable table)
     (scripts : List Script) (codes : AllByRecursion (λ (s : Script). IsCode s.code) scripts) (few : length scripts ≤ script_limit) (limit : ℕ) where
   abbrev view : EngineView
   view = record { table = table; cell = cell }

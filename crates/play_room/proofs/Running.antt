@@ -24,7 +24,7 @@ use Rattle.ncs_machine.specs.Host.{EngineView, engine_answer, host}
 use Rattle.state_format.specs.Parts.{IsMaybe, IsNumber}
 use Rattle.play_room.specs.Room.{CellHasRoom, SavedHasRoom}
 use Rattle.play_room.specs.Kept.{StackedHasRoom, CellsAreBytes, MaybeValueHasRoom, WorldIsKept}
-use Rattle.play_room.proofs.Keeps.{WorldLaws}
+use Rattle.play_room.proofs.Keeps.{WorldKeepsValues}
 use Rattle.play_room.proofs.Lists.{all_append, all_reverse, some_of, mapped, after, either}
 use Rattle.play_room.proofs.Cells.{CellsHaveRoom}
 use Rattle.play_room.proofs.Acting.{FrameIsKept, ActIsKept, StandsWell, stands_well, act_kept}
@@ -75,7 +75,7 @@ continued_kept saved self room object = record {
 
 -- ---- steps
 
-module _ (laws : WorldLaws) (cell : CellLookup) (table : EngineTable) (bytes : CellsAreBytes cell) (is : IsTable table)
+module _ (laws : WorldKeepsValues) (cell : CellLookup) (table : EngineTable) (bytes : CellsAreBytes cell) (is : IsTable table)
     (scripts : List Script) (codes : AllByRecursion (λ (s : Script). IsCode s.code) scripts) (few : length scripts ≤ script_limit) where
   abbrev view : EngineView
   view = record { table = table; cell = cell }

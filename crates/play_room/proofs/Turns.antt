@@ -16,22 +16,22 @@ use Rattle.world_rules.specs.Changes.{told, later, with_actions, with_effects, w
 use Rattle.world_rules.specs.Turns.{Begun, user_number, with_entries, entry_begun, next_turn, turned, expired}
 use Rattle.play_room.specs.Room.{ItemHasRoom, KindHasRoom}
 use Rattle.play_room.specs.Kept.{ActionHasRoom, StoodIsKept, EntryIsKept, WorldIsKept}
-use Rattle.play_room.proofs.Keeps.{NoScriptKeeps, TooDeepKeeps, BegunIsKept, BeginKeeps, TurnKeeps, TurnDoneKeeps, FaultKeeps, UnapplyKeeps, DrainedKeeps}
+use Rattle.play_room.proofs.Keeps.{NoScriptKeepsValues, TooDeepKeepsValues, BegunIsKept, BeginKeepsValues, TurnKeepsValues, TurnDoneKeepsValues, FaultKeepsValues, UnapplyKeepsValues, DrainedKeepsValues}
 use Rattle.play_room.proofs.Texts.{zero_fits}
 use Rattle.play_room.proofs.Changes.{told_kept, post_kept, items_of, stood_of, actions_kept, busy_kept, effects_kept, fewer_kept}
 
 -- ---- what only tells
 
-pub no_script_keeps : NoScriptKeeps
+pub no_script_keeps : NoScriptKeepsValues
 no_script_keeps o name w k = told_kept o (line.NoScript name) w k
 
-pub too_deep_keeps : TooDeepKeeps
+pub too_deep_keeps : TooDeepKeepsValues
 too_deep_keeps o name w k = told_kept o (line.Deep name) w k
 
-pub fault_keeps : FaultKeeps
+pub fault_keeps : FaultKeepsValues
 fault_keeps o w k = told_kept o line.Divide w k
 
-pub drained_keeps : DrainedKeeps
+pub drained_keeps : DrainedKeepsValues
 drained_keeps w k = record { random = k.random; area = k.area; things = k.things; agenda = k.agenda; user = k.user }
 
 -- ---- the next entry
@@ -52,7 +52,7 @@ begun_kept until (e ∷ rest) w all k =
     begun_by (nat_le e.due until) (record { entry = e; world = record (with_entries rest w) { clock = e.due; user = user_number e.kind } }) all.0
     (record { random = k.random; area = k.area; things = k.things; agenda = all.1; user = user_fits e.kind all.0.1 })
 
-pub begin_keeps : BeginKeeps
+pub begin_keeps : BeginKeepsValues
 begin_keeps until w k = begun_kept until w.agenda.entries w k.agenda k
 
 -- ---- a Turn
@@ -61,7 +61,7 @@ next_kept : (o : ℕ) (items : List (Item Saved)) (w : World Saved) → IsNumber
 next_kept o [] w number k = busy_kept o false w k
 next_kept o (item ∷ rest) w number k = post_kept w.clock (Turn o) w number tt k
 
-pub turn_done_keeps : TurnDoneKeeps
+pub turn_done_keeps : TurnDoneKeepsValues
 turn_done_keeps o w number k = next_kept o (queue_of o w).actions w number k
 
 turned_kept : (o : ℕ) (items : List (Item Saved)) (w : World Saved) → IsNumber 4 o → AllByRecursion ItemHasRoom items → WorldIsKept w
@@ -74,7 +74,7 @@ turned_kept o (Speak bytes ∷ rest) w number all k = (
   turn_done_keeps o (told o (line.Speak bytes) (with_actions o rest w)) number (told_kept o (line.Speak bytes) (with_actions o rest w) (actions_kept o rest w all.1 k)),
 )
 
-pub turn_keeps : TurnKeeps
+pub turn_keeps : TurnKeepsValues
 turn_keeps o w number k = turned_kept o (queue_of o w).actions w number (items_of o w k) k
 
 -- ---- the end of an effect for a time
@@ -86,5 +86,5 @@ expired_kept o number (Some s) w k =
     told_kept o (line.Expire s.effect) (with_effects o rest w)
     (effects_kept o rest w (fewer_kept (StoodIsKept w.agenda.next) (is_numbered number) (effects_of o w) (stood_of o w k)) k)
 
-pub unapply_keeps : UnapplyKeeps
+pub unapply_keeps : UnapplyKeepsValues
 unapply_keeps o number w k = expired_kept o number (find (is_numbered number) (effects_of o w)) w k

@@ -1,10 +1,10 @@
 use Rattle.play_room.proofs.Playing.{play_kept}
 use Rattle.play_room.proofs.Calls.{calls_keep}
 use Rattle.play_room.proofs.Turns.{no_script_keeps, too_deep_keeps, begin_keeps, turn_keeps, turn_done_keeps, fault_keeps, unapply_keeps, drained_keeps}
-use Rattle.play_room.proofs.Keeps.{WorldLaws}
+use Rattle.play_room.proofs.Keeps.{WorldKeepsValues}
 use Rattle.play_room.proofs.laws.plays_keep_values.Goals as goal
 
-world_laws : WorldLaws
+world_laws : WorldKeepsValues
 world_laws = record {
   calls = calls_keep;
   no_script = no_script_keeps;
