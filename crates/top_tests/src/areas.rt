@@ -1,6 +1,5 @@
 //! The parts of commands that read areas and plans, and write areas.
 
-use crate::samples::{Sample, bytes_of};
 use area_tree::Area;
 use command_work::Status;
 use nwq_outside::{MemFiles, MemSink};
@@ -8,6 +7,7 @@ use nwq_value::NoMemory;
 use play_inputs::{read_area, read_plan_file, write_area};
 use std::alloc::Global;
 use std::test::Fail;
+use test_rows::samples::{Sample, bytes_of};
 
 /// Files with `a`, an area, `b`, which is none, and two plans, of which `q` is none.
 fn files_of(alloc: Global) -> Result<MemFiles, NoMemory> {

@@ -1,8 +1,8 @@
 //! Lines that are done one after another over the same files.
 
-use crate::answers::{Held, PLAIN, Row};
-use crate::bases::Base;
-use crate::samples::Sample;
+use test_rows::answers::{Held, PLAIN, Row};
+use test_rows::bases::Base;
+use test_rows::samples::Sample;
 
 const SOURCE: &[u8] = b"int f(int a, int b) { if (a==0) return b; return f(a-1,b+1); } \
     void main() { PrintInteger(f(3,4)); }";

@@ -1,11 +1,9 @@
 //! The commands over files that are no source texts: `tree`, `dis`, `asm` and `check`.
 
-use crate::answers::{Failing, Held, PLAIN, Row};
-use crate::samples::Sample;
 use nwq_top::Status;
-
-/// Words over a file `in`, what it holds, how they end, what they print, and what `out` holds then.
-pub type Told<'a> = (&'a str, Held<'a>, Status, &'a str, Held<'a>);
+use test_rows::answers::{Failing, Held, PLAIN, Row};
+use test_rows::rows::{Short, Told};
+use test_rows::samples::Sample;
 
 pub const TOLD: &[Told] = &[
     (
@@ -277,9 +275,6 @@ pub const TOLD: &[Told] = &[
         Held::Nothing,
     ),
 ];
-
-/// How many first bytes of a file are refused so: from this number to less than that.
-pub type Short<'a> = (usize, usize, &'a str);
 
 /// The begins of a file are refused with one line.
 pub const SHORT_TREE: Row = Row {

@@ -1,31 +1,17 @@
-//! Tests of the top call: its parts, its commands by rows of words and files, and the whole program
-//! over memory.
+//! Tests of the top call: its parts, its commands but plays of plans by rows of words and files, and
+//! the whole program over memory. Plays of plans stand in `game_tests`.
 #![tactic(auto)]
 
 #[cfg(test)]
-mod answers;
-#[cfg(test)]
 mod areas;
-#[cfg(test)]
-mod bases;
 #[cfg(test)]
 mod chains;
 #[cfg(test)]
 mod cuts;
 #[cfg(test)]
-mod example;
-#[cfg(test)]
 mod files;
 #[cfg(test)]
-mod games;
-#[cfg(test)]
-mod hooked;
-#[cfg(test)]
-mod long;
-#[cfg(test)]
 mod parts;
-#[cfg(test)]
-mod plans;
 #[cfg(test)]
 mod profile;
 #[cfg(test)]
@@ -35,18 +21,10 @@ mod reads;
 #[cfg(test)]
 mod refusing;
 #[cfg(test)]
-mod rows;
-#[cfg(test)]
-mod samples;
-#[cfg(test)]
-mod saves;
-#[cfg(test)]
 mod scripts;
-#[cfg(test)]
-mod states;
 #[cfg(test)]
 mod tables;
 #[cfg(test)]
-mod town;
+mod trials;
 #[cfg(test)]
 mod words;

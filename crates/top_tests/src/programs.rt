@@ -3,15 +3,14 @@
 ghost use Rattle.std.specs.Prelude.{map};
 ghost use Rattle.world_core.specs.Calls.{AreServing};
 
-use crate::answers::{Held, Named, Outcome, begin, words_of};
-use crate::bases::Base;
-use crate::samples::Sample;
 use command_messages::{End, LastLine, tell_end};
 use hook_table::Hooks;
 use nwq_outside::{MemFiles, MemSink};
 use nwq_top::{Remarks, nwq_program};
 use nwq_value::NoMemory;
 use std::alloc::Global;
+use test_rows::answers::{Outcome, begin, words_of};
+use test_rows::bases::Base;
 
 /// All words, and what comes of them.
 #[derive(Clone, Copy)]
@@ -27,34 +26,6 @@ pub struct Program<'a> {
     /// What it notes, where it is asked: else no more than that it does, where it fails.
     said: Option<&'a str>,
 }
-
-/// Two scripts, of which one is none.
-pub const TWO: &[Named] = &[
-    ("p.nss", Held::Bytes(b"void main() { PrintInteger(2+3); }")),
-    ("q.nss", Held::Bytes(b"void main() {")),
-];
-
-/// An area, a script that draws one random number, and plans that start it: with no number, with as
-/// many as it draws, and with one more.
-pub const RANDOMS: &[Named] = &[
-    ("a.git", Held::Of(Sample::Notified)),
-    (
-        "r.nss",
-        Held::Bytes(b"void main() { PrintInteger(Random(6)); }"),
-    ),
-    (
-        "none.plan",
-        Held::Bytes(b"NWQ PLAN 2\nscript r\nstart 0 - r\n"),
-    ),
-    (
-        "used.plan",
-        Held::Bytes(b"NWQ PLAN 2\nrandom 3 1\nscript r\nstart 0 - r\nstart 1 - r\n"),
-    ),
-    (
-        "left.plan",
-        Held::Bytes(b"NWQ PLAN 2\nrandom 3 1 4\nscript r\nstart 0 - r\nstart 1 - r\n"),
-    ),
-];
 
 /// Words over the two scripts.
 macro_rules! ended {
@@ -185,12 +156,7 @@ fn ends(alloc: Global, row: &Program, all: &[String], files: &mut MemFiles, hook
 }
 
 /// The same over the files that it is over.
-pub fn comes(
-    alloc: Global,
-    row: &Program,
-    found: &mut Outcome,
-    hooks: &Hooks,
-) -> Result<bool, NoMemory>
+fn comes(alloc: Global, row: &Program, found: &mut Outcome, hooks: &Hooks) -> Result<bool, NoMemory>
     requires hooks { AreServing (map (λ h. h.known) hooks.now.all.items) }
 {
     if !row.left {
@@ -198,4 +164,21 @@ pub fn comes(
     }
     let all = words_of(alloc, row.line)?;
     Ok(ends(alloc, row, all.as_slice(), &mut found.files, hooks))
+}
+
+/// The place of the first row of which something else comes, if there is one.
+pub fn first_program(
+    alloc: Global,
+    rows: &[Program],
+    found: &mut Outcome,
+    hooks: &Hooks,
+) -> Result<Option<usize>, NoMemory>
+    requires hooks { AreServing (map (λ h. h.known) hooks.now.all.items) }
+{
+    for (place, row) in rows.iter().enumerate() {
+        if !comes(alloc, row, found, hooks)? {
+            return Ok(Some(place));
+        }
+    }
+    Ok(None)
 }

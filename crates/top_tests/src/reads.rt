@@ -1,9 +1,9 @@
 //! Files that are read and aren't there, or are too long: the first such file is told, and nothing
 //! is written behind it.
 
-use crate::answers::{Held, PLAIN, Row};
-use crate::bases::Base;
 use nwq_top::Status;
+use test_rows::answers::{Held, PLAIN, Row};
+use test_rows::bases::Base;
 
 /// A file isn't there.
 pub const MISSING: Row = Row {

@@ -1,31 +1,14 @@
 //! A hook that finds no memory, and cells that the hooks look up in a table.
 
-use crate::answers::{Held, Named, PLAIN, Row};
-use crate::bases::Base;
-use crate::samples::Sample;
 use nwq_top::Status;
+use test_rows::answers::{Held, PLAIN, Row};
+use test_rows::bases::Base;
+use test_rows::samples::Sample;
 
 /// The number of the hook that finds none: IntToString.
 pub const REFUSED: u8 = 1;
 
 pub const LINE: &str = "play - a.git x.plan f.git t.txt";
-
-const TABLE: Named = (
-    "x.2da",
-    Held::Bytes(b"2DA V2.0\n\n LABEL COST\n0 Sword 10\n1 **** 5\n"),
-);
-
-const LIST: Named = ("t.txt", Held::Bytes(b"x\n"));
-
-const PLAN: Named = (
-    "x.plan",
-    Held::Bytes(b"NWQ PLAN 1\nscript p\nstart 0 - p\n"),
-);
-
-const AREA: Named = ("a.git", Held::Of(Sample::Empty));
-
-/// All but the script.
-pub const CELLS: &[Named] = &[PLAN, AREA, LIST, TABLE];
 
 /// Scripts that ask hooks.
 pub const ROWS: &[Row] = &[

@@ -1,16 +1,9 @@
 //! Scripts: what `run` plays and `compile` makes of them, and how both refuse them.
 
-use crate::answers::{Failing, Held, Named, PLAIN, Row};
-use crate::bases::Base;
-use crate::samples::Sample;
 use nwq_top::Status;
-
-/// What scripts may include, beside themselves.
-pub const INCLUDES: &[Named] = &[
-    ("none.nss", Held::Bytes(b"// nothing\n")),
-    ("head.nss", Held::Bytes(b"int a;\nint 5;")),
-    ("front.nss", Held::Bytes(b"void main()")),
-];
+use test_rows::answers::{Failing, Held, PLAIN, Row};
+use test_rows::bases::Base;
+use test_rows::samples::Sample;
 
 /// A script is run, and nothing is written.
 pub const PLAYED: Row = Row {
@@ -437,48 +430,6 @@ pub const SIZES: &[Row] = &[
         b"}",
         Status::Script,
         "refused p.nss 1 100008 tokens\n"
-    ),
-];
-
-/// The example `examples/module`.
-pub const MODULE: &[Named] = &[
-    (
-        "greet.nss",
-        Held::Bytes(
-            b"\
-// A greeting at once, and a second one two seconds later. The include has the functions.
-#include \"inc_lines\"
-
-void main()
-{
-    int nGoblins = 1;
-    Greet(Count(nGoblins, \"goblin\"));
-    nGoblins = nGoblins + 2;
-    DelayCommand(2000, Greet(Count(nGoblins, \"goblin\")));
-    nGoblins = 0;    // too late: the delayed call keeps the 3
-}
-",
-        ),
-    ),
-    (
-        "inc_lines.nss",
-        Held::Bytes(
-            b"\
-// Lines for scripts of this module.
-
-// \"1 goblin\", \"3 goblins\"
-string Count(int nCount, string sWhat)
-{
-    if (nCount == 1) return \"1 \" + sWhat;
-    return IntToString(nCount) + \" \" + sWhat + \"s\";
-}
-
-void Greet(string sWho)
-{
-    SpeakString(\"Well met, \" + sWho + \"!\");
-}
-",
-        ),
     ),
 ];
 

@@ -1,7 +1,7 @@
 //! Words that are no form of a command.
 
-use crate::answers::{Held, PLAIN, Row};
 use nwq_top::Status;
+use test_rows::answers::{Held, PLAIN, Row};
 
 /// Words are refused, and nothing is written.
 pub const REFUSED: Row = Row {

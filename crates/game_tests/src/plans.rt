@@ -1,8 +1,8 @@
 //! Worked examples of plays: what a plan, its scripts and an area come to.
 
-use crate::answers::{Failing, Held, PLAIN, Row};
-use crate::samples::Sample;
 use nwq_top::Status;
+use test_rows::answers::{Failing, Held, PLAIN, Row};
+use test_rows::samples::Sample;
 
 /// Plans over an area.
 pub const ROWS: &[Row] = &[

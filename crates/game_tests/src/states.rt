@@ -1,8 +1,8 @@
 //! The state of a play, byte by byte: what `save` writes of it, and what `resume` makes of it.
 
-use crate::answers::{Held, Named, PLAIN, Row};
-use crate::samples::Sample;
 use nwq_top::Status;
+use test_rows::answers::{Held, PLAIN, Row};
+use test_rows::contents::{DEFERS, EMPTY_AREA, PLAN_OF_ONE};
 
 /// The state's bytes in front of the place at which its one stored action goes on: it begins, with
 /// the built-in header and the code of the script `p`; the area, and the plan's version; the
@@ -30,26 +30,12 @@ const STATE: Held = Held::Repeated(&[FRONT], PLACE, 1, REST);
 
 const MOVED: Held = Held::Repeated(&[FRONT], PLACE + 1, 1, REST);
 
-const PLAN: Named = (
-    "x.plan",
-    Held::Bytes(b"NWQ PLAN 1\nscript p\nstart 0 - p\n"),
-);
-
-const DEFERS: Named = (
-    "p.nss",
-    Held::Bytes(
-        b"void main() { int n=1; DelayCommand(1000, PrintInteger(n)); n=2; PrintInteger(n); }",
-    ),
-);
-
-const AREA: Named = ("a.git", Held::Of(Sample::Empty));
-
 /// The play is saved as this state, the state is resumed, and it is refused where the place is one
 /// greater.
 pub const ROWS: &[Row] = &[
     Row {
         line: "save - a.git x.plan 1 s.nwq",
-        own: &[PLAN, DEFERS, AREA],
+        own: &[PLAN_OF_ONE, DEFERS, EMPTY_AREA],
         puts: Some(2),
         text: "0 #0 print 2\nsaved s.nwq entries 1\n",
         after: &[("s.nwq", STATE)],

@@ -4,15 +4,15 @@
 ghost use Rattle.std.specs.Prelude.{map};
 ghost use Rattle.world_core.specs.Calls.{AreServing};
 
-use crate::answers::{Failing, Held, Named, Outcome, PLAIN, Row, begin, carry_on};
-use crate::bases::Base;
-use crate::samples::Sample;
 use crate::{example, long};
 use hook_table::Hooks;
 use nwq_outside::MemSink;
 use nwq_top::Status;
 use nwq_value::NoMemory;
 use std::alloc::Global;
+use test_rows::answers::{Failing, Held, Named, Outcome, PLAIN, Row, begin, carry_on};
+use test_rows::bases::Base;
+use test_rows::contents::{DEFERS, GUARDED, OLD, PLAN_OF_ONE};
 
 /// A play, by its files.
 #[derive(Clone, Copy)]
@@ -29,81 +29,10 @@ pub struct Game<'a> {
     /// The list of tables, if there is one.
     pub tables: &'a str,
     /// They are saved after 1 to less than so many entries. The last number is past their end.
-    pub below: u64,
+    pub below: usize,
     /// What the unbroken play prints, where it is told.
     pub text: Option<&'a str>,
 }
-
-/// Effects that stand for a time and for good, queues with waits and stored actions, events with
-/// user numbers that wait, random numbers of which some are used, and an executed script that
-/// defers a part of its work.
-pub const BUSY: &[Named] = &[
-    (
-        "h.nss",
-        Held::Bytes(
-            b"#define ENGINE_NUM_STRUCTURES 2\n\
-        #define ENGINE_STRUCTURE_0 effect\n\
-        #define ENGINE_STRUCTURE_1 event\n\
-        int DURATION_TYPE_TEMPORARY = 1;\n\
-        int DURATION_TYPE_PERMANENT = 2;\n\
-        int Random(int n);\n\
-        void PrintInteger(int n);\n\
-        void PrintString(string s);\n\
-        string IntToString(int n);\n\
-        void DelayCommand(int ms, action a);\n\
-        void ActionWait(int ms);\n\
-        void ActionSpeakString(string s, int v = 0);\n\
-        void ActionDoCommand(action a);\n\
-        void ExecuteScript(string s, object o);\n\
-        event EventUserDefined(int n);\n\
-        void SignalEvent(object o, event e);\n\
-        int GetUserDefinedEventNumber();\n\
-        void SetLocalInt(object o, string s, int n);\n\
-        void SetLocalString(object o, string s, string v);\n\
-        string GetLocalString(object o, string s);\n\
-        effect Glow(int n);\n\
-        void ApplyEffectToObject(int d, effect e, object o, int ms = 0);\n",
-        ),
-    ),
-    (
-        "x.plan",
-        Held::Bytes(
-            b"NWQ PLAN 2\nrandom 3 1 4 1 5 9\nscript a\nscript b\nscript usr\n\
-            start 0 0 a guard\nstart 1500 0 b guard\nstart 2500 0 a guard\n",
-        ),
-    ),
-    (
-        "a.nss",
-        Held::Bytes(
-            b"int nRound = 7;\n\
-        void Later(int n, string s) { PrintString(s + IntToString(n + nRound)); }\n\
-        void main() {\n\
-        int n = Random(10);\n\
-        ApplyEffectToObject(DURATION_TYPE_TEMPORARY, Glow(n), OBJECT_SELF, 2000);\n\
-        ApplyEffectToObject(DURATION_TYPE_PERMANENT, Glow(n + 1), OBJECT_SELF);\n\
-        nRound = nRound + n;\n\
-        ActionWait(700); ActionSpeakString(\"now\"); ActionDoCommand(Later(n, \"do \"));\n\
-        DelayCommand(1200, Later(n, \"later \"));\n\
-        SignalEvent(OBJECT_SELF, EventUserDefined(40 + n));\n\
-        ExecuteScript(\"b\", OBJECT_SELF);\n\
-        SetLocalString(OBJECT_SELF, \"said\", \"round \" + IntToString(n));\n\
-        SetLocalInt(OBJECT_SELF, \"said\", n); }",
-        ),
-    ),
-    (
-        "b.nss",
-        Held::Bytes(
-            b"void main() { int n = Random(5); \
-        DelayCommand(900, PrintString(\"b \" + IntToString(n))); \
-        ActionWait(300); PrintString(GetLocalString(OBJECT_SELF, \"said\")); }",
-        ),
-    ),
-    (
-        "usr.nss",
-        Held::Bytes(b"void main() { PrintInteger(GetUserDefinedEventNumber()); }"),
-    ),
-    ("a.git", Held::Of(Sample::Notified)),
-];
 
 /// Plays of both versions, of sources, which are saved after each of their entries, and the guard's
 /// rounds with a long variable, after the first.
@@ -149,7 +78,7 @@ pub const TOWN: &[Game] = &[Game {
     plans: &["day.plan", "code.plan"],
     tables: "tables.txt",
     below: 33,
-    text: Some(crate::town::PLAYED),
+    text: Some(test_rows::town::PLAYED),
 }];
 
 /// Where the last line of a text begins.
@@ -224,7 +153,7 @@ fn goes_as(
     alloc: Global,
     game: &Game,
     plan: &str,
-    n: u64,
+    n: usize,
     found: &mut Outcome,
     text: &[u8],
     area: &[u8],
@@ -249,7 +178,7 @@ fn first_apart(
     text: &[u8],
     area: &[u8],
     hooks: &Hooks,
-) -> Result<Option<u64>, NoMemory>
+) -> Result<Option<usize>, NoMemory>
     requires hooks { AreServing (map (λ h. h.known) hooks.now.all.items) }
 {
     for n in 1..game.below {
@@ -268,7 +197,7 @@ fn first_plan_apart(
     text: &[u8],
     area: &[u8],
     hooks: &Hooks,
-) -> Result<Option<(usize, u64)>, NoMemory>
+) -> Result<Option<(usize, usize)>, NoMemory>
     requires hooks { AreServing (map (λ h. h.known) hooks.now.all.items) }
 {
     for (place, plan) in game.plans.iter().enumerate() {
@@ -321,7 +250,7 @@ fn first_other(
     game: &Game,
     found: &mut Outcome,
     hooks: &Hooks,
-) -> Result<Option<(usize, u64)>, NoMemory>
+) -> Result<Option<(usize, usize)>, NoMemory>
     requires hooks { AreServing (map (λ h. h.known) hooks.now.all.items) }
 {
     play(alloc, game, found, hooks)?;
@@ -340,7 +269,7 @@ pub fn first_broken(
     games: &[Game],
     found: &mut Outcome,
     hooks: &Hooks,
-) -> Result<Option<(usize, usize, u64)>, NoMemory>
+) -> Result<Option<(usize, usize, usize)>, NoMemory>
     requires hooks { AreServing (map (λ h. h.known) hooks.now.all.items) }
 {
     for (place, game) in games.iter().enumerate() {
@@ -351,29 +280,9 @@ pub fn first_broken(
     Ok(None)
 }
 
-/// A plan that starts `p`, which defers a part of its work.
-const PLAN: Named = (
-    "x.plan",
-    Held::Bytes(b"NWQ PLAN 1\nscript p\nstart 0 - p\n"),
-);
-
-const DEFERS: Named = (
-    "p.nss",
-    Held::Bytes(
-        b"void main() { int n=1; DelayCommand(1000, PrintInteger(n)); n=2; PrintInteger(n); }",
-    ),
-);
-
-const AREA: Named = ("a.git", Held::Of(Sample::Guard));
-
 const LOOP: Named = ("p.nss", Held::Bytes(b"void main() { while (TRUE) {} }"));
 
-const OLD: Named = ("s.nwq", Held::Bytes(b"an older state"));
-
 const BEGUN: Named = ("s.nwq", Held::Bytes(b"NWQ"));
-
-/// What a play is saved from in which `p` defers a part of its work, beside an older state.
-pub const SAVED: &[Named] = &[PLAN, DEFERS, AREA, OLD];
 
 const NO_AREA: &[Named] = &[
     ("p.ncs", Held::Something),
@@ -442,7 +351,7 @@ pub const ROWS: &[Row] = &[
     // Where an entry is stopped no state is written.
     Row {
         line: "save - a.git x.plan 1 s.nwq",
-        own: &[PLAN, LOOP, AREA, OLD],
+        own: &[PLAN_OF_ONE, LOOP, GUARDED, OLD],
         status: Status::Limit,
         text: "end instructions clock 0 entries 1 instructions 131072\n",
         after: &[("p.ncs", Held::Something)],
@@ -450,7 +359,7 @@ pub const ROWS: &[Row] = &[
     },
     Row {
         line: "save - a.git x.plan 1 s.nwq",
-        own: &[PLAN, AREA, OLD],
+        own: &[PLAN_OF_ONE, GUARDED, OLD],
         status: Status::Missing,
         text: "missing p.nss\n",
         ..PLAIN
@@ -476,7 +385,7 @@ pub const ROWS: &[Row] = &[
     },
     Row {
         line: "save - a.git x.plan 0 s.nwq",
-        own: &[PLAN, DEFERS, AREA],
+        own: &[PLAN_OF_ONE, DEFERS, GUARDED],
         status: Status::Words,
         text: "refused words\n",
         ..PLAIN

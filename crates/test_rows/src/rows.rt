@@ -3,15 +3,21 @@
 ghost use Rattle.std.specs.Prelude.{map};
 ghost use Rattle.world_core.specs.Calls.{AreServing};
 
-use crate::answers::{Held, Outcome, PLAIN, Row, comes};
-use crate::cuts::Cut;
-use crate::files::{Short, Told};
-use crate::programs;
-use crate::programs::Program;
+use crate::answers::{Failing, Held, Named, Outcome, PLAIN, Row, comes};
 use crate::samples::Sample;
 use hook_table::Hooks;
+use nwq_top::Status;
 use nwq_value::NoMemory;
 use std::alloc::Global;
+
+/// A call that fails, how often something is put, what is put, and what names hold after it.
+pub type Cut<'a> = (Failing, u64, &'a str, &'a [Named<'a>]);
+
+/// Words over a file `in`, what it holds, how they end, what they print, and what `out` holds then.
+pub type Told<'a> = (&'a str, Held<'a>, Status, &'a str, Held<'a>);
+
+/// How many first bytes of a file are refused so: from this number to less than that.
+pub type Short<'a> = (usize, usize, &'a str);
 
 /// A table, where that isn't of rows with the row that each of its lines fills in.
 #[derive(Clone, Copy)]
@@ -28,7 +34,6 @@ pub enum Table<'a> {
     Shorts(Row<'a>, Sample, &'a [Short<'a>]),
     /// Words, and a name of the base that holds this.
     Reads(Row<'a>, Held<'a>, &'a [(&'a str, &'a str)]),
-    Programs(&'a [Program<'a>]),
 }
 
 fn first_row(
@@ -219,22 +224,6 @@ fn first_read(
     Ok(None)
 }
 
-fn first_program(
-    alloc: Global,
-    rows: &[Program],
-    found: &mut Outcome,
-    hooks: &Hooks,
-) -> Result<Option<usize>, NoMemory>
-    requires hooks { AreServing (map (λ h. h.known) hooks.now.all.items) }
-{
-    for (place, row) in rows.iter().enumerate() {
-        if !programs::comes(alloc, row, found, hooks)? {
-            return Ok(Some(place));
-        }
-    }
-    Ok(None)
-}
-
 /// The place of the first row of a table of which something else comes, if there is one: of begins
 /// of files their size.
 pub fn first_wrong(
@@ -255,6 +244,5 @@ pub fn first_wrong(
             first_short(alloc, row, sample, shorts, found, hooks)
         }
         Table::Reads(row, held, reads) => first_read(alloc, row, held, reads, found, hooks),
-        Table::Programs(rows) => first_program(alloc, rows, found, hooks),
     }
 }

@@ -1,6 +1,5 @@
 //! Files that many rows are over.
 
-use crate::answers::{Held, Named};
 use byteorder::{ByteOrder, LittleEndian};
 use nwq_value::NoMemory;
 use std::alloc::Global;
@@ -192,32 +191,6 @@ const CHANGED_GOBLIN: &[u8] = b"\
     \0\0\0\0\0\0\0\x03\0\0\0\x03\0\0\0\x04\0\0\0\x05\0\0\0";
 
 const LISTING: &[u8] = b"JSR 00 @21\nRETN 00\nRETN 00\n";
-
-/// A plan of two heartbeats of a guard, the script `tick` with its include, and the area.
-pub const ROUNDS: &[Named] = &[
-    (
-        "x.plan",
-        Held::Bytes(
-            b"NWQ PLAN 1\nscript tick\nevent 0 0 ScriptHeartbeat guard\n\
-                event 6000 0 ScriptHeartbeat guard\n",
-        ),
-    ),
-    (
-        "tick.nss",
-        Held::Bytes(
-            b"#include \"inc_util\"\nvoid main() { \
-            int n = GetLocalInt(OBJECT_SELF, \"count\") + 1; \
-            SetLocalInt(OBJECT_SELF, \"count\", n); \
-            ActionSpeakString(Say(n)); \
-            DelayCommand(6000, PrintInteger(n)); }",
-        ),
-    ),
-    (
-        "inc_util.nss",
-        Held::Bytes(b"string Say(int n) { return \"round \" + IntToString(n); }"),
-    ),
-    ("a.git", Held::Of(Sample::Five)),
-];
 
 /// Parts of a front, so many of a byte, and a rest.
 pub fn repeated(

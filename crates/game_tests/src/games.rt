@@ -1,35 +1,10 @@
 //! Plans that are played over areas.
 
-use crate::answers::{Held, Named, PLAIN, Row};
-use crate::bases::Base;
-use crate::samples::Sample;
 use nwq_top::Status;
-
-const PLAN: Named = (
-    "x.plan",
-    Held::Bytes(
-        b"NWQ PLAN 1\nscript a\nscript b\nbinary c\nstart 0 - a\nstart 10 - b\n\
-            start 20 0 c guard\n",
-    ),
-);
-
-const HEADER: Named = ("h.nss", Held::Bytes(b"void PrintInteger(int n);"));
-
-const A: Named = (
-    "a.nss",
-    Held::Bytes(b"#include \"inc\"\nvoid main() { PrintInteger(2+3); }"),
-);
-
-const INCLUDE: Named = ("inc.nss", Held::Bytes(b"int Twice(int n);"));
-
-const B: Named = ("b.nss", Held::Bytes(b"void main() {}"));
-
-const C: Named = ("c.ncs", Held::Of(Sample::FirstSum));
-
-const AREA: Named = ("a.git", Held::Of(Sample::Guard));
-
-/// A plan of two scripts, of which one has an include, and of a binary, under a header.
-pub const THREE: &[Named] = &[PLAN, HEADER, A, INCLUDE, B, C, AREA];
+use test_rows::answers::{Held, Named, PLAIN, Row};
+use test_rows::bases::Base;
+use test_rows::contents::GUARDED;
+use test_rows::samples::Sample;
 
 /// What stands after a play that was refused before its scripts were compiled.
 pub const NO_FILES: &[Named] = &[
@@ -104,7 +79,7 @@ pub const DONE: &[Row] = &[
                 "t.nss",
                 Held::Bytes(b"int g=5; void main() { g=6; PrintInteger(g); }"),
             ),
-            AREA,
+            GUARDED,
         ],
         puts: Some(2),
         text: "0 #1 print 6\n0 #0 print 1\nend done clock 0 entries 1 instructions 30\n",
@@ -140,7 +115,7 @@ pub const ENDED: &[Row] = &[
                 Held::Bytes(b"NWQ PLAN 1\nlimit 6\nscript p\nstart 0 - p\n"),
             ),
             ("p.nss", Held::Bytes(b"void main() { PrintInteger(2+3); }")),
-            AREA,
+            GUARDED,
             ("f.git", Held::Bytes(b"before")),
         ],
         status: Status::Limit,
@@ -163,7 +138,7 @@ pub const ENDED: &[Row] = &[
                 "s.nss",
                 Held::Bytes(b"void F() { AssignCommand(OBJECT_SELF, F()); } void main() { F(); }"),
             ),
-            AREA,
+            GUARDED,
         ],
         status: Status::Limit,
         puts: Some(1),

@@ -1,7 +1,7 @@
 //! A variable that is longer than a string may be: it is kept whole in the area and in a state.
 
-use crate::answers::{Held, PLAIN, Row};
-use crate::bases::Base;
+use test_rows::answers::{Held, PLAIN, Row};
+use test_rows::bases::Base;
 
 /// The area of the guard in front of the value of its variable `count`.
 const FRONT: &[u8] = b"\

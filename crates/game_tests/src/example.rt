@@ -1,8 +1,8 @@
 //! The play of the example `examples/town`, with its tables in the hooks.
 
-use crate::answers::{Held, PLAIN, Row};
-use crate::bases::Base;
-use crate::town::PLAYED;
+use test_rows::answers::{Held, PLAIN, Row};
+use test_rows::bases::Base;
+use test_rows::town::PLAYED;
 
 /// The words of its play.
 pub const LINE: &str = "play nwscript.nss town.git day.plan after.git tables.txt";

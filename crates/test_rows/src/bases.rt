@@ -1,7 +1,7 @@
 //! The names that many rows are over, and what they hold.
 
 use crate::answers::Named;
-use crate::{cuts, games, programs, refusing, samples, saves, scripts};
+use crate::contents;
 
 /// Names that rows are over.
 #[derive(Clone, Copy)]
@@ -35,15 +35,15 @@ pub enum Base {
 pub fn files_of(base: Base) -> &'static [Named<'static>] {
     match base {
         Base::Nothing | Base::Town => &[],
-        Base::Includes => scripts::INCLUDES,
-        Base::Module => scripts::MODULE,
-        Base::Three => games::THREE,
-        Base::Rounds => samples::ROUNDS,
-        Base::Script => cuts::SCRIPT,
-        Base::Saved => saves::SAVED,
-        Base::Busy => saves::BUSY,
-        Base::Cells => refusing::CELLS,
-        Base::Two => programs::TWO,
-        Base::Randoms => programs::RANDOMS,
+        Base::Includes => contents::INCLUDES,
+        Base::Module => contents::MODULE,
+        Base::Three => contents::THREE,
+        Base::Rounds => contents::ROUNDS,
+        Base::Script => contents::SCRIPT,
+        Base::Saved => contents::SAVED,
+        Base::Busy => contents::BUSY,
+        Base::Cells => contents::CELLS,
+        Base::Two => contents::TWO,
+        Base::Randoms => contents::RANDOMS,
     }
 }
