@@ -1,5 +1,5 @@
 //! What is remarked of a play, for notes after it.
-ghost use Rattle.std.specs.Prelude.{◌≡◌, [], pos, IfOk};
+ghost use Rattle.std.specs.Prelude.{◌≡◌, [], false, pos, IfOk};
 
 use nwq_value::NoMemory;
 use saved_state::Saved;
@@ -16,7 +16,9 @@ pub struct Remarks {
 
 impl Remarks {
     /// Before anything is remarked.
-    pub fn none() -> Remarks {
+    pub fn none() -> Remarks
+        ensures none { result.random_used_up ≡ false }
+    {
         Remarks {
             random_used_up: false,
         }
