@@ -163,12 +163,14 @@ pub objects_more : (os : List AreaObject) (ts : List (Things Saved)) (i : ℕ) (
     → AreObjectsOf (take (i + 1) os) (take (i + 1) ts) new
 objects_more os ts i t old new p before grown things variables form short ho ht at =
     subst (λ (k : ℕ). AreObjectsOf (take k os) (take k ts) new) (sym (add-one i)) (subst (AreObjectsOf (take (suc i) os) (take (suc i) ts)) (sym grown) (record {
-      kept = map_last things_of old p ∙ ap (λ (l : List (Things Saved)). l ++ things_of p ∷ []) before.kept
-          ∙ ap (λ z. take i ts ++ z ∷ []) things ∙ sym (taken_things ts i t ht at);
-      variables = map_last variables_of old p ∙ ap (λ (l : List (List _)). l ++ variables_of p ∷ []) before.variables
-          ∙ ap (λ z. map (λ (o : AreaObject). o.vars) (take i os) ++ z ∷ []) variables ∙ sym (taken_object os i ho);
+      told = record {
+        kept = map_last things_of old p ∙ ap (λ (l : List (Things Saved)). l ++ things_of p ∷ []) before.told.kept
+            ∙ ap (λ z. take i ts ++ z ∷ []) things ∙ sym (taken_things ts i t ht at);
+        variables = map_last variables_of old p ∙ ap (λ (l : List (List _)). l ++ variables_of p ∷ []) before.told.variables
+            ∙ ap (λ z. map (λ (o : AreaObject). o.vars) (take i os) ++ z ∷ []) variables ∙ sym (taken_object os i ho);
+        short = test_behind has_short_items old p before.told.short short;
+      };
       form = all_behind IsObject old p before.form form;
-      short = test_behind has_short_items old p before.short short;
     }))
 
 pub objects_end : (os : List AreaObject) (ts : List (Things Saved)) (i : ℕ) (ps : List Object) → AreObjectsOf (take i os) (take i ts) ps → length os ≤ i → length ts ≤ i
@@ -208,7 +210,7 @@ pub count_more : {B : Type 0} (ps new : List B) (p : B) (i : ℕ) → length ps 
 count_more ps new p i is grown = ap length grown ∙ length_behind ps p ∙ ap suc is ∙ sym (add-one i)
 
 pub none_kept : AreObjectsOf [] [] []
-none_kept = record { kept = refl; variables = refl; form = tt; short = refl }
+none_kept = record { told = record { kept = refl; variables = refl; short = refl }; form = tt }
 
 pub object_here : (area : PlainArea) (i : ℕ) → (object area (i + 1)).vars ≡ (object_at area.objects i).vars
 object_here area i = ap (λ (k : ℕ). (object_at area.objects k).vars) (omega arith)

@@ -14,5 +14,6 @@ pub mod Accepting
 pub mod Saving
 pub mod Holding
 pub mod FileBytes
+pub mod Sizes
 pub mod Making
 pub mod States

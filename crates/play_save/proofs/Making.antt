@@ -1,4 +1,5 @@
--- The parts of a world that has room in a state.
+-- The parts of a world that has room in a state. They tell it and have short texts; and each can be
+-- written where it is no larger than a file may be.
 use Rattle.std.proofs.Common.{◌≡◌, ◌<◌, ◌≤◌, ℕ, List, [], ◌∷◌, length, map, ap, ap₂, refl, arith}
 use Rattle.std.specs.Prelude.{pos, Bool, true, false, ◌&&◌, IsTrue}
 use Rattle.std.specs.List.{AllByRecursion, list_all}
@@ -33,12 +34,13 @@ use Rattle.state_format.specs.declared.parts.Object.{Object}
 use Rattle.state_format.specs.declared.parts.KindPart.{KindPart}
 use Rattle.state_format.specs.declared.parts.KindPart.TheVariants as kind
 use Rattle.state_format.specs.declared.parts.Entry.{Entry as EntryPart}
-use Rattle.state_format.specs.Parts.{IsBlob, IsCaptured, IsCell, IsEntry, IsItem, IsKind, IsNumber, IsStanding, IsVariable}
+use Rattle.state_format.specs.Parts.{IsBlob, IsCaptured, IsCell, IsEntry, IsItem, IsKind, IsObject, IsStanding, IsVariable}
+use Rattle.state_format.specs.Fields.{number, tag, effect_fields, cell_fields, captured_fields, variable_fields, standing_fields, item_fields, object_fields, kind_fields, entry_fields}
+use Rattle.play_room.specs.Room.{IsText, CellHasRoom, SavedHasRoom, VariableHasRoom, StoodHasRoom, ItemHasRoom, ThingsHaveRoom, ObjectHasRoom, KindHasRoom, EntryHasRoom}
 use Rattle.play_save.specs.World.{cell_of, saved_of, variable_of, stood_of, item_of, kind_of, entry_of}
 use Rattle.play_save.specs.Rules.{is_short, is_short_cell, has_short_cells, is_short_item, has_short_items, is_short_kind, is_short_entry, count_limit}
-use Rattle.play_save.specs.Keeping.{IsPartOf, ArePartsOf, AreObjectsOf, any_text}
-use Rattle.play_save.specs.Written.{IsText, CellHasRoom, SavedHasRoom, VariableHasRoom, StoodHasRoom, ItemHasRoom, ThingsHaveRoom, ObjectHasRoom, KindHasRoom, EntryHasRoom}
-use Rattle.play_save.proofs.Keeping.{mapped_few}
+use Rattle.play_save.specs.Keeping.{IsPartOf, ArePartsOf, TellObjects, any_text}
+use Rattle.play_save.proofs.Sizes.{IfSmall, small_rest, effect_form, captured_form, number_form, text_form, standing_form, object_form}
 
 -- ---- lists
 
@@ -57,9 +59,6 @@ made_all tells Is is_short Has part made (x ∷ xs) all =
       form = (p.form, rest.form);
       short = both_true (is_short (part x)) (list_all is_short (map part xs)) p.short rest.short;
     }
-
-made_few : {A B : Type 0} (part : A → B) (xs : List A) → IsNumber 4 (length xs) → IsNumber 4 (length (map part xs))
-made_few part xs few = mapped_few part xs (map part xs) refl (omega (arith, few))
 
 -- ---- values
 
@@ -80,29 +79,28 @@ cell_part (Holds (value.Effect e)) = cell.Effect (effect_part e)
 cell_part (Holds (value.Event n)) = cell.Event n
 cell_part (Base bp) = cell.Int (pos 0)
 
-cell_made : (c : Cell) → CellHasRoom c → IsPartOf cell_of IsCell is_short_cell c (cell_part c)
-cell_made (Holds (value.Int n)) room = record { same = refl; form = room; short = refl }
-cell_made (Holds (value.Text text)) room = record { same = refl; form = text_blob text room; short = short_text text room.0 }
-cell_made (Holds (value.Object o)) room = record { same = refl; form = room; short = refl }
-cell_made (Holds (value.Effect e)) room = record { same = refl; form = room; short = refl }
-cell_made (Holds (value.Event n)) room = record { same = refl; form = room; short = refl }
+cell_made : (c : Cell) → CellHasRoom c → IsPartOf cell_of (IfSmall cell_fields IsCell) is_short_cell c (cell_part c)
+cell_made (Holds (value.Int n)) room = record { same = refl; form = λ small. room; short = refl }
+cell_made (Holds (value.Text text)) room = record { same = refl; form = λ small. text_blob text room; short = short_text text room.0 }
+cell_made (Holds (value.Object o)) room = record { same = refl; form = λ small. room; short = refl }
+cell_made (Holds (value.Effect e)) room = record {
+  same = refl;
+  form = λ small. effect_form (effect_part e) room.0 room.1 (small_rest (tag 0x10) (effect_fields (effect_part e)) small);
+  short = refl;
+}
+cell_made (Holds (value.Event n)) room = record { same = refl; form = λ small. room; short = refl }
 cell_made (Base bp) room = absurd room
 
 abbrev pub saved_part : Saved → Captured
 saved_part s = record { script = s.script; place = s.place; globals = map cell_part s.globals; locals = map cell_part s.locals }
 
-pub saved_made : (s : Saved) → SavedHasRoom s → IsPartOf saved_of IsCaptured has_short_cells s (saved_part s)
+saved_made : (s : Saved) → SavedHasRoom s → IsPartOf saved_of (IfSmall captured_fields IsCaptured) has_short_cells s (saved_part s)
 saved_made s room =
-    let globals = made_all cell_of IsCell is_short_cell CellHasRoom cell_part cell_made s.globals room.globals.1 in
-    let locals = made_all cell_of IsCell is_short_cell CellHasRoom cell_part cell_made s.locals room.locals.1 in
+    let globals = made_all cell_of (IfSmall cell_fields IsCell) is_short_cell CellHasRoom cell_part cell_made s.globals room.globals in
+    let locals = made_all cell_of (IfSmall cell_fields IsCell) is_short_cell CellHasRoom cell_part cell_made s.locals room.locals in
     record {
       same = ap₂ (λ (g l : List Cell). record { script = s.script; place = s.place; globals = g; locals = l }) globals.same locals.same;
-      form = record {
-        script = room.script;
-        place = room.place;
-        globals = (made_few cell_part s.globals room.globals.0, globals.form);
-        locals = (made_few cell_part s.locals room.locals.0, locals.form);
-      };
+      form = λ small. captured_form (saved_part s) room.script room.place globals.form locals.form small;
       short = both_true (list_all is_short_cell (map cell_part s.globals)) (list_all is_short_cell (map cell_part s.locals)) globals.short locals.short;
     }
 
@@ -112,25 +110,27 @@ abbrev variable_part : Variable → VariablePart
 variable_part (IntVar name n) = variable.Int name n
 variable_part (TextVar name text) = variable.Text name text
 
-variable_made : (v : Variable) → VariableHasRoom v → IsPartOf variable_of IsVariable any_text v (variable_part v)
-variable_made (IntVar name n) room = record { same = refl; form = room; short = refl }
-variable_made (TextVar name text) room = record { same = refl; form = room; short = refl }
+variable_made : (v : Variable) → VariableHasRoom v → IsPartOf variable_of (IfSmall variable_fields IsVariable) any_text v (variable_part v)
+variable_made (IntVar name n) room = record { same = refl; form = number_form name n room.0 room.1; short = refl }
+variable_made (TextVar name text) room = record { same = refl; form = text_form name text room.0 room.1; short = refl }
 
 abbrev stood_part : Stood → Standing
 stood_part s = record { number = s.number; effect = effect_part s.effect }
 
-stood_made : (s : Stood) → StoodHasRoom s → IsPartOf stood_of IsStanding any_text s (stood_part s)
-stood_made s room = record { same = refl; form = room; short = refl }
+stood_made : (s : Stood) → StoodHasRoom s → IsPartOf stood_of (IfSmall standing_fields IsStanding) any_text s (stood_part s)
+stood_made s room = record { same = refl; form = standing_form (stood_part s) room.0 room.1.0 room.1.1; short = refl }
 
 abbrev item_part : Item Saved → ItemPart
 item_part (Do s) = item.Do (saved_part s)
 item_part (Wait ms) = item.Wait ms
 item_part (Speak text) = item.Speak text
 
-item_made : (i : Item Saved) → ItemHasRoom i → IsPartOf item_of IsItem is_short_item i (item_part i)
-item_made (Do s) room = let made = saved_made s room in record { same = ap (λ (x : Saved). Do x) made.same; form = made.form; short = made.short }
-item_made (Wait ms) room = record { same = refl; form = room; short = refl }
-item_made (Speak text) room = record { same = refl; form = text_blob text room; short = short_text text room.0 }
+item_made : (i : Item Saved) → ItemHasRoom i → IsPartOf item_of (IfSmall item_fields IsItem) is_short_item i (item_part i)
+item_made (Do s) room =
+    let made = saved_made s room in
+    record { same = ap (λ (x : Saved). Do x) made.same; form = λ small. made.form (small_rest (tag 0) (captured_fields (saved_part s)) small); short = made.short }
+item_made (Wait ms) room = record { same = refl; form = λ small. room; short = refl }
+item_made (Speak text) room = record { same = refl; form = λ small. text_blob text room; short = short_text text room.0 }
 
 abbrev object_part : AreaObject → Things Saved → Object
 object_part o t = record {
@@ -145,34 +145,34 @@ object_parts [] ts = []
 object_parts (o ∷ os) [] = []
 object_parts (o ∷ os) (t ∷ ts) = object_part o t ∷ object_parts os ts
 
-pub parts_few : (os : List AreaObject) (ts : List (Things Saved)) → length (object_parts os ts) ≤ length os
-parts_few [] ts = omega arith
-parts_few (o ∷ os) [] = omega arith
-parts_few (o ∷ os) (t ∷ ts) = let rest = parts_few os ts in omega arith
+pub parts_count : (os : List AreaObject) (ts : List (Things Saved)) → length ts ≡ length os → length (object_parts os ts) ≡ length os
+parts_count [] ts same = refl
+parts_count (o ∷ os) [] same = absurd (omega (arith, same))
+parts_count (o ∷ os) (t ∷ ts) same = let rest = parts_count os ts (omega (arith, same)) in omega (arith, rest)
+
+-- parts tell objects, and can be written where they are small
+pub record AreMade (os : List AreaObject) (ts : List (Things Saved)) (parts : List Object) : Type 0 where
+  pub told : TellObjects os ts parts
+  pub form : AllByRecursion (IfSmall object_fields IsObject) parts
 
 pub objects_made : (os : List AreaObject) (ts : List (Things Saved)) → length ts ≡ length os → AllByRecursion ObjectHasRoom os → AllByRecursion ThingsHaveRoom ts
-    → AreObjectsOf os ts (object_parts os ts)
-objects_made [] [] same variables things = record { kept = refl; variables = refl; form = tt; short = refl }
+    → AreMade os ts (object_parts os ts)
+objects_made [] [] same variables things = record { told = record { kept = refl; variables = refl; short = refl }; form = tt }
 objects_made [] (t ∷ ts) same variables things = absurd (omega (arith, same))
 objects_made (o ∷ os) [] same variables things = absurd (omega (arith, same))
 objects_made (o ∷ os) (t ∷ ts) same variables things =
     let rest = objects_made os ts (omega (arith, same)) variables.1 things.1 in
-    let vars = made_all variable_of IsVariable any_text VariableHasRoom variable_part variable_made o.vars variables.0.1 in
-    let effects = made_all stood_of IsStanding any_text StoodHasRoom stood_part stood_made t.effects things.0.effects.1 in
-    let items = made_all item_of IsItem is_short_item ItemHasRoom item_part item_made t.queue.actions things.0.items.1 in
+    let vars = made_all variable_of (IfSmall variable_fields IsVariable) any_text VariableHasRoom variable_part variable_made o.vars variables.0 in
+    let effects = made_all stood_of (IfSmall standing_fields IsStanding) any_text StoodHasRoom stood_part stood_made t.effects things.0.effects in
+    let items = made_all item_of (IfSmall item_fields IsItem) is_short_item ItemHasRoom item_part item_made t.queue.actions things.0.items in
     record {
-      kept = ap₂ (λ (x : Things Saved) (l : List (Things Saved)). x ∷ l)
-          (ap₂ (λ (a : List (Item Saved)) (e : List Stood). record { queue = record { actions = a; busy = t.queue.busy }; effects = e }) items.same effects.same) rest.kept;
-      variables = ap₂ (λ (x : List Variable) (l : List (List Variable)). x ∷ l) vars.same rest.variables;
-      form = (
-        record {
-          variables = (made_few variable_part o.vars variables.0.0, vars.form);
-          effects = (made_few stood_part t.effects things.0.effects.0, effects.form);
-          items = (made_few item_part t.queue.actions things.0.items.0, items.form);
-        },
-        rest.form,
-      );
-      short = both_true (list_all is_short_item (map item_part t.queue.actions)) (list_all has_short_items (object_parts os ts)) items.short rest.short;
+      told = record {
+        kept = ap₂ (λ (x : Things Saved) (l : List (Things Saved)). x ∷ l)
+            (ap₂ (λ (a : List (Item Saved)) (e : List Stood). record { queue = record { actions = a; busy = t.queue.busy }; effects = e }) items.same effects.same) rest.told.kept;
+        variables = ap₂ (λ (x : List Variable) (l : List (List Variable)). x ∷ l) vars.same rest.told.variables;
+        short = both_true (list_all is_short_item (map item_part t.queue.actions)) (list_all has_short_items (object_parts os ts)) items.short rest.told.short;
+      };
+      form = (object_form (object_part o t) vars.form effects.form items.form, rest.form);
     }
 
 -- ---- the agenda
@@ -199,30 +199,59 @@ kind_part (Stored o s) = kind.Stored o (saved_part s)
 kind_part (Turn o) = kind.Turn o
 kind_part (Unapply o) = kind.Unapply o
 
-kind_made : (objects : ℕ) → objects < 4294967296 → (k : Kind Saved) → IsPlaced objects k → KindHasRoom k → IsPartOf kind_of IsKind is_short_kind k (kind_part k)
-kind_made objects few (Event o script user) placed room = record {
+-- an entry can be written where it is small, and where each object has a number that fits
+abbrev IfFew : {B : Type 0} → ℕ → (B → Type 0) → B → Type 0
+IfFew objects Is p = objects < 4294967296 → Is p
+
+kind_made : (objects : ℕ) (k : Kind Saved) → IsPlaced objects k → KindHasRoom k → IsPartOf kind_of (IfFew objects (IfSmall kind_fields IsKind)) is_short_kind k (kind_part k)
+kind_made objects (Event o script user) placed room = record {
   same = refl;
-  form = (omega (arith, placed, few), (text_blob script room.0, room.1));
+  form = λ few small. (omega (arith, placed, few), (text_blob script room.0, room.1));
   short = short_text script room.0.0;
 }
-kind_made objects few (Stored o s) placed room =
+kind_made objects (Stored o s) placed room =
     let made = saved_made s room in
-    record { same = ap (λ (x : Saved). Stored o x) made.same; form = (omega (arith, placed, few), made.form); short = made.short }
-kind_made objects few (Turn o) placed room = record { same = refl; form = omega (arith, placed.1, few); short = refl }
-kind_made objects few (Unapply o) placed room = record { same = refl; form = omega (arith, placed.1, few); short = refl }
+    record {
+      same = ap (λ (x : Saved). Stored o x) made.same;
+      form = λ few small.
+          (omega (arith, placed, few), made.form (small_rest (number 4 o) (captured_fields (saved_part s)) (small_rest (tag 1) (number 4 o ∷ captured_fields (saved_part s)) small)));
+      short = made.short;
+    }
+kind_made objects (Turn o) placed room = record { same = refl; form = λ few small. omega (arith, placed.1, few); short = refl }
+kind_made objects (Unapply o) placed room = record { same = refl; form = λ few small. omega (arith, placed.1, few); short = refl }
 
 abbrev pub entry_part : Entry Saved → EntryPart
 entry_part e = record { due = e.due; number = e.number; kind = kind_part e.kind }
 
-pub entry_made : (next objects : ℕ) → next < count_limit → objects < 4294967296 → (e : Entry Saved) → IsReady next objects e
-    → IsPartOf entry_of IsEntry is_short_entry e (entry_part e)
-entry_made next objects small few e ready =
-    let made = kind_made objects few e.kind ready.placed ready.room in
+entry_made : (next objects : ℕ) → next < count_limit → (e : Entry Saved) → IsReady next objects e
+    → IsPartOf entry_of (IfFew objects (IfSmall entry_fields IsEntry)) is_short_entry e (entry_part e)
+entry_made next objects most e ready =
+    let made = kind_made objects e.kind ready.placed ready.room in
     record {
       same = ap (λ (k : Kind Saved). record { due = e.due; number = e.number; kind = k }) made.same;
-      form = record { due = omega (arith, ready.due); number = omega (arith, ready.number, small); kind = made.form };
+      form = λ few small. record {
+        due = omega (arith, ready.due);
+        number = omega (arith, ready.number, most);
+        kind = made.form few
+            (small_rest (number 8 e.number) (kind_fields (kind_part e.kind)) (small_rest (number 8 e.due) (number 8 e.number ∷ kind_fields (kind_part e.kind)) small));
+      };
       short = made.short;
     }
 
-pub entries_few : (es : List (Entry Saved)) → IsNumber 4 (length es) → IsNumber 4 (length (map entry_part es))
-entries_few es few = made_few entry_part es few
+-- ---- entries
+
+are_few : {B : Type 0} (objects : ℕ) (Is : B → Type 0) (ps : List B) → objects < 4294967296 → AllByRecursion (IfFew objects Is) ps → AllByRecursion Is ps
+are_few objects Is [] few all = tt
+are_few objects Is (p ∷ ps) few all = (all.0 few, are_few objects Is ps few all.1)
+
+-- parts tell entries, have short texts, and can be written where they are small
+pub record AreEntries (objects : ℕ) (es : List (Entry Saved)) (ps : List EntryPart) : Type 0 where
+  pub same : map entry_of ps ≡ es
+  pub short : IsTrue (list_all is_short_entry ps)
+  pub form : objects < 4294967296 → AllByRecursion (IfSmall entry_fields IsEntry) ps
+
+pub entries_made : (next objects : ℕ) → next < count_limit → (es : List (Entry Saved)) → AllByRecursion (IsReady next objects) es
+    → AreEntries objects es (map entry_part es)
+entries_made next objects most es ready =
+    let made = made_all entry_of (IfFew objects (IfSmall entry_fields IsEntry)) is_short_entry (IsReady next objects) entry_part (entry_made next objects most) es ready in
+    record { same = made.same; short = made.short; form = λ few. are_few objects (IfSmall entry_fields IsEntry) (map entry_part es) few made.form }

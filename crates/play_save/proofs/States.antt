@@ -1,11 +1,12 @@
 -- There is a state of each play that rests in a world which has room in one.
-use Rattle.std.proofs.Common.{inl, inr, ◌≡◌, ◌<◌, ℕ, zero, suc, ◌⊎◌, List, [], ◌∷◌, length, map, sym, ap, refl, ◌∙◌, subst, arith}
+use Rattle.std.proofs.Common.{inl, inr, ◌≡◌, ◌<◌, ◌≤◌, ℕ, zero, suc, ◌⊎◌, List, [], ◌∷◌, length, map, sym, ap, refl, ◌∙◌, subst, arith}
 use Rattle.std.specs.Prelude.{Option, Some, slice_get, IsTrue}
 use Rattle.std.specs.List.{AllByRecursion, IsDistinct}
 use Rattle.std.specs.Str.{bytes_eq}
 use Rattle.std.specs.Option.{option_map}
 use Rattle.std.proofs.lemmas.Option.{slice_get-map}
 use Rattle.nwq_text.specs.Names.{is_script_name}
+use Rattle.nwq_value.specs.Limits.{file_limit}
 use Rattle.nwq_value.specs.Engine.{EngineTable}
 use Rattle.engine_table.specs.Headers.{OneHeader}
 use Rattle.ncs_code.specs.File.{IsCode, file_bytes}
@@ -34,18 +35,21 @@ use Rattle.state_format.specs.declared.parts.Object.{Object}
 use Rattle.state_format.specs.declared.parts.Entry.{Entry as Part}
 use Rattle.state_format.specs.declared.parts.Script.{Script as ScriptPart}
 use Rattle.state_format.specs.declared.parts.Parts.{Parts}
-use Rattle.state_format.specs.Parts.{HasForm, IsEntry, IsNumber, IsScript}
+use Rattle.state_format.specs.Parts.{HasForm, IsList, IsNumber, IsObject, IsScript}
+use Rattle.state_format.specs.Fields.{parts_bytes}
+use Rattle.play_room.specs.Room.{HasRoom}
 use Rattle.play_save.specs.World.{saved_of, item_of, things_of, kind_of, entry_of}
-use Rattle.play_save.specs.Rules.{IsHeaderOf, IsSound, IsAccepted, HasArea, KeepsLimits, HasStates, HasTurns, IsCapturedIn, ItemHolds, KindHolds, is_short_entry, count_limit}
+use Rattle.play_save.specs.Rules.{IsHeaderOf, IsSound, IsAccepted, HasArea, KeepsLimits, HasStates, HasTurns, IsCapturedIn, ItemHolds, KindHolds, count_limit}
 use Rattle.play_save.specs.States.{resting, MayLimit, MayCount}
-use Rattle.play_save.specs.Keeping.{Tells, ArePartsOf}
-use Rattle.play_save.specs.Written.{HasRoom, AreListed, Rests, listed_part, PlaysHaveStates}
+use Rattle.play_save.specs.Keeping.{Tells}
+use Rattle.play_save.specs.Written.{AreListed, Rests, listed_part, PlaysHaveStates}
 use Rattle.play_save.proofs.CapturedLemmas.{one_table, one_file}
 use Rattle.play_save.proofs.Keeping.{all_got}
 use Rattle.play_save.proofs.Accepting.{all_back, length_map, map_map, same_count, own_variables, queue_here, no_items, agenda_there}
 use Rattle.play_save.proofs.Saving.{world_saved, world_too}
 use Rattle.play_save.proofs.FileBytes.{name_blob, file_blob}
-use Rattle.play_save.proofs.Making.{made_all, object_parts, objects_made, parts_few, entry_part, entry_made, entries_few, all_ready, IsReady}
+use Rattle.play_save.proofs.Sizes.{objects_form, agenda_form}
+use Rattle.play_save.proofs.Making.{AreMade, AreEntries, object_parts, objects_made, parts_count, entry_part, entries_made, all_ready}
 
 -- ---- tables of shapes, by the numbers of scripts
 
@@ -173,13 +177,14 @@ module _ (header : Option (List ℕ)) (scripts : List Script) (area : List ℕ) 
   }
 
   module _ (listed : AreListed header scripts) (rests : Rests listed.table scripts area w) (limited : MayLimit limits) (counted : MayCount limits w taken done) (room : HasRoom w) where
-    entries_made : ArePartsOf entry_of IsEntry is_short_entry w.agenda.entries (map entry_part w.agenda.entries)
-    entries_made =
+    entries_are : AreEntries (length w.area.objects) w.agenda.entries (map entry_part w.agenda.entries)
+    entries_are =
         let world = rests.between.world in
-        let few : length w.area.objects < 4294967296 = (let few = room.objects in omega (arith, few)) in
-        made_all entry_of IsEntry is_short_entry (IsReady w.agenda.next (length w.area.objects)) entry_part
-        (entry_made w.agenda.next (length w.area.objects) rests.next few) w.agenda.entries
-        (all_ready w.agenda.next (length w.area.objects) w.agenda.entries world.agenda.below rests.due world.placed room.agenda.1)
+        entries_made w.agenda.next (length w.area.objects) rests.next w.agenda.entries
+        (all_ready w.agenda.next (length w.area.objects) w.agenda.entries world.agenda.below rests.due world.placed room.agenda)
+
+    objects_are : AreMade w.area.objects w.things (object_parts w.area.objects w.things)
+    objects_are = objects_made w.area.objects w.things rests.between.world.counted room.variables room.things
 
     tells : Tells parts (resting w)
     tells = record {
@@ -187,13 +192,13 @@ module _ (header : Option (List ℕ)) (scripts : List Script) (area : List ℕ) 
       version = refl;
       random = refl;
       next = refl;
-      entries = entries_made.same;
-      short = entries_made.short;
-      objects = objects_made w.area.objects w.things rests.between.world.counted room.variables room.things;
+      entries = entries_are.same;
+      short = entries_are.short;
+      objects = objects_are.told;
     }
 
-    has_form : FileLength → HasForm parts
-    has_form sizes = record {
+    has_form : FileLength → length (parts_bytes parts) ≤ file_limit → HasForm parts
+    has_form sizes small = record {
       header = listed.text;
       scripts = (let few = listed.few in omega (arith, length_map listed_part scripts), blob_parts sizes scripts listed.names listed.code);
       area = rests.blob;
@@ -206,16 +211,17 @@ module _ (header : Option (List ℕ)) (scripts : List Script) (area : List ℕ) 
       done = (let here = counted.instructions in omega arith);
       next = (let here = rests.next in omega arith);
       random = (let few = rests.random in omega arith, room.random);
-      objects = (
-        let few = room.objects in let fewer = parts_few w.area.objects w.things in omega arith,
-        (objects_made w.area.objects w.things rests.between.world.counted room.variables room.things).form,
-      );
-      agenda = (entries_few w.agenda.entries room.agenda.0, entries_made.form);
+      objects = all_objects;
+      agenda = agenda_form parts
+          (entries_are.form (let few = all_objects.0 in let count = parts_count w.area.objects w.things rests.between.world.counted in omega (arith, few, count))) small;
     }
       where
         small_version : (w.version ≡ 1) ⊎ (w.version ≡ 2) → IsNumber 1 w.version
         small_version (inl one) = omega (arith, one)
         small_version (inr two) = omega (arith, two)
+
+        all_objects : IsList IsObject parts.objects
+        all_objects = objects_form parts objects_are.form small
 
     has_area : HasArea parts
     has_area = record {
@@ -241,7 +247,7 @@ module _ (header : Option (List ℕ)) (scripts : List Script) (area : List ℕ) 
         done = counted.instructions;
         next = rests.next;
         due = all_back entry_of (λ (e : Entry Saved). e.due < count_limit) parts.agenda
-            (subst (AllByRecursion (λ (e : Entry Saved). e.due < count_limit)) (sym entries_made.same) rests.due);
+            (subst (AllByRecursion (λ (e : Entry Saved). e.due < count_limit)) (sym entries_are.same) rests.due);
       };
       names = record {
         names = named_parts scripts listed.names;

@@ -59,12 +59,16 @@ KindHasValues (Unapply o) = Unit {0}
 abbrev pub QueuesHaveValues : List (Things Saved) → Type 0
 QueuesHaveValues things = AllByRecursion (λ (t : Things Saved). AllByRecursion HasValues t.queue.actions) things
 
--- objects of a world, with their variables in its area, as parts
-pub record AreObjectsOf (objects : List AreaObject) (things : List (Things Saved)) (parts : List Object) : Type 0 where
+-- parts tell the objects of a world, with their variables in its area, and have short texts
+pub record TellObjects (objects : List AreaObject) (things : List (Things Saved)) (parts : List Object) : Type 0 where
   pub kept : map things_of parts ≡ things
   pub variables : map variables_of parts ≡ map (λ (o : AreaObject). o.vars) objects
-  pub form : AllByRecursion IsObject parts
   pub short : IsTrue (list_all has_short_items parts)
+
+-- and can be written
+pub record AreObjectsOf (objects : List AreaObject) (things : List (Things Saved)) (parts : List Object) : Type 0 where
+  pub told : TellObjects objects things parts
+  pub form : AllByRecursion IsObject parts
 
 -- parts that tell a world, but for the tree of its area
 pub record Tells (s : Parts) (w : World Saved) : Type 0 where
@@ -74,4 +78,4 @@ pub record Tells (s : Parts) (w : World Saved) : Type 0 where
   pub next : s.next ≡ w.agenda.next
   pub entries : entries_of s ≡ w.agenda.entries
   pub short : IsTrue (list_all is_short_entry s.agenda)
-  pub objects : AreObjectsOf w.area.objects w.things s.objects
+  pub objects : TellObjects w.area.objects w.things s.objects

@@ -1,110 +1,31 @@
--- Worlds whose values have room in the fields of a state, and that there is a state of each.
+-- That there is a state of each play that rests in a world whose values have room in one.
 use Rattle.std.specs.Prelude.{◌≡◌, ◌<◌, ◌≤◌, ◌⊎◌, ℕ, List, map, length, Option, IsTrue}
 use Rattle.std.specs.List.{AllByRecursion, IsDistinct}
 use Rattle.std.specs.Str.{bytes_eq}
 use Rattle.nwq_value.specs.Engine.{EngineTable}
-use Rattle.nwq_value.specs.Effect.{Effect}
-use Rattle.nwq_value.specs.Limits.{text_limit, script_limit, random_limit}
-use Rattle.nwq_value.specs.declared.value.Value.{Value}
-use Rattle.nwq_value.specs.declared.value.Value.TheVariants as value
+use Rattle.nwq_value.specs.Limits.{file_limit, script_limit, random_limit}
 use Rattle.nwq_text.specs.Names.{is_script_name}
 use Rattle.ncs_code.specs.Plain.{PlainOp}
 use Rattle.ncs_code.specs.File.{IsCode, file_bytes}
 use Rattle.plan_text.specs.Plans.{Limits}
-use Rattle.saved_state.specs.declared.cell.Cell.{Cell}
-use Rattle.saved_state.specs.declared.cell.Cell.TheVariants.{Value as Holds, Base}
 use Rattle.saved_state.specs.declared.saved.Saved.{Saved}
-use Rattle.local_variables.specs.Variables.{Variable, IntVar, TextVar}
-use Rattle.area_rules.specs.Objects.{AreaObject, objects_of}
+use Rattle.area_rules.specs.Objects.{objects_of}
 use Rattle.area_rules.specs.Area.{PlainArea, HaveDistinct, bare}
-use Rattle.action_queue.specs.declared.queue.Item.{Item}
-use Rattle.action_queue.specs.declared.queue.Item.TheVariants.{Do, Wait, Speak}
 use Rattle.delay_agenda.specs.declared.entry.Entry.{Entry}
-use Rattle.delay_agenda.specs.declared.entry.Kind.{Kind}
-use Rattle.delay_agenda.specs.declared.entry.Kind.TheVariants.{Event, Stored, Turn, Unapply}
 use Rattle.machine_rules.specs.Machine.{Script}
 use Rattle.stack_rules.specs.Fits.{Tables}
 use Rattle.stack_rules.specs.Laws.{AllMeet}
 use Rattle.stack_rules.specs.Rules.{WellStacked}
 use Rattle.ncs_machine.specs.Stored.{StatesFit}
-use Rattle.world_rules.specs.declared.data.Stood.{Stood}
-use Rattle.world_rules.specs.declared.data.Things.{Things}
 use Rattle.world_rules.specs.World.{World}
 use Rattle.world_rules.specs.Settled.{IsBetween}
 use Rattle.state_format.specs.declared.parts.Script.{Script as ScriptPart}
 use Rattle.state_format.specs.declared.parts.Parts.{Parts}
-use Rattle.state_format.specs.Parts.{AreStateBytes, IsBlob, IsList, IsMaybe, IsNumber, IsSigned, HasForm}
+use Rattle.state_format.specs.Parts.{AreStateBytes, IsBlob, IsMaybe, HasForm}
+use Rattle.state_format.specs.Fields.{parts_bytes}
+use Rattle.play_room.specs.Room.{HasRoom}
 use Rattle.play_save.specs.Rules.{IsHeaderOf, IsAreaOf, IsAccepted, count_limit}
 use Rattle.play_save.specs.States.{resting, MayLimit, MayCount, IsPlayOf, HasCome, IsWorldOf}
-
--- ---- values
-
--- bytes of a string
-abbrev pub IsText : List ℕ → Type 0
-IsText text = (length text ≤ text_limit) × AreStateBytes text
-
-abbrev pub EffectHasRoom : Effect → Type 0
-EffectHasRoom e = IsNumber 2 e.routine × IsList IsSigned e.ints
-
-abbrev pub ValueHasRoom : Value → Type 0
-ValueHasRoom (value.Int n) = IsSigned n
-ValueHasRoom (value.Text text) = IsText text
-ValueHasRoom (value.Object o) = IsNumber 4 o
-ValueHasRoom (value.Effect e) = EffectHasRoom e
-ValueHasRoom (value.Event n) = IsSigned n
-
--- a base has no field
-abbrev pub CellHasRoom : Cell → Type 0
-CellHasRoom (Holds v) = ValueHasRoom v
-CellHasRoom (Base bp) = ⊥
-
-pub record SavedHasRoom (s : Saved) : Type 0 where
-  pub script : IsNumber 4 s.script
-  pub place : IsNumber 4 s.place
-  pub globals : IsList CellHasRoom s.globals
-  pub locals : IsList CellHasRoom s.locals
-
--- ---- objects
-
-abbrev pub VariableHasRoom : Variable → Type 0
-VariableHasRoom (IntVar name n) = IsBlob name × IsSigned n
-VariableHasRoom (TextVar name text) = IsBlob name × IsBlob text
-
-abbrev pub StoodHasRoom : Stood → Type 0
-StoodHasRoom s = IsMaybe (IsNumber 8) s.number × EffectHasRoom s.effect
-
-abbrev pub ItemHasRoom : Item Saved → Type 0
-ItemHasRoom (Do s) = SavedHasRoom s
-ItemHasRoom (Wait ms) = IsSigned ms
-ItemHasRoom (Speak text) = IsText text
-
-pub record ThingsHaveRoom (t : Things Saved) : Type 0 where
-  pub effects : IsList StoodHasRoom t.effects
-  pub items : IsList ItemHasRoom t.queue.actions
-
-abbrev pub ObjectHasRoom : AreaObject → Type 0
-ObjectHasRoom o = IsList VariableHasRoom o.vars
-
--- ---- the agenda
-
-abbrev pub KindHasRoom : Kind Saved → Type 0
-KindHasRoom (Event o script user) = IsText script × IsSigned user
-KindHasRoom (Stored o s) = SavedHasRoom s
-KindHasRoom (Turn o) = Unit {0}
-KindHasRoom (Unapply o) = Unit {0}
-
-abbrev pub EntryHasRoom : Entry Saved → Type 0
-EntryHasRoom e = KindHasRoom e.kind
-
--- ---- the whole
-
--- every number, text and list of the world has a field of a state that holds it
-pub record HasRoom (w : World Saved) : Type 0 where
-  pub random : AllByRecursion (IsNumber 4) w.random
-  pub objects : IsNumber 4 (length w.area.objects)
-  pub variables : AllByRecursion ObjectHasRoom w.area.objects
-  pub things : AllByRecursion ThingsHaveRoom w.things
-  pub agenda : IsList EntryHasRoom w.agenda.entries
 
 -- ---- files of bytecode
 
@@ -149,10 +70,10 @@ pub record Rests (table : EngineTable) (scripts : List Script) (area : List ℕ)
   -- whatever tables of shapes meet the rules, each captured state fits them
   pub fit : (tables : Tables) → AllMeet table scripts tables → StatesFit scripts tables w
 
--- a state of a play
+-- A state of a play. It can be written where it is no larger than a file may be.
 pub record StateOfPlay (header : Option (List ℕ)) (scripts : List Script) (area : List ℕ) (limits : Limits) (taken done : ℕ) (w : World Saved) : Type 0 where
   pub state : Parts
-  pub form : HasForm state
+  pub form : length (parts_bytes state) ≤ file_limit → HasForm state
   pub accepted : IsAccepted state
   pub play : IsPlayOf state header (map listed_part scripts) area limits
   pub come : HasCome state taken done

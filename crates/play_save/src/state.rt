@@ -76,7 +76,8 @@ pub struct Opened {
 impl State {
     /// The state of a play that isn't inside an entry. `header` is nothing for the built-in one,
     /// and `area` the bytes of the area's file as they were first read. What was handed over is
-    /// dropped where memory runs out.
+    /// dropped where memory runs out. So it is answered too where a list has more than
+    /// 4,294,967,295 members, which no field counts.
     pub fn of(
         alloc: Global,
         header: Option<Vec<u8>>,

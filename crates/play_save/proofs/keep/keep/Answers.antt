@@ -40,7 +40,7 @@ returns c =
         next = c.long-next.ensures.same ∙ c.next_number-number.ensures.next;
         entries = c.in_ok-entries.ensures.parts.same;
         short = c.in_ok-entries.ensures.parts.short;
-        objects = objects;
+        objects = objects.told;
       };
       code = c.in_ok-scripts.ensures.code;
     }
