@@ -21,6 +21,7 @@ use Rattle.ncs_machine.specs.Host.{EngineView, host, no_table}
 use Rattle.ncs_machine.specs.Leading.{RunsLead}
 use Rattle.ncs_machine.specs.Stored.{EngineKeepsFits, LinesKeepFits, BeginKeepsFits, TurnKeepsFits, TurnDoneKeepsFits, UnapplyKeepsFits}
 use Rattle.module_player.specs.CodePlays.{code_runner, played_before}
+use Rattle.play_room.specs.Laws.{KeptHasRoom, PlaysKeepValues}
 use Rattle.play_save.specs.Rules.{IsAreaOf, count_limit}
 use Rattle.play_save.specs.Written.{PlaysHaveStates}
 use Rattle.play_states.specs.Resting.{play_from, PlaysRest, PlaysComeToStates}
@@ -91,8 +92,10 @@ module _ (settle : PlaysSettle Saved) (lead : RunsLead) (puts : PutKeepsDistinct
         record { entries = h.entries counted.entries; clock = h.plan.clock counted.clock; instructions = few.instructions },
       )
 
-  pub plays_come_to_states : PlaysHaveStates → PlaysComeToStates
-  plays_come_to_states have cell header scripts listed area limits stop taken done w table rests limited counted whole few room =
+  pub plays_come_to_states : PlaysKeepValues → KeptHasRoom → PlaysHaveStates → PlaysComeToStates
+  plays_come_to_states keep rooms have cell header scripts listed area limits stop taken done w cells table rests values limited counted whole few =
       let end = plays_rest cell header scripts listed area limits stop taken done w table rests limited counted whole few in
+      let kept = keep cell listed.table scripts limits.0 limits.1 limits.2 stop taken done w cells table listed.code listed.few values in
       have header scripts area limits (play_from cell listed.table scripts limits stop taken done w).last.entries (play_from cell listed.table scripts limits stop taken done w).last.count
-      (play_from cell listed.table scripts limits stop taken done w).last.world listed end.0 limited end.1 room
+      (play_from cell listed.table scripts limits stop taken done w).last.world listed end.0 limited end.1
+      (rooms (play_from cell listed.table scripts limits stop taken done w).last.world kept (let posts = end.0.next in omega (arith, posts)))

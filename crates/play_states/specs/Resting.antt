@@ -14,9 +14,10 @@ use Rattle.world_rules.specs.World.{World}
 use Rattle.world_rules.specs.Plays.{Progress, Played, StoppedInside}
 use Rattle.ncs_machine.specs.Host.{host}
 use Rattle.module_player.specs.CodePlays.{code_play_on}
+use Rattle.play_room.specs.Kept.{CellsAreBytes, WorldIsKept}
 use Rattle.play_save.specs.Rules.{IsAreaOf, count_limit}
 use Rattle.play_save.specs.States.{MayLimit, MayCount}
-use Rattle.play_save.specs.Written.{HasRoom, AreListed, Rests, StateOfPlay}
+use Rattle.play_save.specs.Written.{AreListed, Rests, StateOfPlay}
 
 -- the play of listed scripts that goes on from a world, after so many entries and instructions, and
 -- is broken off once `stop` entries were taken in all
@@ -45,14 +46,13 @@ PlaysRest =
     × MayCount limits (play_from cell listed.table scripts limits stop taken done w).last.world (play_from cell listed.table scripts limits stop taken done w).last.entries
     (play_from cell listed.table scripts limits stop taken done w).last.count
 
--- So there is a state of it, where its world has room in one.
+-- So there is a state of it, where the values of the world that it goes on from are kept.
 abbrev pub PlaysComeToStates : Type 0
 PlaysComeToStates =
     (cell : CellLookup) (header : Option (List ℕ)) (scripts : List Script) (listed : AreListed header scripts) (area : List ℕ) (limits : Limits) (stop taken done : ℕ) (w : World Saved)
-    → IsTable listed.table → Rests listed.table scripts area w → MayLimit limits → MayCount limits w taken done
+    → CellsAreBytes cell → IsTable listed.table → Rests listed.table scripts area w → WorldIsKept w → MayLimit limits → MayCount limits w taken done
     → (play_from cell listed.table scripts limits stop taken done w).ending ≢ StoppedInside
     → MayCountOn (play_from cell listed.table scripts limits stop taken done w).last
-    → HasRoom (play_from cell listed.table scripts limits stop taken done w).last.world
     → StateOfPlay header scripts area limits (play_from cell listed.table scripts limits stop taken done w).last.entries
     (play_from cell listed.table scripts limits stop taken done w).last.count (play_from cell listed.table scripts limits stop taken done w).last.world
 
@@ -63,12 +63,12 @@ PlaysCountFew = (cell : CellLookup) (table : EngineTable) (scripts : List Script
     → ((play_from cell table scripts limits stop taken done w).last.count ≤ done + (stop - taken) * limits.0)
     × ((play_from cell table scripts limits stop taken done w).last.world.agenda.next ≤ w.agenda.next + (stop - taken) * (limits.0 + 2))
 
--- Of the first entries of a plan, over the area of a tree, there is a state, unless they are stopped
--- inside one, and where their world has room in one.
+-- Of the first entries of a plan, over the area of a tree, there is a state, unless they are
+-- stopped inside one.
 abbrev pub FirstEntriesHaveStates : Type 0
 FirstEntriesHaveStates =
     (cell : CellLookup) (header : Option (List ℕ)) (scripts : List Script) (listed : AreListed header scripts) (bytes : List ℕ) (tree : PlainGff) (plan : Plan) (n : ℕ)
-    → IsTable listed.table → IsPlan plan → IsAreaOf tree bytes → IsBlob bytes
-    → (first_played cell listed.table scripts plan n tree).ending ≢ StoppedInside → HasRoom (first_played cell listed.table scripts plan n tree).last.world
+    → CellsAreBytes cell → IsTable listed.table → IsPlan plan → IsAreaOf tree bytes → IsBlob bytes
+    → (first_played cell listed.table scripts plan n tree).ending ≢ StoppedInside
     → StateOfPlay header scripts bytes (limits_of plan) (first_played cell listed.table scripts plan n tree).last.entries
     (first_played cell listed.table scripts plan n tree).last.count (first_played cell listed.table scripts plan n tree).last.world
