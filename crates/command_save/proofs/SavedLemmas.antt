@@ -127,7 +127,7 @@ module _ (laws : OneLaws) (cell : CellLookup) (header : HeaderFile) (file : List
       → length (parts_bytes s) ≤ file_limit → (IsCut r → ⊥) → Does (resumes cell name to) c t r c' t' → Does (tells to scripts played_on) c t r c' t'
   unfolding resumes
   resumed name to c c' t t' r held small uncut does =
-      let of : StateOf (parts_bytes s) s = record { form = is.form; is = refl } in
+      let of : StateOf (parts_bytes s) s = record { form = is.form small; is = refl } in
       rest_told to c c' t t' r uncut
       (then_known (state_named name) (resumes_state cell to) (sure_state laws name) s c c c' t t t' r uncut
       (state_does name s c t held small (whole s of is.accepted)) does)

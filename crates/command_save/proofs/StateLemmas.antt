@@ -53,7 +53,7 @@ pub state_at : (header : HeaderFile) (text : Option (List ℕ)) (file area : Lis
     → IsWorldOf s (resting w) → AllByRecursion (λ (l : Loaded). IsCode l.code.code) scripts → HasForm s → IsAccepted s
     → (p : Progress Saved) → IsProgress answer w p → IsStateAt header file plan (scripts_of scripts) p s
 state_at header text file area plan scripts w answer s same_text same_area play come world code form accepted p is = record {
-  form = form;
+  form = λ small. form;
   accepted = accepted;
   play = record {
     header = play.header ∙ same_text;

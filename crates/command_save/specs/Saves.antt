@@ -1,5 +1,5 @@
 -- A play that is broken off after some entries, and what is saved of it.
-use Rattle.std.specs.Prelude.{ℕ, Bool, true, false, nat_lt, List, map, length, ◌++◌, codes, decimal}
+use Rattle.std.specs.Prelude.{◌≤◌, ℕ, Bool, true, false, nat_lt, List, map, length, ◌++◌, codes, decimal}
 use Rattle.std.specs.List.{AllByRecursion}
 use Rattle.nwq_value.specs.Limits.{file_limit}
 use Rattle.nwq_outside.specs.Outside.{Contents}
@@ -41,9 +41,10 @@ file_of script = record { name = script.name; code = file_bytes script.code }
 abbrev pub AreSpelled : List Script → Type 0
 AreSpelled scripts = AllByRecursion (λ (script : Script). IsCode script.code) scripts
 
--- A play of a plan can go on from the state as it stands here, between two entries.
+-- A play of a plan can go on from the state as it stands here, between two entries. The state can
+-- be written where it is no larger than a file may be.
 pub record IsStateAt (header : HeaderFile) (file : List ℕ) (plan : Plan) (scripts : List Script) (p : Progress Saved) (s : Parts) : Type 0 where
-  pub form : HasForm s
+  pub form : length (parts_bytes s) ≤ file_limit → HasForm s
   pub accepted : IsAccepted s
   pub play : IsPlayOf s header.text (map file_of scripts) file (limits_of plan)
   pub spelled : AreSpelled scripts
