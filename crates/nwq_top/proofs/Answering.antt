@@ -13,20 +13,22 @@ use Rattle.typing_rules.specs.Laws.{VerdictsAreRight, NoneKeptIsTyped}
 use Rattle.ncs_code.specs.Laws.{SizeLaws, PlaceLaws}
 use Rattle.generator_laws.specs.Scripts.{SourcesCompile}
 use Rattle.plan_text.specs.Plans.{PlansKeep}
+use Rattle.play_room.specs.Kept.{CellsAreBytes}
 use Rattle.play_save.specs.Written.{CodeIsBytes}
 use Rattle.play_states.specs.Resting.{FirstEntriesHaveStates}
 use Rattle.play_generator.specs.Made.{number_limit}
 use Rattle.world_rules.specs.Pure.{CellLookup}
-use Rattle.table_2da.specs.declared.tables.Named.{Named}
 use Rattle.table_2da.specs.Look.{cell_of}
 use Rattle.command_tables.specs.Tables.{tables_given}
 use Rattle.command_meaning.specs.Units.{UnitsPass}
 use Rattle.command_meaning.specs.Scripts.{ScriptsHaveUnits}
 use Rattle.command_words.specs.Words.{Form, Run, Compile, Tree, Check, Disassemble, Assemble, Play, Generate, Save, Resume, NoForm, is_option, run_form, compile_form, generate_form, save_form, command_form, form_of, list_of}
 use Rattle.nwq_top.specs.Command.{work_of, work_with, whole_work}
-use Rattle.nwq_top.specs.Answers.{CanSave, EachHasOutcome, EachWholeHasOutcome, IsPlainForm, PlainHaveOutcomes}
+use Rattle.nwq_top.specs.Answers.{EachHasOutcome, EachWholeHasOutcome, IsPlainForm, PlainHaveOutcomes}
 use Rattle.nwq_top.proofs.Undeniable.{Undeniable, surely}
-use Rattle.nwq_top.proofs.Going.{Goes, Anything, goes_both, has_outcome}
+use Rattle.nwq_top.proofs.Going.{Goes, Anything, Still, goes_both, has_outcome}
+use Rattle.nwq_top.proofs.TreeFates.{TreeLaws}
+use Rattle.nwq_top.proofs.TableCells.{HaveByteCells, cells_are_bytes}
 use Rattle.nwq_top.proofs.GoesSources.{run_goes, compile_goes, generate_goes}
 use Rattle.nwq_top.proofs.GoesFiles.{files_of_bytes, shows_tree_goes, disassemble_goes, check_goes, assemble_goes}
 use Rattle.nwq_top.proofs.GoesPlays.{play_goes, resume_goes}
@@ -84,12 +86,12 @@ numbered words = one_of (list_any is_option words) NoForm (command_form words) t
 -- ---- the forms
 
 module _ (header : OneHeader) (some : SomeSplit) (trees : TreeOrPlace) (right : VerdictsAreRight) (settled : NoneKeptIsTyped) (pass : UnitsPass) (have : ScriptsHaveUnits)
-    (reads : HeadersHaveTables) (own : BuiltInIsTable) (made : SourcesCompile) (sizes : SizeLaws) (places : PlaceLaws) (code : CodeIsBytes)
-    (states : FirstEntriesHaveStates) (plans : PlansKeep) where
+    (reads : HeadersHaveTables) (own : BuiltInIsTable) (made : SourcesCompile) (sizes : SizeLaws) (places : PlaceLaws) (laws : TreeLaws)
+    (code : CodeIsBytes) (states : FirstEntriesHaveStates) (plans : PlansKeep) where
   plain_goes : (cell : CellLookup) (form : Form) → IsNumbered form → IsPlainForm form → (c : Contents) → ContentsAreBytes c → Goes (work_of cell form) c Anything
   plain_goes cell (Run word script) small plain c held = run_goes header some trees right settled pass have reads own cell word script c held
   plain_goes cell (Compile word script) small plain c held = compile_goes header some trees right settled pass have reads own word script c
-  plain_goes cell (Tree file) small plain c held = shows_tree_goes file c
+  plain_goes cell (Tree file) small plain c held = shows_tree_goes laws file c
   plain_goes cell (Check word file) small plain c held = absurd plain
   plain_goes cell (Disassemble file to) small plain c held = disassemble_goes sizes places file to c (files_of_bytes c held)
   plain_goes cell (Assemble file to) small plain c held = absurd plain
@@ -103,32 +105,32 @@ module _ (header : OneHeader) (some : SomeSplit) (trees : TreeOrPlace) (right : 
   plain_have_outcomes cell words c t held plain =
       has_outcome (work_of cell (form_of words)) c t Anything (plain_goes cell (form_of words) (numbered words) plain c held)
 
-  form_goes : (cell : CellLookup) (form : Form) → IsNumbered form → (c : Contents) → CanSave cell c form → ContentsAreBytes c → Undeniable (Goes (work_of cell form) c Anything)
-  form_goes cell (Run word script) small c can held = surely (plain_goes cell (Run word script) tt tt c held)
-  form_goes cell (Compile word script) small c can held = surely (plain_goes cell (Compile word script) tt tt c held)
-  form_goes cell (Tree file) small c can held = surely (shows_tree_goes file c)
-  form_goes cell (Check word file) small c can held = check_goes sizes places header word file c (files_of_bytes c held)
-  form_goes cell (Disassemble file to) small c can held = surely (plain_goes cell (Disassemble file to) tt tt c held)
-  form_goes cell (Assemble file to) small c can held = assemble_goes sizes places file to c
-  form_goes cell (Play word area plan to list) small c can held =
-      play_goes header some trees right settled pass have reads own sizes places cell word area to c held plan
-  form_goes cell (Generate number) small c can held = surely (plain_goes cell (Generate number) small tt c held)
-  form_goes cell (Save word area plan entries state list) small c can held =
-      save_goes header some trees right settled pass have reads own sizes places code states plans cell word area plan entries state c held can
-  form_goes cell (Resume state to list) small c can held = resume_goes cell state to c
-  form_goes cell NoForm small c can held = surely tt
+  form_goes : (cell : CellLookup) → CellsAreBytes cell → (form : Form) → IsNumbered form → (c : Contents) → ContentsAreBytes c → Undeniable (Goes (work_of cell form) c Anything)
+  form_goes cell cells (Run word script) small c held = surely (plain_goes cell (Run word script) tt tt c held)
+  form_goes cell cells (Compile word script) small c held = surely (plain_goes cell (Compile word script) tt tt c held)
+  form_goes cell cells (Tree file) small c held = surely (shows_tree_goes laws file c)
+  form_goes cell cells (Check word file) small c held = check_goes sizes places header word file c (files_of_bytes c held)
+  form_goes cell cells (Disassemble file to) small c held = surely (plain_goes cell (Disassemble file to) tt tt c held)
+  form_goes cell cells (Assemble file to) small c held = assemble_goes sizes places file to c
+  form_goes cell cells (Play word area plan to list) small c held =
+      play_goes header some trees right settled pass have reads own sizes places laws cell word area to c held plan
+  form_goes cell cells (Generate number) small c held = surely (plain_goes cell (Generate number) small tt c held)
+  form_goes cell cells (Save word area plan entries state list) small c held =
+      save_goes header some trees right settled pass have reads own sizes places laws code states plans cell cells word area plan entries state c held
+  form_goes cell cells (Resume state to list) small c held = resume_goes cell state to c
+  form_goes cell cells NoForm small c held = surely tt
 
   pub each_has_outcome : EachHasOutcome
-  each_has_outcome cell words c t held can none =
-      form_goes cell (form_of words) (numbered words) c can held (λ g. none (has_outcome (work_of cell (form_of words)) c t Anything g))
+  each_has_outcome cell words c t cells held none =
+      form_goes cell cells (form_of words) (numbered words) c held (λ g. none (has_outcome (work_of cell (form_of words)) c t Anything g))
 
-  whole_goes : (form : Form) → IsNumbered form → (c : Contents) → ((tables : List Named) → CanSave (cell_of tables) c form) → ContentsAreBytes c
-      → Undeniable (Goes (whole_work form) c Anything)
+  whole_goes : (form : Form) → IsNumbered form → (c : Contents) → ContentsAreBytes c → Undeniable (Goes (whole_work form) c Anything)
   unfolding whole_work
-  whole_goes form small c can held =
-      goes_both (tables_given (list_of form)) (work_with form) c (λ tables d. d ≡ c) Anything (given_go (list_of form) c)
-      (λ tables d same. subst (λ x. Undeniable (Goes (work_with form tables) x Anything)) (sym same) (form_goes (cell_of tables) form small c (can tables) held))
+  whole_goes form small c held =
+      goes_both (tables_given (list_of form)) (work_with form) c (Still c HaveByteCells) Anything (given_go c held (list_of form))
+      (λ tables d is.
+      subst (λ x. Undeniable (Goes (work_with form tables) x Anything)) (sym is.0) (form_goes (cell_of tables) (cells_are_bytes tables is.1) form small c held))
 
   pub each_whole_has_outcome : EachWholeHasOutcome
-  each_whole_has_outcome words c t held can none =
-      whole_goes (form_of words) (numbered words) c can held (λ g. none (has_outcome (whole_work (form_of words)) c t Anything g))
+  each_whole_has_outcome words c t held none =
+      whole_goes (form_of words) (numbered words) c held (λ g. none (has_outcome (whole_work (form_of words)) c t Anything g))

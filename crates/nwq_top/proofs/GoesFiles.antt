@@ -47,7 +47,7 @@ use Rattle.nwq_top.proofs.Going.{Goes, Anything, Still, goes_weaker, goes_next, 
 use Rattle.nwq_top.proofs.CodeFates.{CodeComes, code, broken, code_comes}
 use Rattle.nwq_top.proofs.AssemblyFates.{AssemblyComes, assembly_comes}
 use Rattle.nwq_top.proofs.AssemblyFates as texts
-use Rattle.nwq_top.proofs.TreeFates.{IsNamed, tree_named as walk_named, read_stands, unread_stands_not}
+use Rattle.nwq_top.proofs.TreeFates.{IsNamed, TreeLaws, tree_named as walk_named, unread_stands_not}
 use Rattle.nwq_top.proofs.GoesSources.{table_goes}
 
 -- ---- trees
@@ -60,40 +60,41 @@ tree_flawed (fault.Deep at) h = (area_flaw.Deep at, refl)
 tree_flawed (fault.Label field) h = (area_flaw.Label field, refl)
 tree_flawed fault.NoMemory h = absurd h
 
-module _ (bytes : List ℕ) where
-  abbrev TreeFated : Type 0
-  TreeFated = (fate : TreeFate) × IsTreeFate bytes fate
+module _ (laws : TreeLaws) where
+  module _ (bytes : List ℕ) where
+    abbrev TreeFated : Type 0
+    TreeFated = (fate : TreeFate) × IsTreeFate bytes fate
 
-  walked_fated : open_fault bytes ≡ None → (r : Result PlainGff TreeFault) → walk.tree_of bytes ≡ r → IsNamed r → TreeFated
-  walked_fated clear (Ok tree) e named = (trees.Whole tree, trees.whole tree (read_stands bytes tree clear e))
-  walked_fated clear (Err fails) e named =
-      let flaw = tree_flawed fails named in
-      (trees.Faulty flaw.0, trees.broken flaw.0 (record { opens = clear; none = unread_stands_not bytes fails e; fails = fails; first = e; is = flaw.1 }))
+    walked_fated : open_fault bytes ≡ None → (r : Result PlainGff TreeFault) → walk.tree_of bytes ≡ r → IsNamed r → TreeFated
+    walked_fated clear (Ok tree) e named = (trees.Whole tree, trees.whole tree (laws.stand bytes tree clear e))
+    walked_fated clear (Err fails) e named =
+        let flaw = tree_flawed fails named in
+        (trees.Faulty flaw.0, trees.broken flaw.0 (record { opens = clear; none = unread_stands_not laws.read bytes fails e; fails = fails; first = e; is = flaw.1 }))
 
-  opened_fated : (o : Option OpenFault) → open_fault bytes ≡ o → TreeFated
-  opened_fated None e = walked_fated e (walk.tree_of bytes) refl (walk_named bytes)
-  opened_fated (Some fails) e = (trees.Faulty (open_flaw fails), trees.unopened fails e)
+    opened_fated : (o : Option OpenFault) → open_fault bytes ≡ o → TreeFated
+    opened_fated None e = walked_fated e (walk.tree_of bytes) refl (walk_named bytes)
+    opened_fated (Some fails) e = (trees.Faulty (open_flaw fails), trees.unopened fails e)
 
-  pub tree_fated : TreeFated
-  tree_fated = opened_fated (open_fault bytes) refl
+    pub tree_fated : TreeFated
+    tree_fated = opened_fated (open_fault bytes) refl
 
-tree_in_goes : (name bytes : List ℕ) (c : Contents) → Goes (tree_in name bytes) c (Still c (Stands bytes))
-unfolding tree_in
-tree_in_goes name bytes c = let f = tree_fated bytes in (f.0, f.1, by_fate f.0 f.1)
-  where
-    by_fate : (fate : TreeFate) → IsTreeFate bytes fate → Goes (tree_by name fate) c (Still c (Stands bytes))
-    by_fate (trees.Whole tree) (trees.whole _ stands) = (refl, stands)
-    by_fate (trees.Faulty why) h = tt
+  tree_in_goes : (name bytes : List ℕ) (c : Contents) → Goes (tree_in name bytes) c (Still c (Stands bytes))
+  unfolding tree_in
+  tree_in_goes name bytes c = let f = tree_fated bytes in (f.0, f.1, by_fate f.0 f.1)
+    where
+      by_fate : (fate : TreeFate) → IsTreeFate bytes fate → Goes (tree_by name fate) c (Still c (Stands bytes))
+      by_fate (trees.Whole tree) (trees.whole _ stands) = (refl, stands)
+      by_fate (trees.Faulty why) h = tt
 
-pub tree_goes : (name : List ℕ) (c : Contents) → Goes (tree_named name) c (λ tree d. d ≡ c)
-unfolding tree_named
-tree_goes name c =
-    goes_next (file_named name) (tree_in name) c (Still c (IsRead c name)) (λ tree d. d ≡ c) (file_goes name c)
-    (λ bytes d is. goes_weaker (tree_in name bytes) d (Still d (Stands bytes)) (λ tree e. e ≡ c) (tree_in_goes name bytes d) (λ tree e k. k.0 ∙ is.0))
+  pub tree_goes : (name : List ℕ) (c : Contents) → Goes (tree_named name) c (λ tree d. d ≡ c)
+  unfolding tree_named
+  tree_goes name c =
+      goes_next (file_named name) (tree_in name) c (Still c (IsRead c name)) (λ tree d. d ≡ c) (file_goes name c)
+      (λ bytes d is. goes_weaker (tree_in name bytes) d (Still d (Stands bytes)) (λ tree e. e ≡ c) (tree_in_goes name bytes d) (λ tree e k. k.0 ∙ is.0))
 
-pub shows_tree_goes : (name : List ℕ) (c : Contents) → Goes (shows_tree name) c Anything
-unfolding shows_tree puts
-shows_tree_goes name c = goes_next (tree_named name) puts_tree c (λ tree d. d ≡ c) Anything (tree_goes name c) (λ tree d is. tt)
+  pub shows_tree_goes : (name : List ℕ) (c : Contents) → Goes (shows_tree name) c Anything
+  unfolding shows_tree puts
+  shows_tree_goes name c = goes_next (tree_named name) puts_tree c (λ tree d. d ≡ c) Anything (tree_goes name c) (λ tree d is. tt)
 
 -- ---- bytecode
 

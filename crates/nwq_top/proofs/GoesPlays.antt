@@ -60,6 +60,7 @@ use Rattle.nwq_top.proofs.Undeniable.{Undeniable, surely, with_it}
 use Rattle.nwq_top.proofs.Going.{Goes, Anything, Still, goes_weaker, goes_next, goes_both, file_goes}
 use Rattle.nwq_top.proofs.PlanFates.{plan_comes}
 use Rattle.nwq_top.proofs.StateFates.{state_comes, goes_from}
+use Rattle.nwq_top.proofs.TreeFates.{TreeLaws}
 use Rattle.nwq_top.proofs.GoesSources.{table_goes, compiled_goes, loaded_goes, made_passes}
 use Rattle.nwq_top.proofs.GoesFiles.{IsSomeFile, is_code, AreFiles, files_of_bytes, tree_goes, binary_goes}
 
@@ -90,9 +91,9 @@ area_in_goes name tree d = by_places (broken_places tree.top) refl
     by_places [] e = (areas.Whole, areas.whole e, tt)
     by_places (place ∷ others) e = (areas.Broken place, areas.broken place others e, tt)
 
-area_goes : (name : List ℕ) (c : Contents) → Goes (area_named name) c Anything
+area_goes : TreeLaws → (name : List ℕ) (c : Contents) → Goes (area_named name) c Anything
 unfolding area_named
-area_goes name c = goes_next (tree_named name) (area_in name) c (λ tree d. d ≡ c) Anything (tree_goes name c) (λ tree d is. area_in_goes name tree d)
+area_goes laws name c = goes_next (tree_named name) (area_in name) c (λ tree d. d ≡ c) Anything (tree_goes laws name c) (λ tree d is. area_in_goes name tree d)
 
 -- ---- what is told and written last
 
@@ -221,11 +222,11 @@ module _ (header : OneHeader) (some : SomeSplit) (trees : TreeOrPlace) (right : 
 
   -- ---- the plays
 
-  module _ (cell : CellLookup) (word area to : List ℕ) (c : Contents) (held : ContentsAreBytes c) where
+  module _ (laws : TreeLaws) (cell : CellLookup) (word area to : List ℕ) (c : Contents) (held : ContentsAreBytes c) where
     area_plays : (table : EngineTable) (plan : Plan) (scripts : List Script) (d : Contents) → Goes (plays_area cell table area plan to scripts) d Anything
     unfolding plays_area plays_plan
     area_plays table plan scripts d =
-        goes_next (area_named area) (λ a. plays_plan cell table a plan scripts to) d Anything Anything (area_goes area d) (λ a e is. tells_goes to scripts _ e)
+        goes_next (area_named area) (λ a. plays_plan cell table a plan scripts to) d Anything Anything (area_goes laws area d) (λ a e is. tells_goes to scripts _ e)
 
     scripts_play : (plan : Plan) (table : EngineTable) (d : Contents) → Still c (HasHeader c word) table d → Undeniable (Goes (plays_scripts cell area plan to table) d Anything)
     unfolding plays_scripts

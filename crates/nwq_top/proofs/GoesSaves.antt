@@ -1,5 +1,4 @@
--- The command `save`: where the play's world has room in a state, it can't be that it comes to no
--- end.
+-- The command `save`: where cells of tables are bytes, it can't be that it comes to no end.
 use Rattle.std.proofs.Common.{◌≡◌, ◌≢◌, ℕ, nat_lt, Bool, true, false, List, [], ◌∷◌, length, codes, bytes_eq, refl, sym, subst}
 use Rattle.nwq_value.specs.Limits.{file_limit}
 use Rattle.nwq_value.specs.Engine.{IsTable}
@@ -15,6 +14,7 @@ use Rattle.typing_rules.specs.Laws.{VerdictsAreRight, NoneKeptIsTyped}
 use Rattle.ncs_code.specs.Laws.{SizeLaws, PlaceLaws}
 use Rattle.plan_text.specs.declared.plan.Plan.{Plan}
 use Rattle.plan_text.specs.Plans.{PlansKeep}
+use Rattle.play_room.specs.Kept.{CellsAreBytes}
 use Rattle.play_save.specs.Written.{CodeIsBytes}
 use Rattle.play_states.specs.Resting.{FirstEntriesHaveStates}
 use Rattle.machine_rules.specs.Machine.{Script}
@@ -45,12 +45,12 @@ use Rattle.command_meaning.specs.Scripts.{ScriptsHaveUnits}
 use Rattle.nwq_top.specs.Accepting.{HasScripts, ReadsPlan}
 use Rattle.nwq_top.specs.Saves as saving
 use Rattle.nwq_top.specs.Saves.{HasHeaderFile, HasAreaFile, AcceptsSave}
-use Rattle.nwq_top.specs.Answers.{SavedHasRoom}
 use Rattle.nwq_top.proofs.SaveStates.{state_there}
 use Rattle.nwq_top.proofs.Headers.{header_of_file, is_table}
 use Rattle.nwq_top.proofs.Undeniable.{Undeniable, surely, with_it}
 use Rattle.nwq_top.proofs.Going.{Goes, Anything, Still, goes_next, goes_both, file_goes}
 use Rattle.nwq_top.proofs.GoesSources.{header_fated}
+use Rattle.nwq_top.proofs.TreeFates.{TreeLaws}
 use Rattle.nwq_top.proofs.GoesFiles.{tree_fated}
 use Rattle.nwq_top.proofs.GoesPlays.{plan_goes, listed_goes, fine_bytes}
 
@@ -83,7 +83,7 @@ module _ (header : OneHeader) (word : List ℕ) (c : Contents) where
   unfolding header_of
   header_file_goes = unless_goes (bytes_eq word (codes "-")) refl
 
-module _ (name : List ℕ) (c : Contents) (bytes : List ℕ) (read : IsRead c name bytes) (d : Contents) where
+module _ (laws : TreeLaws) (name : List ℕ) (c : Contents) (bytes : List ℕ) (read : IsRead c name bytes) (d : Contents) where
   places_go : (tree : PlainGff) → Stands bytes tree → (places : List Place) → broken_places tree.top ≡ places
       → (fate : AreaFate) × IsAreaFate tree.top fate × Goes (then (area_by name tree fate) (λ area. Gives (inputs.area_file bytes area))) d (λ a e. HasAreaFile c name a)
   places_go tree stands [] e = (areas.Whole, areas.whole e, record { read = read; tree = tree; stands = stands; whole = e; is = refl })
@@ -97,13 +97,13 @@ module _ (name : List ℕ) (c : Contents) (bytes : List ℕ) (read : IsRead c na
 
   area_part_goes : Goes (inputs.area_in name bytes) d (λ a e. HasAreaFile c name a)
   unfolding inputs.area_in area_of_bytes tree_in
-  area_part_goes = let f = tree_fated bytes in (f.0, f.1, tree_part_goes f.0 f.1)
+  area_part_goes = let f = tree_fated laws bytes in (f.0, f.1, tree_part_goes f.0 f.1)
 
-area_file_goes : (name : List ℕ) (c : Contents) → Goes (inputs.area_named name) c (λ a d. HasAreaFile c name a)
+area_file_goes : TreeLaws → (name : List ℕ) (c : Contents) → Goes (inputs.area_named name) c (λ a d. HasAreaFile c name a)
 unfolding inputs.area_named
-area_file_goes name c =
+area_file_goes laws name c =
     goes_next (file_named name) (inputs.area_in name) c (Still c (IsRead c name)) (λ a d. HasAreaFile c name a) (file_goes name c)
-    (λ bytes d is. area_part_goes name c bytes is.1 d)
+    (λ bytes d is. area_part_goes laws name c bytes is.1 d)
 
 -- ---- the state
 
@@ -134,18 +134,18 @@ module _ (h : HeaderFile) (file : List ℕ) (p : Plan) (scripts : List Script) (
 -- ---- the command
 
 module _ (header : OneHeader) (some : SomeSplit) (trees : TreeOrPlace) (right : VerdictsAreRight) (settled : NoneKeptIsTyped) (pass : UnitsPass) (have : ScriptsHaveUnits)
-    (reads : HeadersHaveTables) (own : BuiltInIsTable) (sizes : SizeLaws) (places : PlaceLaws) (code : CodeIsBytes) (states : FirstEntriesHaveStates) (plans : PlansKeep)
-    (cell : CellLookup) (word area plan : List ℕ) (n : ℕ) (name : List ℕ) (c : Contents) (held : ContentsAreBytes c) (room : SavedHasRoom cell word area plan n c) where
+    (reads : HeadersHaveTables) (own : BuiltInIsTable) (sizes : SizeLaws) (places : PlaceLaws) (laws : TreeLaws) (code : CodeIsBytes) (states : FirstEntriesHaveStates)
+    (plans : PlansKeep) (cell : CellLookup) (cells : CellsAreBytes cell) (word area plan : List ℕ) (n : ℕ) (name : List ℕ) (c : Contents) (held : ContentsAreBytes c) where
   area_saves : (p : Plan) → ReadsPlan c plan p → (h : HeaderFile) → HasHeaderFile c word h → (scripts : List Script) (left : Contents) → HasScripts h.table p.scripts c scripts left
       → Undeniable (Goes (saves_area cell h area p n name scripts) left Anything)
   unfolding saves_area saves_plan
   area_saves p is_plan h is_header scripts left listed =
-      goes_both (inputs.area_named area) (saves_plan cell h p scripts n name) left (λ a d. HasAreaFile left area a) Anything (surely (area_file_goes area left))
+      goes_both (inputs.area_named area) (saves_plan cell h p scripts n name) left (λ a d. HasAreaFile left area a) Anything (surely (area_file_goes laws area left))
       (λ a d is_area.
       saved_goes h a.bytes p scripts name d (played_first cell h.table p scripts n (plan_world a.area p)).ending (played_first cell h.table p scripts n (plan_world a.area p))
       (λ whole none.
       let all : AcceptsSave word area plan c h p scripts a left = record { reads_plan = is_plan; has_header = is_header; lists = listed; reads_area = is_area } in
-      none (state_there code states plans reads own cell word area plan n c held h p scripts a left all whole (room h p scripts a left all whole))))
+      none (state_there code states plans reads own cell cells word area plan n c held h p scripts a left all whole)))
 
   scripts_save : (p : Plan) → ReadsPlan c plan p → (h : HeaderFile) → HasHeaderFile c word h → Undeniable (Goes (saves_scripts cell area p n name h) c Anything)
   unfolding saves_scripts

@@ -1,7 +1,9 @@
--- The tables that a command is given: it can't be that they come to no end.
+-- The tables that a command is given: it can't be that they come to no end. Their cells are bytes.
 use Rattle.std.proofs.Common.{◌≡◌, ◌⊎◌, inl, inr, ℕ, ◌+◌, ◌<◌, Bool, true, false, IsTrue, List, [], ◌∷◌, ◌++◌, length, take, drop, get_or, Option, Some, None, Result, Ok, Err, refl, sym, ap, subst, ◌∙◌, arith, take_at, length-append, take-append-drop, append_assoc}
 use Rattle.std.proofs.lemmas.List.{drop_more, length-take-le}
-use Rattle.nwq_outside.specs.Outside.{Contents}
+use Rattle.std.specs.List.{AllByRecursion}
+use Rattle.std.proofs.lemmas.List.Elements.{recursion_from_All}
+use Rattle.nwq_outside.specs.Outside.{Contents, ContentsAreBytes}
 use Rattle.nwq_text.specs.Lines.{lines_of}
 use Rattle.table_2da.specs.declared.tables.Named.{Named}
 use Rattle.table_2da.specs.Grammar.{GivesOf}
@@ -14,6 +16,7 @@ use Rattle.command_tables.specs.Tables as tables
 use Rattle.nwq_top.proofs.Undeniable.{Undeniable, surely, by_it, with_it, either_way, Least, least_one}
 use Rattle.nwq_top.proofs.Going.{Goes, Still, goes_both, file_goes}
 use Rattle.nwq_top.proofs.TableFates.{table_comes}
+use Rattle.nwq_top.proofs.TableCells.{HasByteCells, HaveByteCells, table_cells}
 
 -- ---- a list of names
 
@@ -101,32 +104,43 @@ table_fated : (bytes : List ℕ) → (r : Result PlainTable ℕ) → GivesOf byt
 table_fated bytes (Ok table) h = (tables.Whole table, tables.whole table h)
 table_fated bytes (Err line) h = (tables.Faulty line, tables.faulty line h)
 
-one_goes : (file : List ℕ) (c : Contents) → Undeniable (Goes (table_in_file file) c (λ table d. d ≡ c))
-unfolding table_in_file table_in
-one_goes file c =
-    goes_both (file_named file) (table_in file) c (Still c (IsRead c file)) (λ table d. d ≡ c) (surely (file_goes file c))
-    (λ bytes d is. with_it (table_comes bytes) (λ k. let f = table_fated bytes k.0 k.1 in (f.0, f.1, by_fate f.0 d is.0)))
-  where
-    by_fate : (fate : TableFate) (d : Contents) → d ≡ c → Goes (table_by file fate) d (λ table e. e ≡ c)
-    by_fate (tables.Whole table) d same = same
-    by_fate (tables.Faulty line) d same = tt
+read_bytes : (c : Contents) (file bytes : List ℕ) → ContentsAreBytes c → IsRead c file bytes → AllByRecursion (λ b. b < 256) bytes
+unfolding ContentsAreBytes
+read_bytes c file bytes held is = recursion_from_All (λ b. b < 256) bytes (held file bytes is.held)
 
--- one more is read, whatever files are there by now
-more_goes : (c : Contents) (before : List Named) (name : List ℕ) (d : Contents) → d ≡ c → Undeniable (Goes (one_more before name) d (λ more e. e ≡ c))
-unfolding one_more
-more_goes c before name d same =
-    goes_both (table_in_file (table_file name)) (λ table. makes (with_table before name table)) d (λ table e. e ≡ d) (λ more e. e ≡ c) (one_goes (table_file name) d)
-    (λ table e is. surely (with_table before name table, refl, is ∙ same))
+cells_more : (before : List Named) (name : List ℕ) (table : PlainTable) → HaveByteCells before → HasByteCells table → HaveByteCells (with_table before name table)
+cells_more [] name table all has = (has, tt)
+cells_more (t ∷ before) name table all has = (all.0, cells_more before name table all.1 has)
 
-all_go : (c : Contents) (names : List (List ℕ)) (before : List Named) (d : Contents) → d ≡ c → Undeniable (Goes (all_behind before names) d (λ all e. e ≡ c))
-unfolding all_behind
-all_go c [] before d same = surely same
-all_go c (name ∷ names) before d same =
-    goes_both (one_more before name) (λ more. all_behind more names) d (λ more e. e ≡ c) (λ all e. e ≡ c) (more_goes c before name d same)
-    (λ more e is. all_go c names more e is)
+module _ (c : Contents) (held : ContentsAreBytes c) where
+  one_goes : (file : List ℕ) → Undeniable (Goes (table_in_file file) c (Still c HasByteCells))
+  unfolding table_in_file table_in
+  one_goes file =
+      goes_both (file_named file) (table_in file) c (Still c (IsRead c file)) (Still c HasByteCells) (surely (file_goes file c))
+      (λ bytes d is. with_it (table_comes bytes) (λ k. let f = table_fated bytes k.0 k.1 in (f.0, f.1, by_fate bytes (read_bytes c file bytes held is.1) f.0 f.1 d is.0)))
+    where
+      by_fate : (bytes : List ℕ) → AllByRecursion (λ b. b < 256) bytes → (fate : TableFate) → IsTableFate bytes fate → (d : Contents) → d ≡ c
+          → Goes (table_by file fate) d (Still c HasByteCells)
+      by_fate bytes are (tables.Whole table) (tables.whole _ has) d same = (same, table_cells bytes table are has)
+      by_fate bytes are (tables.Faulty line) h d same = tt
 
-pub given_go : (list : Option (List ℕ)) (c : Contents) → Undeniable (Goes (tables_given list) c (λ given d. d ≡ c))
-unfolding tables_listed
-given_go None c = surely refl
-given_go (Some list) c =
-    goes_both (names_listed list) (all_behind []) c (λ names d. d ≡ c) (λ given d. d ≡ c) (names_go list c) (λ names d is. all_go c names [] d is)
+  -- one more is read, whatever tables are there by now
+  more_goes : (before : List Named) (name : List ℕ) (d : Contents) → d ≡ c → HaveByteCells before → Undeniable (Goes (one_more before name) d (Still c HaveByteCells))
+  unfolding one_more
+  more_goes before name d same all =
+      subst (λ x. Undeniable (Goes (one_more before name) x (Still c HaveByteCells))) (sym same)
+      (goes_both (table_in_file (table_file name)) (λ table. makes (with_table before name table)) c (Still c HasByteCells) (Still c HaveByteCells) (one_goes (table_file name))
+      (λ table e is. surely (with_table before name table, refl, (is.0, cells_more before name table all is.1))))
+
+  all_go : (names : List (List ℕ)) (before : List Named) (d : Contents) → d ≡ c → HaveByteCells before → Undeniable (Goes (all_behind before names) d (Still c HaveByteCells))
+  unfolding all_behind
+  all_go [] before d same all = surely (same, all)
+  all_go (name ∷ names) before d same all =
+      goes_both (one_more before name) (λ more. all_behind more names) d (Still c HaveByteCells) (Still c HaveByteCells) (more_goes before name d same all)
+      (λ more e is. all_go names more e is.0 is.1)
+
+  pub given_go : (list : Option (List ℕ)) → Undeniable (Goes (tables_given list) c (Still c HaveByteCells))
+  unfolding tables_listed
+  given_go None = surely (refl, tt)
+  given_go (Some list) =
+      goes_both (names_listed list) (all_behind []) c (λ names d. d ≡ c) (Still c HaveByteCells) (names_go list c) (λ names d is. all_go names [] d is tt)

@@ -28,6 +28,7 @@ mod Decoding
 mod CodeFates
 mod AssemblyFates
 mod TableFates
+mod TableCells
 mod PlanFates
 mod TreeFates
 mod UnitFates

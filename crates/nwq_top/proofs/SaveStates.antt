@@ -1,4 +1,4 @@
--- There is a state of each play that `save` accepts, where its world has room in one.
+-- There is a state of each play that `save` accepts.
 use Rattle.std.proofs.Common.{arith, ◌≡◌, ◌≢◌, ◌<◌, ℕ, suc, Bool, true, false, cond, List, [], ◌∷◌, length, map, Option, Some, refl, sym, ap, ap₂, ◌∙◌, subst}
 use Rattle.std.proofs.lemmas.Cmp.{nat_list_cmp_total, nat_list_eq_equiv}
 use Rattle.std.proofs.lemmas.List.Elements.{recursion_from_All}
@@ -26,7 +26,8 @@ use Rattle.world_rules.specs.Plays.{Played, StoppedInside}
 use Rattle.state_format.specs.declared.parts.Parts.{Parts}
 use Rattle.state_format.specs.Parts.{IsBlob, IsMaybe}
 use Rattle.play_save.specs.Rules.{IsHeaderOf}
-use Rattle.play_save.specs.Written.{AreListed, CodeIsBytes, HasRoom}
+use Rattle.play_room.specs.Kept.{CellsAreBytes}
+use Rattle.play_save.specs.Written.{AreListed, CodeIsBytes}
 use Rattle.play_states.specs.Resting.{FirstEntriesHaveStates}
 use Rattle.play_inputs.specs.Listings.{line_names}
 use Rattle.play_worlds.specs.Worlds.{plan_world}
@@ -123,7 +124,7 @@ module _ (code : CodeIsBytes) (table : EngineTable) where
 -- ---- the state
 
 module _ (code : CodeIsBytes) (states : FirstEntriesHaveStates) (plans : PlansKeep) (reads : HeadersHaveTables) (own : BuiltInIsTable)
-    (cell : CellLookup) (word area plan : List ℕ) (n : ℕ) (c : Contents) (held : ContentsAreBytes c) where
+    (cell : CellLookup) (cells : CellsAreBytes cell) (word area plan : List ℕ) (n : ℕ) (c : Contents) (held : ContentsAreBytes c) where
   record IsHeaded (h : HeaderFile) : Type 0 where
     headed : IsHeaderOf h.text h.table
     text : IsMaybe IsBlob h.text
@@ -136,14 +137,14 @@ module _ (code : CodeIsBytes) (states : FirstEntriesHaveStates) (plans : PlansKe
   Ends h p scripts x = played_first cell h.table p scripts n (plan_world x p)
 
   pub state_there : (h : HeaderFile) (p : Plan) (scripts : List Script) (a : AreaFile) (left : Contents) → AcceptsSave word area plan c h p scripts a left
-      → (played_first cell h.table p scripts n (plan_world a.area p)).ending ≢ StoppedInside → HasRoom (played_first cell h.table p scripts n (plan_world a.area p)).last.world
+      → (played_first cell h.table p scripts n (plan_world a.area p)).ending ≢ StoppedInside
       → (s : Parts) × IsStateAt h a.bytes p scripts (played_first cell h.table p scripts n (plan_world a.area p)).last s
   state_there h p scripts a left k =
-      subst (λ x. (Ends h p scripts x).ending ≢ StoppedInside → HasRoom (Ends h p scripts x).last.world → (s : Parts) × IsStateAt h a.bytes p scripts (Ends h p scripts x).last s)
-      (sym k.reads_area.is) (λ whole room.
-      let made = states cell h.text scripts listed a.bytes k.reads_area.tree p n (is_table reads own c word h.table held (header_of_file c word h k.has_header)) kept
+      subst (λ x. (Ends h p scripts x).ending ≢ StoppedInside → (s : Parts) × IsStateAt h a.bytes p scripts (Ends h p scripts x).last s)
+      (sym k.reads_area.is) (λ whole.
+      let made = states cell h.text scripts listed a.bytes k.reads_area.tree p n cells (is_table reads own c word h.table held (header_of_file c word h k.has_header)) kept
       (record { small = k.reads_area.read.small; stands = k.reads_area.stands; whole = k.reads_area.whole })
-      (read_blob left area a.bytes (lines.bytes (all_bytes c held)) k.reads_area.read) whole room in
+      (read_blob left area a.bytes (lines.bytes (all_bytes c held)) k.reads_area.read) whole in
       (made.state, record { form = made.form; accepted = made.accepted; play = made.play; spelled = lines.codes; come = made.come; world = made.world }))
     where
       kept : IsPlan p

@@ -1,5 +1,5 @@
 -- What `save` does.
-use Rattle.std.proofs.Common.{arith, ◌≡◌, ◌≤◌, ◌<◌, ◌+◌, ◌-◌, ℕ, zero, suc, Bool, true, false, ◌⊎◌, List, ◌++◌, map, Option, None, Some, Result, Ok, Err, refl, sym, ap, ◌∙◌, inl, inr, subst, ⊎_elim}
+use Rattle.std.proofs.Common.{arith, ◌≡◌, ◌≤◌, ◌<◌, ◌+◌, ◌-◌, ℕ, zero, suc, Bool, true, false, ◌⊎◌, List, ◌++◌, map, Option, None, Some, Result, Ok, Err, refl, sym, ap, ◌∙◌, inl, inr, subst, ltb-false, ⊎_elim}
 use Rattle.std.proofs.lemmas.Bool.Decides.{eqb_tells}
 use mathlib.Core.List.{append_assoc}
 use Rattle.std.specs.Prelude.{nat_lt, length, min, ◌==◌, if◌then◌else◌}
@@ -98,12 +98,13 @@ module _ (runner : Runner Saved) (bounds : Bounds) where
 
 module _ (header : HeaderFile) (file : AreaFile) (plan : Plan) (scripts : List Script) (n : ℕ) (name : List ℕ) (c : Contents) (t : List ℕ) (r : Result Finished Status)
     (c' : Contents) (t' : List ℕ) (done : r ≡ Ok tt) where
-  -- the file is written, and its line put
-  record Wrote (bytes : List ℕ) (entries : ℕ) (k : List ℕ) : Type 0 where
+  -- the file is written, which isn't too long, and its line put
+  record Wrote (long : Bool) (bytes : List ℕ) (entries : ℕ) (k : List ℕ) : Type 0 where
+    short : long ≡ false
     taken : t' ≡ k ++ saved_line name entries
     contents : c' ≡ fin_map.insert c name bytes
 
-  wrote : (long : Bool) (bytes : List ℕ) (entries : ℕ) (k : List ℕ) → Does (state_by long name bytes entries) c k r c' t' → Wrote bytes entries k
+  wrote : (long : Bool) (bytes : List ℕ) (entries : ℕ) (k : List ℕ) → Does (state_by long name bytes entries) c k r c' t' → Wrote long bytes entries k
   unfolding state_told writes puts
   wrote true bytes entries k (inl x, s) = absurd (apart done x.0)
     where
@@ -112,7 +113,7 @@ module _ (header : HeaderFile) (file : AreaFile) (plan : Plan) (scripts : List S
   wrote true bytes entries k (inr x, s) = absurd (subst IsCut done x.0)
   wrote false bytes entries k (inl x) = absurd (subst IsCut done x.0)
   wrote false bytes entries k (inr (inl x)) = absurd (subst IsCut done x.0)
-  wrote false bytes entries k (inr (inr h)) = record { taken = h.1.1; contents = h.1.0 }
+  wrote false bytes entries k (inr (inr h)) = record { short = refl; taken = h.1.1; contents = h.1.0 }
 
   -- so many entries, or all that are due
   abbrev Count : Played Saved → Type 0
@@ -127,6 +128,7 @@ module _ (header : HeaderFile) (file : AreaFile) (plan : Plan) (scripts : List S
       record {
         state = h.found;
         is = h.is;
+        small = ltb-false file_limit (length (parts_bytes h.found)) w.short;
         taken = w.taken ∙ (ap (λ (n : ℕ). (t ++ trace_text p.last.trace) ++ saved_line name n) h.is.come.taken
             ∙ append_assoc t (trace_text p.last.trace) (saved_line name p.last.entries));
         contents = w.contents;

@@ -1,13 +1,13 @@
 -- What comes of the bytes of a GFF file: the tree that they stand for, or the first test that
 -- fails, which is never want of memory.
-use Rattle.std.proofs.Common.{◌≡◌, ℕ, zero, suc, ◌+◌, ◌==◌, nat_lt, Bool, true, false, List, [], ◌∷◌, ◌++◌, length, take, drop, replicate, slice_get, Option, Some, None, Result, Ok, Err, refl, sym, subst, ◌∙◌}
+use Rattle.std.proofs.Common.{◌≡◌, ℕ, zero, suc, ◌+◌, ◌==◌, nat_lt, Bool, true, false, List, [], ◌∷◌, ◌++◌, length, drop, replicate, slice_get, Option, Some, None, Result, Ok, Err, sym, ◌∙◌}
 use Rattle.std.specs.Prelude.{if◌then◌else◌, slice_index_or, slice_set}
 use Rattle.gff_bytes.specs.declared.rows.Range.{Range}
 use Rattle.gff_bytes.specs.declared.rows.StructRow.{StructRow}
-use Rattle.gff_bytes.specs.File.{open_fault, data_at, list_word, struct_row, field_row, label_row}
+use Rattle.gff_bytes.specs.File.{data_at, list_word, struct_row, field_row, label_row}
 use Rattle.gff_read.specs.declared.fault.TreeFault.{TreeFault}
 use Rattle.gff_read.specs.declared.fault.TreeFault.TheVariants as fault
-use Rattle.gff_tree.specs.Tree.{Struct, struct_depth_limit}
+use Rattle.gff_tree.specs.Tree.{struct_depth_limit}
 use Rattle.gff_tree.specs.Tree as tree
 use Rattle.gff_tree.specs.Whole.{PlainGff}
 use Rattle.gff_read.specs.declared.kind.FieldKind.{FieldKind}
@@ -15,7 +15,7 @@ use Rattle.gff_read.specs.declared.kind.FieldKind.TheVariants as kind
 use Rattle.gff_read.specs.Rows.{◌>>=◌, placed, bad_data, for_field, of_kind, kinds, number_in, bytes_for, number_for, counted_for, name_for, part_in, parts_in, localized_in, scalar_for, leaf_for, words_from, PlainShape, Value, One, Many, PlainRow, shape_for, has_label, row_for, field_number, rows_from, rows_of}
 use Rattle.gff_read.specs.Walk.{Marks, Reading, struct_count, struct_entered, node_at, nodes_at, leaf_at, fields_at, tree_of}
 use Rattle.gff_read.specs.Stands.{Stands}
-use Rattle.gff_read.proofs.TreeLaws.{stands_read, tree_is}
+use Rattle.gff_read.specs.Laws.{ReadTreesStand, TreesAreRead}
 
 -- ---- tests that fail by themselves
 
@@ -179,22 +179,10 @@ tree_named bytes =
 
 -- ---- the tree
 
-given_by : {A B : Type 0} (r : Result A TreeFault) (f : A → Result B TreeFault) (y : B) → (r >>= f) ≡ Ok y → (x : A) × (r ≡ Ok x) × (f x ≡ Ok y)
-given_by (Ok x) f y e = (x, refl, e)
-given_by (Err fails) f y e = absurd cc
+-- what is said of the walk and the tree that bytes stand for
+pub record TreeLaws : Type 0 where
+  pub read : TreesAreRead
+  pub stand : ReadTreesStand
 
-abbrev read : PlainGff → Result PlainGff TreeFault
-read tree = Ok tree
-
-same_tree : (x y : PlainGff) → read x ≡ read y → x ≡ y
-same_tree x y e = cc
-
-pub read_stands : (bytes : List ℕ) (gff : PlainGff) → open_fault bytes ≡ None → tree_of bytes ≡ Ok gff → Stands bytes gff
-unfolding tree_of
-read_stands bytes gff clear e =
-    let b = given_by (node_at struct_depth_limit bytes 0 (replicate (struct_count bytes) false)) (λ top. Ok (record { file_type = take 4 bytes; top = top.0 })) gff e in
-    let is : record { file_type = take 4 bytes; top = b.0.0 } ≡ gff = same_tree (record { file_type = take 4 bytes; top = b.0.0 }) gff b.2 in
-    subst (Stands bytes) is (stands_read bytes (replicate (struct_count bytes) false) b.0.0 b.0.1 (take 4 bytes) refl b.1 clear refl)
-
-pub unread_stands_not : (bytes : List ℕ) (fails : TreeFault) → tree_of bytes ≡ Err fails → (gff : PlainGff) → Stands bytes gff → ⊥
-unread_stands_not bytes fails e gff s = let same : Ok gff ≡ Err fails = sym (tree_is bytes gff s) ∙ e in absurd cc
+pub unread_stands_not : TreesAreRead → (bytes : List ℕ) (fails : TreeFault) → tree_of bytes ≡ Err fails → (gff : PlainGff) → Stands bytes gff → ⊥
+unread_stands_not read bytes fails e gff s = let same : Ok gff ≡ Err fails = sym (read bytes gff s) ∙ e in absurd cc

@@ -20,6 +20,7 @@ use command_tables::laws::one_set_of_tables;
 use engine_table::headers_have_tables;
 use engine_table::laws::one_header;
 use generator_laws::sources_compile;
+use gff_read::read_trees_stand;
 use ncs_code::{place_laws, size_laws};
 use nss_lexer::laws::some_split;
 use nss_parser::laws::tree_or_place;
@@ -49,11 +50,11 @@ pub fn one_outcome()
     one_set_of_tables();
 }
 
-/// Each input has an answer: whatever the words are, whatever bytes the files hold, and whatever
-/// was taken, the work has an outcome that isn't cut; that of `save` has one where the world of the
-/// play that it accepts has room in a state's fields. So has the whole program. Of words for which
-/// no code is checked, and neither a text by its lines nor a state is read, it is there; of all
-/// others it is refuted that there is none, which is the same by excluded middle.
+/// Each input has an answer: whatever the words are, whatever bytes the files and the cells of
+/// tables hold, and whatever was taken, the work has an outcome that isn't cut. So has the whole
+/// program. Of words for which no code is checked, and neither a text by its lines nor a state is
+/// read, it is there; of all others it is refuted that there is none, which is the same by excluded
+/// middle.
 pub fn each_has_outcome()
     ensures each { EachHasOutcome }
     ensures whole { EachWholeHasOutcome }
@@ -69,6 +70,7 @@ pub fn each_has_outcome()
     sources_compile();
     size_laws();
     place_laws();
+    read_trees_stand();
     code_is_bytes();
     first_entries_have_states();
     plans_keep();
