@@ -3,6 +3,7 @@
 use nwq_top::Status;
 use test_rows::answers::{Held, PLAIN, Row};
 use test_rows::contents::{DEFERS, EMPTY_AREA, PLAN_OF_ONE};
+use test_rows::samples::Sample;
 
 /// The state's bytes in front of the place at which its one stored action goes on: it begins, with
 /// the built-in header and the code of the script `p`; the area, and the plan's version; the
