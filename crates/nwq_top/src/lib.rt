@@ -29,6 +29,7 @@ mod command;
 pub mod laws;
 mod program;
 mod tables;
+mod told;
 pub mod word_laws;
 
 ghost use Rattle.std.specs.Prelude.{map, string_bytes, IsTrue};
@@ -41,15 +42,17 @@ ghost use Rattle.nwq_top.specs.Changes.{MayChange};
 ghost use Rattle.nwq_top.specs.Cuts.{IsFrontOf};
 ghost use Rattle.nwq_top.specs.Endings.{ComesOf};
 ghost use Rattle.nwq_top.specs.Meaning.{Means};
+ghost use Rattle.telling_sink.specs.Told.{Told};
 
-use crate::command::status_of_words;
 use crate::laws::{names_change, one_outcome, work_means};
+use crate::told::status_told;
 pub use command_play::Remarks;
 pub use command_work::Status;
 use hook_table::Hooks;
 use nwq_outside::{Files, Sink};
 pub use program::{nwq_program, program_tables};
 use std::alloc::Global;
+use std::marker::Brand;
 pub use tables::nwq_tables;
 
 /// Does what the words say. Scripts that it plays call the hooks.
@@ -62,26 +65,26 @@ pub fn nwq_main<F: Files, S: Sink>(
 ) -> Status
     // The hooks are one for each of the functions of strings, numbers and tables.
     requires hooks { AreServing (map (λ h. h.known) hooks.now.all.items) }
-    // Where files and sink tell what they hold: the call did the work of the words, in order. A
-    // failed call or want of memory cut it only where something was still to be read, made, written
-    // or put; what is written and put whole ends with its own status.
-    ensures does { IsTrue F.tells → IsTrue S.tells →
+    // Where the files tell what they hold: the call did the work of the words, in order. A failed
+    // call or want of memory cut it only where something was still to be read, made, written or put;
+    // what is written and put whole ends with its own status.
+    ensures does { IsTrue F.tells → Told S.tells (S.taken out.old) (S.taken out.new) (λ t t'.
         Does (work_of (cells_of (map (λ h. h.known) hooks.now.all.items))
         (form_of (map string_bytes words.now)))
-        (F.contents files.old) (S.taken out.old)
-        (ending result) (F.contents files.new) (S.taken out.new) }
+        (F.contents files.old) t (ending result) (F.contents files.new) t') }
     // Unless a failed call or want of memory cut it short, it also refused what is to be refused,
     // wrote files that pass the stack checker, and told and left what the source texts mean.
-    ensures means { IsTrue F.tells → IsTrue S.tells → (IsCut (ending result) → ⊥) →
+    ensures means { IsTrue F.tells → (IsCut (ending result) → ⊥) →
+        Told S.tells (S.taken out.old) (S.taken out.new) (λ t t'.
         Means (cells_of (map (λ h. h.known) hooks.now.all.items))
         (form_of (map string_bytes words.now))
-        (F.contents files.old) (S.taken out.old)
-        (ending result) (F.contents files.new) (S.taken out.new) }
+        (F.contents files.old) t (ending result) (F.contents files.new) t') }
     // Where one did, what was put and left is a front of what is put and left else.
-    ensures cut { IsTrue F.tells → IsTrue S.tells → IsCut (ending result) →
+    ensures cut { IsTrue F.tells → IsCut (ending result) →
+        Told S.tells (S.taken out.old) (S.taken out.new) (λ t t'.
         IsFrontOf (work_of (cells_of (map (λ h. h.known) hooks.now.all.items))
         (form_of (map string_bytes words.now)))
-        (F.contents files.old) (S.taken out.old) (F.contents files.new) (S.taken out.new) }
+        (F.contents files.old) t (F.contents files.new) t') }
     // A read, write or put that was refused is the last one, and the status says which.
     ensures counts { Tallies (ending result) (Counted (F.counts files.old) (S.faults out.old))
         (Counted (F.counts files.new) (S.faults out.new)) }
@@ -90,7 +93,7 @@ pub fn nwq_main<F: Files, S: Sink>(
         (F.contents files.old) (F.contents files.new) }
     // Of `play` these are the files of the sources that its plan lists, and TO only where the
     // status is 0, 7 or 8.
-    ensures changes { IsTrue F.tells → IsTrue S.tells →
+    ensures changes { IsTrue F.tells →
         KeepsBut (MayChange (form_of (map string_bytes words.now)) (F.contents files.old)
         (ending result)) (F.contents files.old) (F.contents files.new) }
     ensures only { ComesOf (form_of (map string_bytes words.now)) result }
@@ -99,6 +102,6 @@ pub fn nwq_main<F: Files, S: Sink>(
     one_outcome();
     names_change();
     files.contents_are_bytes();
-    let mut remarks = Remarks::none();
-    status_of_words(alloc, words, files, out, hooks, &mut remarks)
+    let (status, _out) = status_told::<F, S, Brand>(alloc, words, files, out, hooks);
+    status
 }

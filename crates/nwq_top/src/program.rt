@@ -11,8 +11,9 @@ ghost use Rattle.nwq_top.specs.Program.{by_status, status_number, status_numbere
 
 use crate::command::status_of_words;
 use crate::laws::work_means;
-use crate::nwq_tables;
 use command_play::Remarks;
+use command_tables::read_tables;
+use command_words::list_in;
 use command_work::Status;
 use hook_table::Hooks;
 use nwq_outside::{Files, Sink};
@@ -57,7 +58,7 @@ pub fn program_tables<F: Files, S: Sink>(
     ensures only { IfErr result (λ n. StopsArea (status_numbered n)) }
     ensures none { list_of (form_of (words_of all.now)) ≡ None → result ≡ Ok [] }
 {
-    match nwq_tables(alloc, after_name(all), files, out) {
+    match read_tables(alloc, list_in(after_name(all)), files, out) {
         Err(status) => Err(number_of(status)),
         Ok(tables) => Ok(tables),
     }
