@@ -9,6 +9,7 @@ ghost use Rattle.nwq_top.specs.Cuts.{IsFrontOf};
 ghost use Rattle.nwq_top.specs.Endings.{ComesOf};
 ghost use Rattle.nwq_top.specs.Meaning.{MeansWhole};
 ghost use Rattle.nwq_top.specs.Program.{status_number, status_numbered};
+ghost use Rattle.telling_sink.specs.Told.{Told};
 ghost use Rattle.nwq.specs.Ending.{EndsWanting, form_in};
 
 use crate::whole::run_all;
@@ -71,7 +72,7 @@ fn told<F: Troubled, S: Sink, A: Files, E: Sink>(
 /// The whole program, given its words, the files, standard output, the files as its message reads
 /// them once more, and standard error: how it ends. Words that are no text are no form of a
 /// command.
-#[tactic(auto, using(crate::proofs::EndLemmas::whole_cut))]
+#[tactic(auto, using(crate::proofs::EndLemmas::whole_cut, telling_sink::specs::ToldLemmas::told_nothing))]
 pub(crate) fn end_of<F: Files + Troubled, S: Sink, A: Files, E: Sink>(
     alloc: Global,
     words: Words,
@@ -82,25 +83,25 @@ pub(crate) fn end_of<F: Files + Troubled, S: Sink, A: Files, E: Sink>(
 ) -> ExitCode
     // It ends with the number of a status, by which these say what it did.
     ensures number { status_number (status_numbered (exit_status result)) ≡ exit_status result }
-    ensures does { IsTrue F.tells → IsTrue S.tells →
-        Does (whole_work (form_in words)) (F.contents files.old) (S.taken out.old.inner)
-        (ending (status_numbered (exit_status result)))
-        (F.contents files.new) (S.taken out.new.inner) }
-    ensures means { IsTrue F.tells → IsTrue S.tells →
+    ensures does { IsTrue F.tells →
+        Told S.tells (S.taken out.old.inner) (S.taken out.new.inner) (λ t t'.
+        Does (whole_work (form_in words)) (F.contents files.old) t
+        (ending (status_numbered (exit_status result))) (F.contents files.new) t') }
+    ensures means { IsTrue F.tells →
         (IsCut (ending (status_numbered (exit_status result))) → ⊥) →
-        MeansWhole (form_in words) (F.contents files.old) (S.taken out.old.inner)
-        (ending (status_numbered (exit_status result)))
-        (F.contents files.new) (S.taken out.new.inner) }
-    ensures cut { IsTrue F.tells → IsTrue S.tells →
-        IsCut (ending (status_numbered (exit_status result))) →
-        IsFrontOf (whole_work (form_in words)) (F.contents files.old) (S.taken out.old.inner)
-        (F.contents files.new) (S.taken out.new.inner) }
+        Told S.tells (S.taken out.old.inner) (S.taken out.new.inner) (λ t t'.
+        MeansWhole (form_in words) (F.contents files.old) t
+        (ending (status_numbered (exit_status result))) (F.contents files.new) t') }
+    ensures cut { IsTrue F.tells → IsCut (ending (status_numbered (exit_status result))) →
+        Told S.tells (S.taken out.old.inner) (S.taken out.new.inner) (λ t t'.
+        IsFrontOf (whole_work (form_in words)) (F.contents files.old) t
+        (F.contents files.new) t') }
     ensures counts { Tallies (ending (status_numbered (exit_status result)))
         (Counted (F.counts files.old) (S.faults out.old.inner))
         (Counted (F.counts files.new) (S.faults out.new.inner)) }
     ensures names { KeepsBut (MayWrite (form_in words))
         (F.contents files.old) (F.contents files.new) }
-    ensures changes { IsTrue F.tells → IsTrue S.tells →
+    ensures changes { IsTrue F.tells →
         KeepsBut (MayChange (form_in words) (F.contents files.old)
         (ending (status_numbered (exit_status result))))
         (F.contents files.old) (F.contents files.new) }

@@ -9,6 +9,7 @@ ghost use Rattle.nwq_top.specs.Cuts.{IsFrontOf};
 ghost use Rattle.nwq_top.specs.Endings.{ComesOf};
 ghost use Rattle.nwq_top.specs.Meaning.{MeansWhole};
 ghost use Rattle.nwq_top.specs.Program.{status_number, status_numbered, words_of};
+ghost use Rattle.telling_sink.specs.Told.{Told};
 
 use hook_table::{Call, Hooks, cell_call};
 use nwq_hooks::{all_are_put, call_function, put_cell_hook, put_hook};
@@ -17,7 +18,9 @@ use nwq_top::laws::{names_change, one_outcome, whole_means};
 use nwq_top::{Remarks, nwq_program, program_tables};
 use nwq_value::{Args, NoMemory, Value};
 use std::alloc::Global;
+use std::marker::Brand;
 use table_2da::Tables;
+use telling_sink::{Loan, Telling};
 
 /// The number of the status for want of memory.
 const WANT_OF_MEMORY: u8 = 8;
@@ -130,6 +133,33 @@ fn run_in_order<F: Files, S: Sink>(
     }
 }
 
+/// Does the same with a sink that it makes tell, and gives the sink back beside the number.
+#[tactic(auto, using(telling_sink::specs::ToldLemmas::told_beneath))]
+fn run_told<'a, F: Files, S: Sink, L: Loan>(
+    alloc: Global,
+    all: &[String],
+    files: &mut F,
+    out: &'a mut S,
+    remarks: &mut Remarks,
+) -> (u8, &'a mut S)
+    requires loan { out.ghost_name ≡ L.name }
+    ensures loan { result.1.ghost_name ≡ out.entry.ghost_name }
+    ensures number { status_number (status_numbered result.0) ≡ result.0 }
+    ensures does { IsTrue F.tells → Told S.tells (S.taken out.old) (S.taken result.1.now) (λ t t'.
+        Does (whole_work (form_of (words_of all.now))) (F.contents files.old) t
+        (ending (status_numbered result.0)) (F.contents files.new) t') }
+    ensures counts { Tallies (ending (status_numbered result.0))
+        (Counted (F.counts files.old) (S.faults out.old))
+        (Counted (F.counts files.new) (S.faults result.1.now)) }
+    ensures names { KeepsBut (MayWrite (form_of (words_of all.now)))
+        (F.contents files.old) (F.contents files.new) }
+    ensures only { ComesOf (form_of (words_of all.now)) (status_numbered result.0) }
+{
+    let mut telling: Telling<'a, S, L> = Telling::new(out);
+    let number = run_in_order(alloc, all, files, &mut telling, remarks);
+    (number, telling.into_sink())
+}
+
 /// The whole program, given all its words, the files and standard output: the number with
 /// which it ends. What is remarked of a play is for the notes on it.
 pub(crate) fn run_all<F: Files, S: Sink>(
@@ -140,20 +170,21 @@ pub(crate) fn run_all<F: Files, S: Sink>(
     remarks: &mut Remarks,
 ) -> u8
     ensures number { status_number (status_numbered result) ≡ result }
-    ensures does { IsTrue F.tells → IsTrue S.tells →
-        Does (whole_work (form_of (words_of all.now))) (F.contents files.old) (S.taken out.old)
-        (ending (status_numbered result)) (F.contents files.new) (S.taken out.new) }
+    ensures does { IsTrue F.tells → Told S.tells (S.taken out.old) (S.taken out.new) (λ t t'.
+        Does (whole_work (form_of (words_of all.now))) (F.contents files.old) t
+        (ending (status_numbered result)) (F.contents files.new) t') }
     // Unless a failed call or want of memory cut it short, it also refused the list or the table
     // that is to be refused, or else did what the words mean, with cells looked up in exactly the
     // tables that they give.
-    ensures means { IsTrue F.tells → IsTrue S.tells →
-        (IsCut (ending (status_numbered result)) → ⊥) →
-        MeansWhole (form_of (words_of all.now)) (F.contents files.old) (S.taken out.old)
-        (ending (status_numbered result)) (F.contents files.new) (S.taken out.new) }
+    ensures means { IsTrue F.tells → (IsCut (ending (status_numbered result)) → ⊥) →
+        Told S.tells (S.taken out.old) (S.taken out.new) (λ t t'.
+        MeansWhole (form_of (words_of all.now)) (F.contents files.old) t
+        (ending (status_numbered result)) (F.contents files.new) t') }
     // Where one did, what was put and left is a front of what is put and left else.
-    ensures cut { IsTrue F.tells → IsTrue S.tells → IsCut (ending (status_numbered result)) →
+    ensures cut { IsTrue F.tells → IsCut (ending (status_numbered result)) →
+        Told S.tells (S.taken out.old) (S.taken out.new) (λ t t'.
         IsFrontOf (whole_work (form_of (words_of all.now)))
-        (F.contents files.old) (S.taken out.old) (F.contents files.new) (S.taken out.new) }
+        (F.contents files.old) t (F.contents files.new) t') }
     ensures counts { Tallies (ending (status_numbered result))
         (Counted (F.counts files.old) (S.faults out.old))
         (Counted (F.counts files.new) (S.faults out.new)) }
@@ -161,7 +192,7 @@ pub(crate) fn run_all<F: Files, S: Sink>(
         (F.contents files.old) (F.contents files.new) }
     // Of `play` and `save` these are the files of the sources that the plan lists, and the file of
     // the area, or of the state, only where the status is 0, 7 or 8.
-    ensures changes { IsTrue F.tells → IsTrue S.tells →
+    ensures changes { IsTrue F.tells →
         KeepsBut (MayChange (form_of (words_of all.now)) (F.contents files.old)
         (ending (status_numbered result))) (F.contents files.old) (F.contents files.new) }
     ensures only { ComesOf (form_of (words_of all.now)) (status_numbered result) }
@@ -170,5 +201,6 @@ pub(crate) fn run_all<F: Files, S: Sink>(
     one_outcome();
     names_change();
     files.contents_are_bytes();
-    run_in_order(alloc, all, files, out, remarks)
+    let (number, _out) = run_told::<F, S, Brand>(alloc, all, files, out, remarks);
+    number
 }
