@@ -1,5 +1,5 @@
-//! Calls of the outside that fail as plans are played or saved, each in turn: what was put and written before stays, nothing
-//! comes after it, and the status is that of faults.
+//! Calls of the outside that fail as plans are played or saved, each in turn: what was put and
+//! written before stays, nothing comes after it, and the status is that of faults.
 
 use crate::games;
 use nwq_top::Status;

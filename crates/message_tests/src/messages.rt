@@ -211,8 +211,8 @@ const OTHERS: &[Row] = &[
         files: &[],
         number: 4,
         line: b"refused a.state unfit 5\n",
-        said: "a.state: error: the entries of the agenda can't wait so: their order, numbers, times \
-            or objects [unfit]\n",
+        said: "a.state: error: the entries of the agenda can't wait so: their order, numbers, \
+            times or objects [unfit]\n",
     },
     Row {
         words: &["nwq", "tree", "a.git"],

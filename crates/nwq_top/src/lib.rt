@@ -66,8 +66,8 @@ pub fn nwq_main<F: Files, S: Sink>(
     // The hooks are one for each of the functions of strings, numbers and tables.
     requires hooks { AreServing (map (λ h. h.known) hooks.now.all.items) }
     // Where the files tell what they hold: the call did the work of the words, in order. A failed
-    // call or want of memory cut it only where something was still to be read, made, written or put;
-    // what is written and put whole ends with its own status.
+    // call or want of memory cut it only where something was still to be read, made, written or
+    // put; what is written and put whole ends with its own status.
     ensures does { IsTrue F.tells → Told S.tells (S.taken out.old) (S.taken out.new) (λ t t'.
         Does (work_of (cells_of (map (λ h. h.known) hooks.now.all.items))
         (form_of (map string_bytes words.now)))

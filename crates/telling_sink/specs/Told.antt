@@ -6,7 +6,8 @@ abbrev pub told_bytes : Bool → List ℕ → List ℕ → List ℕ
 told_bytes true taken noted = taken
 told_bytes false taken noted = noted
 
--- what holds of the bytes that the sink had taken before a call and after it. Where it doesn't tell them, it holds of no bytes before, and of some after
+-- What holds of the bytes that the sink had taken before a call and after it. Where it doesn't tell
+-- them, it holds of no bytes before, and of some after.
 abbrev pub Told : Bool → List ℕ → List ℕ → (List ℕ → List ℕ → Type 0) → Type 0
 Told true before after P = P before after
 Told false before after P = (bytes : List ℕ) × P [] bytes

@@ -14,8 +14,8 @@ use nwq_value::{Args, NoMemory, Value};
 use std::alloc::Global;
 use table_2da::Tables;
 
-/// Where something else comes than is to come: the place of a group of tables, of a table in it, and
-/// of a row.
+/// Where something else comes than is to come: the place of a group of tables, of a table in it,
+/// and of a row.
 pub type Place = (usize, usize, usize);
 
 /// What is tried with hooks.

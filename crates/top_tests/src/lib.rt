@@ -1,5 +1,5 @@
-//! Tests of the top call: its parts, its commands but plays of plans by rows of words and files, and
-//! the whole program over memory. Plays of plans stand in `game_tests`.
+//! Tests of the top call: its parts, its commands but plays of plans by rows of words and files,
+//! and the whole program over memory. Plays of plans stand in `game_tests`.
 #![tactic(auto)]
 
 #[cfg(test)]
