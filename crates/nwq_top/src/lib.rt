@@ -6,6 +6,10 @@
 //! call did it. The parts of that work that read sources are `command_sources`', and its commands
 //! over other files `command_files`'.
 //!
+//! The clauses hold of a sink of any kind, since the work is done with one that tells
+//! (`telling_sink`). Of one that doesn't tell what it took they speak of some bytes: those of
+//! `does` have the other clauses too, by the laws of [`laws`].
+//!
 //! The clause `means` says what the work is in the words of the subject: headers, scripts, plans,
 //! areas. `specs/Accepting.antt` and `specs/Refusing.antt` say what a command accepts, and why it
 //! refuses, by what the files hold. `specs/ListedUnits.antt` says that what is listed of a plan of
