@@ -12,5 +12,5 @@
 mod noted;
 mod telling;
 
-pub use noted::{Noted, Put};
+pub use noted::Noted;
 pub use telling::{Loan, Telling};

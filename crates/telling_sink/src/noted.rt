@@ -6,7 +6,7 @@ use std::marker::Model;
 
 /// A piece that was put, and the answer.
 #[derive(Clone, Copy, Drop)]
-pub struct Put<'a> {
+pub(crate) struct Put<'a> {
     pub piece: &'a [u8],
     pub answer: Done,
 }
