@@ -31,7 +31,7 @@ use Rattle.state_format.specs.declared.parts.KindPart.{KindPart}
 use Rattle.state_format.specs.declared.parts.KindPart.TheVariants as kind
 use Rattle.state_format.specs.declared.parts.Entry.{Entry as EntryPart}
 use Rattle.state_format.specs.declared.parts.Parts.{Parts}
-use Rattle.play_save.specs.World.{cell_of, saved_of, variable_of, variables_of, stood_of, item_of, things_of, with_variables, kind_of, entry_of, world_of}
+use Rattle.state_parts.specs.World.{cell_of, saved_of, variable_of, variables_of, stood_of, item_of, things_of, with_variables, kind_of, entry_of, world_of}
 
 -- ---- back
 

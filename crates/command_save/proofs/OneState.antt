@@ -20,7 +20,7 @@ use Rattle.state_format.specs.declared.parts.Object.{Object}
 use Rattle.state_format.specs.declared.parts.Entry.{Entry}
 use Rattle.state_format.specs.declared.parts.Parts.{Parts}
 use Rattle.state_format.specs.Place.{StateOf, StateStopsAt, BytesAreOne}
-use Rattle.play_save.specs.World.{world_of}
+use Rattle.state_parts.specs.World.{world_of}
 use Rattle.play_save.specs.Rules.{IsHeaderOf, IsAreaOf, IsAccepted, IsUnfit, IsFirstBroken, KeepsAll, Rule, rules}
 use Rattle.play_save.specs.States.{IsWorldOf}
 use Rattle.command_save.specs.declared.inputs.HeaderFile.{HeaderFile}

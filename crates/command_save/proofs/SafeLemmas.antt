@@ -22,7 +22,7 @@ use Rattle.state_format.specs.declared.parts.KindPart.{KindPart}
 use Rattle.state_format.specs.declared.parts.KindPart.TheVariants as kind
 use Rattle.state_format.specs.declared.parts.Entry.{Entry}
 use Rattle.state_format.specs.declared.parts.Parts.{Parts}
-use Rattle.play_save.specs.World.{saved_of, item_of, things_of, kind_of, entry_of}
+use Rattle.state_parts.specs.World.{saved_of, item_of, things_of, kind_of, entry_of}
 use Rattle.play_save.specs.Rules.{IsSound, ItemHolds, KindHolds, IsCapturedIn, IsAccepted}
 use Rattle.command_save.specs.Saves.{file_of, AreSpelled}
 use Rattle.command_save.specs.Resumes.{Going, GoesFrom}

@@ -21,8 +21,9 @@ use Rattle.module_player.specs.declared.played.Played.{Played as Answer}
 use Rattle.state_format.specs.declared.parts.Script.{Script as ScriptPart}
 use Rattle.state_format.specs.declared.parts.Parts.{Parts}
 use Rattle.state_format.specs.Parts.{HasForm}
+use Rattle.state_parts.specs.Scripts.{script_parts}
 use Rattle.play_save.specs.Rules.{IsAccepted}
-use Rattle.play_save.specs.States.{script_parts, resting, MayLimit, IsPlayOf, HasCome, IsWorldOf}
+use Rattle.play_save.specs.States.{resting, MayLimit, IsPlayOf, HasCome, IsWorldOf}
 use Rattle.command_work.specs.declared.status.Status.{Status}
 use Rattle.command_work.specs.declared.status.Status.TheVariants as status
 use Rattle.command_work.specs.Work.{Does, Puts, Ends, Finished}

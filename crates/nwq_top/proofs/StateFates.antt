@@ -11,8 +11,8 @@ use Rattle.state_format.specs.declared.parts.Script.{Script as ScriptPart}
 use Rattle.state_format.specs.Parts.{HasForm}
 use Rattle.state_format.specs.Fields.{joined, parts_fields}
 use Rattle.state_format.specs.Place.{StateOf, BeginsWith, StateStopsAt}
+use Rattle.state_parts.specs.World.{world_of}
 use Rattle.play_save.specs.Rules.{Rule, rules, KeepsAll, IsAccepted, IsFirstBroken, IsSound}
-use Rattle.play_save.specs.World.{world_of}
 use Rattle.command_save.specs.Saves.{file_of, AreSpelled}
 use Rattle.command_save.specs.Resumes.{StateFate, IsStateFate, Whole, Stops, Unfit, whole, stops, unfit, Going, GoesFrom}
 use Rattle.nwq_top.proofs.Undeniable.{Undeniable, surely, by_it, with_it, either_way, Least, least_one}

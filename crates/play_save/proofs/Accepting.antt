@@ -33,9 +33,10 @@ use Rattle.state_format.specs.declared.parts.Entry.{Entry as Part}
 use Rattle.state_format.specs.declared.parts.Script.{Script}
 use Rattle.state_format.specs.declared.parts.Parts.{Parts}
 use Rattle.plan_text.specs.Plans.{Limits}
-use Rattle.play_save.specs.World.{saved_of, item_of, things_of, variables_of, kind_of, entry_of, entries_of}
+use Rattle.state_parts.specs.World.{saved_of, item_of, things_of, variables_of, kind_of, entry_of, entries_of}
+use Rattle.state_parts.specs.Scripts.{script_part, script_parts}
 use Rattle.play_save.specs.Rules.{IsHeaderOf, IsAreaOf, IsSound, HasHeader, HasScripts, HasArea, AreNamed, KeepsLimits, HasAgenda, HasStates, HasTurns, IsCapturedIn, ItemHolds, KindHolds, count_limit}
-use Rattle.play_save.specs.States.{script_part, script_parts, MayLimit, MayList, MayRest, MayCount, IsPlayOf, HasCome}
+use Rattle.play_save.specs.States.{MayLimit, MayList, MayRest, MayCount, IsPlayOf, HasCome}
 use Rattle.play_save.specs.Keeping.{Tells}
 use Rattle.play_save.proofs.CapturedLemmas.{Laws, one_table, one_file}
 use Rattle.std.specs.Option.{option_map}

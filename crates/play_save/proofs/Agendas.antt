@@ -8,10 +8,10 @@ use Rattle.delay_agenda.specs.Order.{IsBefore, is_before, put_entry, IsBeforeAll
 use Rattle.delay_agenda.specs.Waiting.{Waiting, IsAgenda}
 use Rattle.saved_state.specs.declared.saved.Saved.{Saved}
 use Rattle.state_format.specs.declared.parts.Entry.{Entry as Part}
-use Rattle.play_save.specs.World.{entry_of}
+use Rattle.state_parts.specs.World.{entry_of}
 use Rattle.play_save.specs.Rules.{AreWaiting}
 use Rattle.play_save.specs.Breaking.{IsWaiting, IsBeforeFirst, HasNumbers, AddsNumber, has_number, is_numbered}
-use Rattle.play_save.proofs.Lists.{map_more, drop_at}
+use Rattle.state_parts.specs.KeepingLemmas.{map_more, drop_at}
 
 -- ---- an entry put behind all others
 

@@ -24,7 +24,7 @@ use Rattle.state_format.specs.declared.parts.Object.{Object}
 use Rattle.state_format.specs.declared.parts.Entry.{Entry}
 use Rattle.state_format.specs.declared.parts.Script.{Script}
 use Rattle.state_format.specs.declared.parts.Parts.{Parts}
-use Rattle.play_save.specs.World.{saved_of}
+use Rattle.state_parts.specs.World.{saved_of}
 use Rattle.play_save.specs.Rules.{IsHeaderOf, IsFileOf, IsSound, IsCapturedIn, ItemHolds, KindHolds, HasStates}
 use Rattle.play_save.specs.Breaking.{AreScriptsOf, IsScriptOf, IsFitting, IsPreparedFor}
 use Rattle.play_save.specs.declared.prepare.Prepared.{Prepared}

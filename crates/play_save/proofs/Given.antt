@@ -17,7 +17,7 @@ use Rattle.state_format.specs.declared.parts.Variable.{Variable as VariablePart}
 use Rattle.state_format.specs.declared.parts.Object.{Object}
 use Rattle.state_format.specs.declared.parts.Entry.{Entry as Part}
 use Rattle.state_format.specs.declared.parts.Parts.{Parts}
-use Rattle.play_save.specs.World.{variable_of, variables_of, with_variables, things_of, entry_of, area_from, world_of}
+use Rattle.state_parts.specs.World.{variable_of, variables_of, with_variables, things_of, entry_of, area_from, world_of}
 use Rattle.play_save.specs.Rules.{HasAgenda, HasTurns}
 use Rattle.play_save.specs.Breaking.{IsReadFrom}
 use Rattle.play_save.proofs.Turning.{none_placed}

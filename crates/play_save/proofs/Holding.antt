@@ -30,7 +30,8 @@ use Rattle.ncs_machine.specs.Stored.{KindFits, ItemFits, StatesFit}
 use Rattle.play_save.specs.Rules.{IsAreaOf}
 use Rattle.play_save.specs.States.{resting}
 use Rattle.play_save.specs.Breaking.{IsReadFrom}
-use Rattle.play_save.specs.Keeping.{HoldsValue, HasCells, HasValues, KindHasValues, QueuesHaveValues}
+use Rattle.state_parts.specs.Keeping.{HoldsValue, HasCells, HasValues, KindHasValues}
+use Rattle.play_save.specs.Keeping.{QueuesHaveValues}
 
 -- ---- captured states
 

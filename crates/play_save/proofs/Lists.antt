@@ -1,21 +1,10 @@
 -- Lists that are made, and tested, member by member.
-use Rattle.std.proofs.Common.{◌≡◌, ◌<◌, ◌≤◌, ℕ, zero, suc, ◌+◌, ◌-◌, List, [], ◌∷◌, ◌++◌, length, take, drop, get_or, map, sym, ap, refl, ◌∙◌, add-one, subst, arith}
+use Rattle.std.proofs.Common.{◌≡◌, ◌<◌, ◌≤◌, ℕ, zero, suc, ◌+◌, ◌-◌, List, [], ◌∷◌, ◌++◌, length, take, drop, get_or, map, sym, ap, refl, ◌∙◌, subst, arith}
 use Rattle.std.specs.Prelude.{Bool, true, false, ◌&&◌, ◌↔◌, IsTrue}
 use Rattle.std.specs.List.{AllByRecursion, list_all}
 use Rattle.action_queue.specs.Queued.{Queued}
 use Rattle.action_queue.specs.declared.queue.Item.{Item}
-
-taken_more : {A B : Type 0} (f : A → B) (xs : List A) (i : ℕ) (x : A) → i < length xs → x ≡ get_or xs i x → map f (take (suc i) xs) ≡ map f (take i xs) ++ f x ∷ []
-taken_more f [] i x h e = absurd (omega arith)
-taken_more f (y ∷ ys) zero x h e = ap (λ z. f z ∷ []) (sym e)
-taken_more f (y ∷ ys) (suc i) x h e = ap (λ (l : List _). f y ∷ l) (taken_more f ys i x (omega arith) e)
-
--- one member more of those that were made
-pub map_more : {A B : Type 0} (f : A → B) (xs : List A) (i : ℕ) (x : A) (y : B) (old new : List B) → old ≡ map f (take i xs) → new ≡ old ++ y ∷ [] → y ≡ f x
-    → i < length xs → x ≡ get_or xs i x → new ≡ map f (take (i + 1) xs)
-map_more f xs i x y old new before grown is h e =
-    grown ∙ ap (λ (l : List _). l ++ y ∷ []) before ∙ ap (λ z. map f (take i xs) ++ z ∷ []) is ∙ sym (taken_more f xs i x h e)
-    ∙ ap (λ (k : ℕ). map f (take k xs)) (sym (add-one i))
+use Rattle.state_parts.specs.KeepingLemmas.{map_more}
 
 -- a member is what all are
 pub all_at : {A : Type 0} (P : A → Type 0) (xs : List A) (i : ℕ) (x : A) → AllByRecursion P xs → i < length xs → x ≡ get_or xs i x → P x
@@ -59,30 +48,10 @@ test_at p [] i x all h e = absurd (omega arith)
 test_at p (y ∷ ys) zero x all h e = subst (λ z. IsTrue (p z)) (sym e) (both_true (p y) (list_all p ys) all).0
 test_at p (y ∷ ys) (suc i) x all h e = test_at p ys i x (both_true (p y) (list_all p ys) all).1 (omega arith) e
 
-drop_more : {A : Type 0} (xs : List A) (i : ℕ) (x : A) → i < length xs → x ≡ get_or xs i x → drop i xs ≡ x ∷ drop (suc i) xs
-drop_more [] i x h e = absurd (omega arith)
-drop_more (y ∷ ys) zero x h e = ap (λ z. z ∷ ys) (sym e)
-drop_more (y ∷ ys) (suc i) x h e = drop_more ys i x (omega arith) e
-
--- the rest from a member on
-pub drop_at : {A : Type 0} (xs : List A) (i : ℕ) (x : A) → i < length xs → x ≡ get_or xs i x → drop i xs ≡ x ∷ drop (i + 1) xs
-drop_at xs i x h e = drop_more xs i x h e ∙ ap (λ (k : ℕ). x ∷ drop k xs) (sym (add-one i))
-
 pub all_drop : {A : Type 0} (P : A → Type 0) (xs : List A) (i : ℕ) → AllByRecursion P xs → AllByRecursion P (drop i xs)
 all_drop P xs zero all = all
 all_drop P [] (suc i) all = all
 all_drop P (y ∷ ys) (suc i) all = all_drop P ys i all.1
-
-all_taken : {A : Type 0} (P : A → Type 0) (xs : List A) (i : ℕ) (x : A) → AllByRecursion P (take i xs) → P x → i < length xs → x ≡ get_or xs i x
-    → AllByRecursion P (take (suc i) xs)
-all_taken P [] i x all is h e = absurd (omega arith)
-all_taken P (y ∷ ys) zero x all is h e = (subst P e is, tt)
-all_taken P (y ∷ ys) (suc i) x all is h e = (all.0, all_taken P ys i x all.1 is (omega arith) e)
-
--- what holds of those before and of one more holds of all so far
-pub all_more : {A : Type 0} (P : A → Type 0) (xs : List A) (i : ℕ) (x : A) → AllByRecursion P (take i xs) → P x → i < length xs → x ≡ get_or xs i x
-    → AllByRecursion P (take (i + 1) xs)
-all_more P xs i x all is h e = subst (λ k. AllByRecursion P (take k xs)) (sym (add-one i)) (all_taken P xs i x all is h e)
 
 -- one action more
 pub queue_more : {A X : Type 0} (f : A → Item X) (busy : Bool) (xs : List A) (i : ℕ) (x : A) (y : Item X) (old new : Queued X)

@@ -37,9 +37,11 @@ use Rattle.state_format.specs.declared.parts.Entry.{Entry as EntryPart}
 use Rattle.state_format.specs.Parts.{IsBlob, IsCaptured, IsCell, IsEntry, IsItem, IsKind, IsObject, IsStanding, IsVariable}
 use Rattle.state_format.specs.Fields.{number, tag, effect_fields, cell_fields, captured_fields, variable_fields, standing_fields, item_fields, object_fields, kind_fields, entry_fields}
 use Rattle.play_room.specs.Room.{IsText, CellHasRoom, SavedHasRoom, VariableHasRoom, StoodHasRoom, ItemHasRoom, ThingsHaveRoom, ObjectHasRoom, KindHasRoom, EntryHasRoom}
-use Rattle.play_save.specs.World.{cell_of, saved_of, variable_of, stood_of, item_of, kind_of, entry_of}
-use Rattle.play_save.specs.Rules.{is_short, is_short_cell, has_short_cells, is_short_item, has_short_items, is_short_kind, is_short_entry, count_limit}
-use Rattle.play_save.specs.Keeping.{IsPartOf, ArePartsOf, TellObjects, any_text}
+use Rattle.state_parts.specs.World.{cell_of, saved_of, variable_of, stood_of, item_of, kind_of, entry_of}
+use Rattle.state_parts.specs.ShortTexts.{is_short, is_short_cell, has_short_cells, is_short_item, has_short_items, is_short_kind, is_short_entry}
+use Rattle.state_parts.specs.Keeping.{IsPartOf, ArePartsOf, any_text}
+use Rattle.play_save.specs.Rules.{count_limit}
+use Rattle.play_save.specs.Keeping.{TellObjects}
 use Rattle.play_save.proofs.Sizes.{IfSmall, small_rest, effect_form, captured_form, number_form, text_form, standing_form, object_form}
 
 -- ---- lists

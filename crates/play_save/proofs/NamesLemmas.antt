@@ -7,8 +7,9 @@ use Rattle.std.proofs.lemmas.Bool.Decides.{nat_tests}
 use Rattle.nwq_text.specs.Names.{is_script_name}
 use Rattle.state_format.specs.declared.parts.Entry.{Entry}
 use Rattle.state_format.specs.declared.parts.Script.{Script}
+use Rattle.state_parts.specs.KeepingLemmas.{drop_at}
 use Rattle.play_save.specs.Rules.{AreNamed, count_limit}
-use Rattle.play_save.proofs.Lists.{tests_all, drop_at, rest_whole}
+use Rattle.play_save.proofs.Lists.{tests_all, rest_whole}
 
 -- ---- counts
 

@@ -26,11 +26,11 @@ use Rattle.state_format.specs.declared.parts.Object.{Object}
 use Rattle.state_format.specs.declared.parts.Entry.{Entry}
 use Rattle.state_format.specs.declared.parts.Script.{Script}
 use Rattle.state_format.specs.declared.parts.Parts.{Parts}
-use Rattle.play_save.specs.World.{saved_of, item_of, things_of, entry_of, world_of}
+use Rattle.state_parts.specs.World.{saved_of, item_of, things_of, entry_of, world_of}
 use Rattle.play_save.specs.Rules.{ItemHolds, KindHolds, Rule, rules, KeepsAll, IsFirstBroken, IsAccepted}
 use Rattle.play_save.specs.declared.fault.StateFault.{StateFault}
 use Rattle.play_save.specs.declared.fault.StateFault.TheVariants as fault
-use Rattle.play_save.specs.States.{script_parts}
+use Rattle.state_parts.specs.Scripts.{script_parts}
 use Rattle.play_save.specs.Breaking.{AreScriptsOf, IsFitting, BreaksFirst}
 use Rattle.play_save.proofs.Lists.{take_whole}
 

@@ -16,9 +16,10 @@ use Rattle.ncs_machine.specs.declared.scripts.Loaded.{Loaded}
 use Rattle.state_format.specs.declared.parts.Object.{Object}
 use Rattle.state_format.specs.declared.parts.Parts.{Parts}
 use Rattle.plan_text.specs.Plans.{Limits}
-use Rattle.play_save.specs.World.{variables_of, with_variables, things_of, entries_of, area_from, world_of}
+use Rattle.state_parts.specs.World.{variables_of, with_variables, things_of, entries_of, area_from, world_of}
+use Rattle.state_parts.specs.Scripts.{script_parts}
 use Rattle.play_save.specs.Rules.{IsAreaOf, IsAccepted}
-use Rattle.play_save.specs.States.{script_parts, resting, MayLimit, MayList, MayRest, MayCount, IsPlayOf, HasCome, IsWorldOf}
+use Rattle.play_save.specs.States.{resting, MayLimit, MayList, MayRest, MayCount, IsPlayOf, HasCome, IsWorldOf}
 use Rattle.play_save.specs.Keeping.{Tells}
 use Rattle.play_save.proofs.CapturedLemmas.{Laws}
 use Rattle.play_save.proofs.Accepting.{header_there, scripts_there, area_there, limits_kept, agenda_there, states_there, turns_there}

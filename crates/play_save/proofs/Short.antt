@@ -7,8 +7,8 @@ use Rattle.nwq_value.specs.Limits.{text_limit}
 use Rattle.local_variables.specs.Variables.{Variable, same_variable}
 use Rattle.local_variables.specs.Laws.{SameIsEquivalence}
 use Rattle.state_format.specs.declared.parts.Variable.{Variable as Part}
-use Rattle.play_save.specs.World.{variable_of}
-use Rattle.play_save.specs.Rules.{is_short}
+use Rattle.state_parts.specs.World.{variable_of}
+use Rattle.state_parts.specs.ShortTexts.{is_short}
 use Rattle.play_save.proofs.Lists.{take_whole}
 
 is_within : (text : List ℕ) → IsTrue (is_short text) → length text ≤ text_limit

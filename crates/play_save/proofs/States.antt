@@ -38,13 +38,13 @@ use Rattle.state_format.specs.declared.parts.Parts.{Parts}
 use Rattle.state_format.specs.Parts.{HasForm, IsList, IsNumber, IsObject, IsScript}
 use Rattle.state_format.specs.Fields.{parts_bytes}
 use Rattle.play_room.specs.Room.{HasRoom}
-use Rattle.play_save.specs.World.{saved_of, item_of, things_of, kind_of, entry_of}
+use Rattle.state_parts.specs.World.{saved_of, item_of, things_of, kind_of, entry_of}
 use Rattle.play_save.specs.Rules.{IsHeaderOf, IsSound, IsAccepted, HasArea, KeepsLimits, HasStates, HasTurns, IsCapturedIn, ItemHolds, KindHolds, count_limit}
 use Rattle.play_save.specs.States.{resting, MayLimit, MayCount}
 use Rattle.play_save.specs.Keeping.{Tells}
 use Rattle.play_save.specs.Written.{AreListed, Rests, listed_part, PlaysHaveStates}
 use Rattle.play_save.proofs.CapturedLemmas.{one_table, one_file}
-use Rattle.play_save.proofs.Keeping.{all_got}
+use Rattle.state_parts.specs.KeepingLemmas.{all_got}
 use Rattle.play_save.proofs.Accepting.{all_back, length_map, map_map, same_count, own_variables, queue_here, no_items, agenda_there}
 use Rattle.play_save.proofs.Saving.{world_saved, world_too}
 use Rattle.play_save.proofs.FileBytes.{name_blob, file_blob}

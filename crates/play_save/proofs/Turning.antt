@@ -15,11 +15,11 @@ use Rattle.state_format.specs.declared.parts.Entry.{Entry as Part}
 use Rattle.state_format.specs.declared.parts.KindPart.{KindPart}
 use Rattle.state_format.specs.declared.parts.KindPart.TheVariants as kind
 use Rattle.state_format.specs.declared.parts.Object.{Object}
-use Rattle.play_save.specs.World.{entry_of, kind_of}
+use Rattle.state_parts.specs.World.{entry_of, kind_of}
 use Rattle.state_format.specs.declared.parts.Parts.{Parts}
 use Rattle.play_save.specs.Rules.{IsSettledBy, AreSettled, HasTurns}
 use Rattle.play_save.specs.Breaking.{CountsOne, CountsTurns, IsTurnOnlyOf}
-use Rattle.play_save.proofs.Lists.{map_more}
+use Rattle.state_parts.specs.KeepingLemmas.{map_more}
 
 -- ---- one entry more
 

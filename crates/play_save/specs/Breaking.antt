@@ -22,7 +22,7 @@ use Rattle.state_format.specs.declared.parts.Script.{Script}
 use Rattle.state_format.specs.declared.parts.Parts.{Parts}
 use Rattle.play_save.specs.declared.fault.StateFault.{StateFault}
 use Rattle.play_save.specs.declared.fault.StateFault.TheVariants as fault
-use Rattle.play_save.specs.World.{saved_of, kind_of, entry_of}
+use Rattle.state_parts.specs.World.{saved_of, kind_of, entry_of}
 use Rattle.play_save.specs.Rules.{IsHeaderOf, IsFileOf, IsAreaOf, HasStates, HasTurns, IsUnfit}
 use Rattle.play_save.specs.declared.prepare.Prepared.{Prepared}
 

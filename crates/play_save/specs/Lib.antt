@@ -1,4 +1,3 @@
-pub mod World
 pub mod Rules
 pub mod States
 pub mod Breaking

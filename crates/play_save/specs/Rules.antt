@@ -1,10 +1,10 @@
 -- Which states a play can go on from: seven rules, and the first that is broken.
-use Rattle.std.specs.Prelude.{◌≡◌, ◌<◌, ◌≤◌, ◌^◌, ◌⊎◌, ℕ, zero, suc, Bool, true, false, ◌&&◌, nat_le, List, [], ◌∷◌, length, map, Option, None, Some, IsTrue, slice_get}
+use Rattle.std.specs.Prelude.{◌≡◌, ◌<◌, ◌≤◌, ◌^◌, ◌⊎◌, ℕ, zero, suc, false, List, [], ◌∷◌, length, map, Option, None, Some, IsTrue, slice_get}
 use Rattle.std.specs.List.{AllByRecursion, IsDistinct, list_all}
 use Rattle.std.specs.Str.{bytes_eq}
 use Rattle.nwq_value.specs.Engine.{EngineTable}
 use Rattle.nwq_value.specs.HeaderTable.{header_table}
-use Rattle.nwq_value.specs.Limits.{file_limit, text_limit, instruction_limit, entry_limit, time_limit, script_limit, random_limit}
+use Rattle.nwq_value.specs.Limits.{file_limit, instruction_limit, entry_limit, time_limit, script_limit, random_limit}
 use Rattle.nwq_text.specs.Names.{is_script_name}
 use Rattle.engine_table.specs.Headers.{HasTable}
 use Rattle.ncs_code.specs.Plain.{PlainOp}
@@ -21,8 +21,6 @@ use Rattle.world_rules.specs.Kept.{IsPlaced, turns_allowed}
 use Rattle.stack_rules.specs.Tables.{ShapeTable}
 use Rattle.stack_rules.specs.Rules.{MeetsRules, WellStacked}
 use Rattle.stack_rules.specs.Fits.{Fits}
-use Rattle.state_format.specs.declared.parts.Cell.{Cell}
-use Rattle.state_format.specs.declared.parts.Cell.TheVariants as cell
 use Rattle.state_format.specs.declared.parts.Captured.{Captured}
 use Rattle.state_format.specs.declared.parts.Item.{Item}
 use Rattle.state_format.specs.declared.parts.Item.TheVariants as item
@@ -32,7 +30,8 @@ use Rattle.state_format.specs.declared.parts.KindPart.TheVariants as kind
 use Rattle.state_format.specs.declared.parts.Entry.{Entry}
 use Rattle.state_format.specs.declared.parts.Script.{Script}
 use Rattle.state_format.specs.declared.parts.Parts.{Parts}
-use Rattle.play_save.specs.World.{saved_of, variables_of, kind_of, entry_of, entries_of}
+use Rattle.state_parts.specs.World.{saved_of, variables_of, kind_of, entry_of, entries_of}
+use Rattle.state_parts.specs.ShortTexts.{has_short_items, is_short_entry}
 
 -- ---- 1: the header
 
@@ -75,7 +74,7 @@ pub record HasArea (s : Parts) : Type 0 where
   pub area : IsAreaOf tree s.area
   pub counted : length s.objects ≡ length (objects_of tree.top)
 
--- ---- captured states and texts, wherever they are
+-- ---- captured states, wherever they are
 
 -- a captured state of an action, and of an entry, is so
 abbrev pub ItemHolds : (Captured → Type 0) → Item → Type 0
@@ -88,43 +87,6 @@ KindHolds Is (kind.Event o script user) = Unit {0}
 KindHolds Is (kind.Stored o c) = Is c
 KindHolds Is (kind.Turn o) = Unit {0}
 KindHolds Is (kind.Unapply o) = Unit {0}
-
--- a text is as long as a string may be
-abbrev pub is_short : List ℕ → Bool
-is_short text = nat_le (length text) text_limit
-
-abbrev pub is_short_cell : Cell → Bool
-is_short_cell (cell.Int n) = true
-is_short_cell (cell.Text text) = is_short text
-is_short_cell (cell.Object o) = true
-is_short_cell (cell.Effect e) = true
-is_short_cell (cell.Event n) = true
-
-abbrev pub are_short_cells : List Cell → Bool
-are_short_cells cells = list_all is_short_cell cells
-
-abbrev pub has_short_cells : Captured → Bool
-has_short_cells c = are_short_cells c.globals && are_short_cells c.locals
-
-abbrev pub is_short_item : Item → Bool
-is_short_item (item.Do c) = has_short_cells c
-is_short_item (item.Wait ms) = true
-is_short_item (item.Speak text) = is_short text
-
-abbrev pub are_short_items : List Item → Bool
-are_short_items items = list_all is_short_item items
-
-abbrev pub has_short_items : Object → Bool
-has_short_items o = are_short_items o.items
-
-abbrev pub is_short_kind : KindPart → Bool
-is_short_kind (kind.Event o script user) = is_short script
-is_short_kind (kind.Stored o c) = has_short_cells c
-is_short_kind (kind.Turn o) = true
-is_short_kind (kind.Unapply o) = true
-
-abbrev pub is_short_entry : Entry → Bool
-is_short_entry e = is_short_kind e.kind
 
 -- ---- 4: limits, names and texts
 

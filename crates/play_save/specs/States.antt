@@ -5,7 +5,6 @@ use Rattle.std.specs.Str.{bytes_eq}
 use Rattle.nwq_value.specs.Engine.{EngineTable}
 use Rattle.nwq_value.specs.Limits.{instruction_limit, entry_limit, time_limit, script_limit, random_limit}
 use Rattle.nwq_text.specs.Names.{is_script_name}
-use Rattle.ncs_code.specs.File.{file_bytes}
 use Rattle.plan_text.specs.Plans.{Limits}
 use Rattle.gff_tree.specs.Whole.{PlainGff}
 use Rattle.delay_agenda.specs.declared.entry.Entry.{Entry}
@@ -23,17 +22,8 @@ use Rattle.state_format.specs.declared.parts.Parts.{Parts}
 use Rattle.state_format.specs.Place.{StateOf, StateStopsAt}
 use Rattle.play_save.specs.declared.fault.StateFault.{StateFault}
 use Rattle.play_save.specs.declared.fault.StateFault.TheVariants as fault
-use Rattle.play_save.specs.World.{world_of}
+use Rattle.state_parts.specs.World.{world_of}
 use Rattle.play_save.specs.Rules.{IsHeaderOf, IsAreaOf, IsUnfit, count_limit}
-
--- ---- the scripts
-
--- a listed script as a state has it: its name, and the bytes of its file
-abbrev pub script_part : Loaded → Script
-script_part l = record { name = l.name; code = file_bytes l.code.code }
-
-abbrev pub script_parts : List Loaded → List Script
-script_parts scripts = map script_part scripts
 
 -- ---- the world
 

@@ -2,8 +2,8 @@
 ghost use Rattle.std.specs.Prelude.{◌≡◌, map, IfOk, IsTrue};
 ghost use Rattle.std.specs.List.{list_all};
 ghost use Rattle.delay_agenda.specs.Waiting.{IsAgenda};
-ghost use Rattle.play_save.specs.World.{entry_of, kind_of};
-ghost use Rattle.play_save.specs.Rules.{is_short_entry, is_short_kind};
+ghost use Rattle.state_parts.specs.World.{entry_of, kind_of};
+ghost use Rattle.state_parts.specs.ShortTexts.{is_short_entry, is_short_kind};
 
 use crate::values::{saved, text};
 use delay_agenda::{Agenda, Entry, Kind};

@@ -1,8 +1,9 @@
 //! Whether captured states fit the code of their scripts.
 ghost use Rattle.std.specs.Prelude.{◌≡◌, ◌↔◌, IfOk, IsTrue};
 ghost use Rattle.std.specs.List.{list_all, AllByRecursion};
-ghost use Rattle.play_save.specs.Rules.{are_short_items, has_short_cells, has_short_items};
-ghost use Rattle.play_save.specs.Rules.{is_short_entry, is_short_item, ItemHolds, KindHolds};
+ghost use Rattle.state_parts.specs.ShortTexts.{are_short_items, has_short_cells, has_short_items};
+ghost use Rattle.state_parts.specs.ShortTexts.{is_short_entry, is_short_item};
+ghost use Rattle.play_save.specs.Rules.{ItemHolds, KindHolds};
 ghost use Rattle.play_save.specs.Breaking.{IsFitting};
 
 use crate::values::saved;

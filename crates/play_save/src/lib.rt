@@ -8,17 +8,14 @@
 //! break, so no file that is read leads to a fault of the stack, whoever made it.
 //!
 //! [`State::of`] takes a play's state, [`put_state`] writes it, and [`State::restore`] gives the
-//! world that it tells (`specs/World.antt`), with which a play goes on as if it had never been
-//! broken off. docs/SAVES.md tells the format and the rules.
+//! world that it tells (`state_parts/specs/World.antt`), with which a play goes on as if it had
+//! never been broken off. docs/SAVES.md tells the format and the rules.
 #![tactic(auto)]
 
 mod entries;
 mod fault;
 mod fitting;
 mod keep;
-mod kept_entries;
-mod kept_objects;
-mod kept_values;
 mod laws;
 mod limits;
 mod prepare;

@@ -3,12 +3,11 @@ ghost use Rattle.std.specs.Prelude.{◌≡◌, ◌↔◌, ◌<◌, ◌&&◌, nat
 ghost use Rattle.std.specs.List.{list_all, AllByRecursion, IsDistinct};
 ghost use Rattle.std.specs.Str.{bytes_eq};
 ghost use Rattle.local_variables.specs.Variables.{same_variable};
-ghost use Rattle.play_save.specs.World.{variables_of};
-ghost use Rattle.play_save.specs.Rules.{are_short_cells, are_short_items, count_limit};
-ghost use Rattle.play_save.specs.Rules.{has_short_cells, has_short_items, is_short};
-ghost use Rattle.play_save.specs.Rules.{is_short_cell, is_short_entry, is_short_item};
-ghost use Rattle.play_save.specs.Rules.{is_short_kind, AreNamed, HasBounds, HasCounts};
-ghost use Rattle.play_save.specs.Rules.{KeepsLimits};
+ghost use Rattle.state_parts.specs.World.{variables_of};
+ghost use Rattle.state_parts.specs.ShortTexts.{are_short_cells, are_short_items, has_short_cells};
+ghost use Rattle.state_parts.specs.ShortTexts.{has_short_items, is_short, is_short_cell};
+ghost use Rattle.state_parts.specs.ShortTexts.{is_short_entry, is_short_item, is_short_kind};
+ghost use Rattle.play_save.specs.Rules.{count_limit, AreNamed, HasBounds, HasCounts, KeepsLimits};
 ghost use Rattle.play_save.specs.Breaking.{Breaks};
 
 use crate::fault::StateFault;

@@ -12,11 +12,11 @@ ghost use Rattle.state_format.specs.Fields.{parts_bytes};
 ghost use Rattle.state_format.specs.Parts.{HasForm};
 ghost use Rattle.state_format.specs.Place.{StateOf, IsTooLarge};
 ghost use Rattle.state_format.specs.declared.parts.Parts.{Parts as PlainParts};
-ghost use Rattle.play_save.specs.World.{world_of};
+ghost use Rattle.state_parts.specs.World.{world_of};
+ghost use Rattle.state_parts.specs.Scripts.{script_parts};
 ghost use Rattle.play_save.specs.Rules.{IsHeaderOf, IsAccepted};
-ghost use Rattle.play_save.specs.States.{HasCome, IsPlayOf, IsWorldOf, MayCount};
-ghost use Rattle.play_save.specs.States.{MayLimit, MayList, MayRest, Refuses, resting};
-ghost use Rattle.play_save.specs.States.{script_parts};
+ghost use Rattle.play_save.specs.States.{HasCome, IsPlayOf, IsWorldOf, MayCount, MayLimit, MayList};
+ghost use Rattle.play_save.specs.States.{MayRest, Refuses, resting};
 ghost use Rattle.play_save.specs.declared.fault.StateFault.TheVariants.{NoMemory as NoRoom};
 
 use crate::fault::StateFault;

@@ -3,8 +3,8 @@ ghost use Rattle.std.specs.Prelude.{◌≡◌, map, IfOk, IsTrue, MatchOption};
 ghost use Rattle.std.specs.List.{list_all, IsDistinct};
 ghost use Rattle.local_variables.specs.Variables.{same_variable};
 ghost use Rattle.local_variables.specs.Variables.{variable_of as variable_seen};
-ghost use Rattle.play_save.specs.World.{item_of, stood_of, things_of, variable_of};
-ghost use Rattle.play_save.specs.Rules.{are_short_items, has_short_items, is_short_item};
+ghost use Rattle.state_parts.specs.World.{item_of, stood_of, things_of, variable_of};
+ghost use Rattle.state_parts.specs.ShortTexts.{are_short_items, has_short_items, is_short_item};
 
 use crate::values::{effect, saved, text};
 use action_queue::{Item, Queue};

@@ -4,7 +4,7 @@ ghost use Rattle.std.specs.Prelude.{length, map, suc, slice_get, Some, IfOk, IsT
 ghost use Rattle.std.specs.List.{AllByRecursion};
 ghost use Rattle.delay_agenda.specs.Waiting.{turn_count};
 ghost use Rattle.world_rules.specs.Kept.{IsPlaced, turns_allowed};
-ghost use Rattle.play_save.specs.World.{entry_of, kind_of};
+ghost use Rattle.state_parts.specs.World.{entry_of, kind_of};
 ghost use Rattle.play_save.specs.Rules.{IsSettledBy, AreSettled};
 ghost use Rattle.play_save.specs.Breaking.{CountsOne, CountsTurns, IsTurnOnlyOf};
 

@@ -1,9 +1,9 @@
 //! The values of a state's parts.
 ghost use Rattle.std.specs.Prelude.{◌≡◌, map, IfOk, IsTrue};
 ghost use Rattle.saved_state.specs.declared.cell.Cell.TheVariants.{Value as Holds};
-ghost use Rattle.play_save.specs.World.{cell_of, effect_of, saved_of};
-ghost use Rattle.play_save.specs.Rules.{are_short_cells, has_short_cells, is_short};
-ghost use Rattle.play_save.specs.Rules.{is_short_cell};
+ghost use Rattle.state_parts.specs.World.{cell_of, effect_of, saved_of};
+ghost use Rattle.state_parts.specs.ShortTexts.{are_short_cells, has_short_cells, is_short};
+ghost use Rattle.state_parts.specs.ShortTexts.{is_short_cell};
 
 use nwq_value::{Effect, Ints, Items, NoMemory, Text, Value};
 use saved_state::{Cell, Cells, Saved};

@@ -1,6 +1,6 @@
 //! Whether the entries of a state's agenda can wait.
 ghost use Rattle.std.specs.Prelude.{◌≡◌, ◌↔◌, not, IfOk, IsTrue, MatchResult};
-ghost use Rattle.play_save.specs.World.{kind_of};
+ghost use Rattle.state_parts.specs.World.{kind_of};
 ghost use Rattle.play_save.specs.Rules.{AreWaiting};
 ghost use Rattle.play_save.specs.Breaking.{has_number, AddsNumber, Breaks, IsBeforeFirst};
 ghost use Rattle.play_save.specs.Breaking.{IsWaiting};

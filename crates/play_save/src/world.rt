@@ -4,7 +4,7 @@ ghost use Rattle.std.specs.List.{AllByRecursion, IsDistinct};
 ghost use Rattle.local_variables.specs.Variables.{same_variable};
 ghost use Rattle.area_rules.specs.Area.{area_of};
 ghost use Rattle.gff_tree.specs.Whole.{PlainGff};
-ghost use Rattle.play_save.specs.World.{variables_of, with_variables, world_of};
+ghost use Rattle.state_parts.specs.World.{variables_of, with_variables, world_of};
 ghost use Rattle.play_save.specs.Rules.{HasAgenda, HasTexts, HasTurns};
 ghost use Rattle.play_save.specs.Breaking.{IsReadFrom};
 

@@ -1,5 +1,5 @@
 use Rattle.std.proofs.Common.{◌≡◌, map, take}
-use Rattle.play_save.specs.World.{entry_of}
+use Rattle.state_parts.specs.World.{entry_of}
 use Rattle.play_save.proofs.entries.agenda.Given as goal
 
 abbrev pub invariant-loop-part : goal.invariant-loop-part

@@ -3,9 +3,11 @@ use Rattle.saved_state.specs.declared.saved.Saved.{Saved}
 use Rattle.state_format.specs.declared.parts.Object.{Object}
 use Rattle.world_rules.specs.declared.data.Things.{Things}
 use Rattle.std.specs.List.{AllByRecursion}
-use Rattle.play_save.specs.Keeping.{AreObjectsOf, HasValues}
+use Rattle.state_parts.specs.Keeping.{HasValues}
+use Rattle.state_parts.specs.KeepingLemmas.{count_more}
+use Rattle.play_save.specs.Keeping.{AreObjectsOf}
 use Rattle.play_save.proofs.Lists.{all_at}
-use Rattle.play_save.proofs.Keeping.{none_kept, objects_more, objects_end, count_more, object_here}
+use Rattle.play_save.proofs.Keeping.{none_kept, objects_more, objects_end, object_here}
 use Rattle.play_save.proofs.keep.objects.Goals as goal
 
 pub loop-i-init : goal.loop-i-init

@@ -1,7 +1,7 @@
 use Rattle.std.proofs.Common.{ℕ, List, length, get_or, sym, ap, refl, ◌∙◌, ◌≤◌, ◌<◌, subst, arith}
 use Rattle.state_format.specs.Parts.{IsNumber}
-use Rattle.play_save.specs.Keeping.{any_text}
-use Rattle.play_save.proofs.Keeping.{keep_none, keep_by, keep_end, keep_few, map_same}
+use Rattle.state_parts.specs.Keeping.{any_text}
+use Rattle.state_parts.specs.KeepingLemmas.{keep_none, keep_by, keep_end, keep_few, map_same}
 use Rattle.play_save.proofs.keep.randoms.Goals as goal
 
 pub loop-n-init : goal.loop-n-init

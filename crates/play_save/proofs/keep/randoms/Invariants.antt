@@ -1,7 +1,7 @@
 use Rattle.std.proofs.Common.{drop, ℕ}
 use Rattle.state_format.specs.Parts.{IsNumber}
-use Rattle.play_save.specs.Keeping.{any_text}
-use Rattle.play_save.proofs.Keeping.{IsKeeping}
+use Rattle.state_parts.specs.Keeping.{any_text}
+use Rattle.state_parts.specs.KeepingLemmas.{IsKeeping}
 use Rattle.play_save.proofs.keep.randoms.Given as goal
 
 abbrev pub invariant-loop-n : goal.invariant-loop-n

@@ -1,6 +1,7 @@
-use Rattle.play_save.specs.World.{things_of}
-use Rattle.play_save.specs.Rules.{has_short_items}
-use Rattle.play_save.proofs.Lists.{map_more, test_at}
+use Rattle.state_parts.specs.World.{things_of}
+use Rattle.state_parts.specs.ShortTexts.{has_short_items}
+use Rattle.state_parts.specs.KeepingLemmas.{map_more}
+use Rattle.play_save.proofs.Lists.{test_at}
 use Rattle.play_save.proofs.things.objects.Goals as goal
 
 pub things-requires : goal.things-requires

@@ -1,5 +1,5 @@
-use Rattle.play_save.specs.World.{item_of}
-use Rattle.play_save.specs.Rules.{is_short_item}
+use Rattle.state_parts.specs.World.{item_of}
+use Rattle.state_parts.specs.ShortTexts.{is_short_item}
 use Rattle.play_save.proofs.Lists.{queue_more, test_at}
 use Rattle.play_save.proofs.things.queue.Goals as goal
 

@@ -1,6 +1,6 @@
 use Rattle.std.proofs.Common.{ap}
-use Rattle.play_save.specs.World.{stood_of}
-use Rattle.play_save.proofs.Lists.{map_more}
+use Rattle.state_parts.specs.World.{stood_of}
+use Rattle.state_parts.specs.KeepingLemmas.{map_more}
 use Rattle.play_save.proofs.things.standing.Goals as goal
 
 pub loop-part-preserved : goal.loop-part-preserved

@@ -1,6 +1,7 @@
-use Rattle.play_save.specs.World.{cell_of}
-use Rattle.play_save.specs.Rules.{is_short_cell}
-use Rattle.play_save.proofs.Lists.{map_more, test_at}
+use Rattle.state_parts.specs.World.{cell_of}
+use Rattle.state_parts.specs.ShortTexts.{is_short_cell}
+use Rattle.state_parts.specs.KeepingLemmas.{map_more}
+use Rattle.play_save.proofs.Lists.{test_at}
 use Rattle.play_save.proofs.values.cells.Goals as goal
 
 pub value-requires : goal.value-requires

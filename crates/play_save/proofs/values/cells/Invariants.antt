@@ -1,5 +1,5 @@
 use Rattle.std.proofs.Common.{◌≡◌, map, take}
-use Rattle.play_save.specs.World.{cell_of}
+use Rattle.state_parts.specs.World.{cell_of}
 use Rattle.play_save.proofs.values.cells.Given as goal
 
 abbrev pub invariant-loop-part : goal.invariant-loop-part

@@ -2,7 +2,7 @@ use Rattle.std.proofs.Common.{refl, arith, ap, sym, ◌∙◌}
 use Rattle.std.specs.List.{IsDistinct}
 use Rattle.local_variables.specs.Variables.{same_variable}
 use Rattle.state_format.specs.declared.parts.Object.{Object}
-use Rattle.play_save.specs.World.{variables_of}
+use Rattle.state_parts.specs.World.{variables_of}
 use Rattle.play_save.proofs.Lists.{all_at}
 use Rattle.play_save.proofs.Given.{given_none, given_more, given_within, given_whole, made_of, made_not}
 use Rattle.play_save.proofs.world.give.Goals as goal

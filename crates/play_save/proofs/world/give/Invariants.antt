@@ -1,5 +1,5 @@
 use Rattle.std.proofs.Common.{◌≡◌, take}
-use Rattle.play_save.specs.World.{with_variables}
+use Rattle.state_parts.specs.World.{with_variables}
 use Rattle.play_save.proofs.world.give.Given as goal
 
 abbrev pub invariant-loop-i : goal.invariant-loop-i

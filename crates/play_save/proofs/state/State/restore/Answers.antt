@@ -1,7 +1,8 @@
 use Rattle.std.proofs.Common.{subst}
 use Rattle.state_format.specs.declared.parts.Parts.{Parts}
+use Rattle.state_parts.specs.Scripts.{script_parts}
 use Rattle.play_save.specs.Rules.{IsHeaderOf}
-use Rattle.play_save.specs.States.{script_parts, IsPlayOf, HasCome, IsWorldOf}
+use Rattle.play_save.specs.States.{IsPlayOf, HasCome, IsWorldOf}
 use Rattle.play_save.proofs.state.State.restore.Goals as goal
 
 pub open-requires : goal.open-requires

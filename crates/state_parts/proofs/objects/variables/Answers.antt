@@ -1,0 +1,34 @@
+use Rattle.std.proofs.Common.{arith, ap, ◌∙◌, drop, List}
+use Rattle.std.specs.Prelude.{slice_get}
+use Rattle.local_variables.specs.Variables.{Variable, variable_of as variable_seen}
+use Rattle.state_format.specs.Parts.{IsVariable}
+use Rattle.state_parts.specs.World.{variable_of}
+use Rattle.state_parts.specs.Keeping.{any_text}
+use Rattle.state_parts.specs.KeepingLemmas.{keep_none, keep_end, keep_few}
+use Rattle.state_parts.proofs.Keeping.{keep_got, seen_none, seen_some, got_within, first_left, left_more}
+use Rattle.state_parts.proofs.objects.variables.Goals as goal
+
+pub loop-done-init : goal.loop-done-init
+loop-done-init c = (keep_none variable_of IsVariable any_text c.args.vars.now c.new-all.result c.new-all.ensures.empty, c.walk-walk.ensures.all)
+
+pub loop-done-preserved : goal.loop-done-preserved
+loop-done-preserved c =
+    let next = c.next.ensures.first ∙ ap (λ (l : List Variable). slice_get l 0) c.loop-done.invariant.1 ∙ first_left c.args.vars.now c.loop-done._done in (
+      keep_got variable_of IsVariable any_text c.args.vars.now c.loop-done._done (variable_seen c.in-Some.v) c.loop-done.all c.push.new.self c.in_ok-variable-in-Some.field-0
+          c.loop-done.invariant.0 c.in_ok-push-in-Some.ensures.ok c.in_ok-variable-in-Some.ensures.part
+          (seen_some variable_seen c.args.vars.now c.loop-done._done c.next.result c.in-Some.v next c.in-Some.is),
+      c.next.ensures.rest ∙ ap (λ (l : List Variable). drop 1 l) c.loop-done.invariant.1 ∙ left_more c.args.vars.now c.loop-done._done,
+    )
+
+pub unreachable-requires : goal.unreachable-requires
+unreachable-requires c =
+    let next = c.next.ensures.first ∙ ap (λ (l : List Variable). slice_get l 0) c.loop-done.invariant.1 ∙ first_left c.args.vars.now c.loop-done._done in
+    let past = got_within c.args.vars.now c.loop-done._done (seen_none variable_seen c.args.vars.now c.loop-done._done c.next.result next c.in-None.is) in
+    omega (arith, past, c.loop-done-test.true, c.len-done-end.ensures.len)
+
+pub returns : goal.returns
+returns c = record {
+  parts = keep_end variable_of IsVariable any_text c.args.vars.now c.loop-done._done c.loop-done.all c.loop-done.invariant.0 (omega (arith, c.loop-done-test.false, c.len-done-end.ensures.len));
+  few = keep_few variable_of IsVariable any_text c.args.vars.now _ c.loop-done._done c.loop-done.all c.loop-done.invariant.0
+      (omega (arith, c.if-len-gt-MOST.false, c.len.ensures.len, c.len-done-end.ensures.len, c.loop-done.auto._done-end));
+}
