@@ -10,7 +10,7 @@ use Rattle.nss_parser.specs.Sentence.{TreeOrPlace}
 use Rattle.engine_table.specs.Headers.{OneHeader}
 use Rattle.engine_table.specs.KeptTables.{HeadersHaveTables, BuiltInIsTable}
 use Rattle.typing_rules.specs.Laws.{VerdictsAreRight, NoneKeptIsTyped}
-use Rattle.ncs_code.specs.Laws.{SizeLaws, PlaceLaws}
+use Rattle.ncs_code.specs.Laws.{SpellingLaws, SizeLaws, PlaceLaws}
 use Rattle.generator_laws.specs.Scripts.{SourcesCompile}
 use Rattle.plan_text.specs.Plans.{PlansKeep}
 use Rattle.play_room.specs.Kept.{CellsAreBytes}
@@ -86,7 +86,7 @@ numbered words = one_of (list_any is_option words) NoForm (command_form words) t
 -- ---- the forms
 
 module _ (header : OneHeader) (some : SomeSplit) (trees : TreeOrPlace) (right : VerdictsAreRight) (settled : NoneKeptIsTyped) (pass : UnitsPass) (have : ScriptsHaveUnits)
-    (reads : HeadersHaveTables) (own : BuiltInIsTable) (made : SourcesCompile) (sizes : SizeLaws) (places : PlaceLaws) (laws : TreeLaws)
+    (reads : HeadersHaveTables) (own : BuiltInIsTable) (made : SourcesCompile) (spells : SpellingLaws) (sizes : SizeLaws) (places : PlaceLaws) (laws : TreeLaws)
     (code : CodeIsBytes) (states : FirstEntriesHaveStates) (plans : PlansKeep) where
   plain_goes : (cell : CellLookup) (form : Form) → IsNumbered form → IsPlainForm form → (c : Contents) → ContentsAreBytes c → Goes (work_of cell form) c Anything
   plain_goes cell (Run word script) small plain c held = run_goes header some trees right settled pass have reads own cell word script c held
@@ -94,7 +94,7 @@ module _ (header : OneHeader) (some : SomeSplit) (trees : TreeOrPlace) (right : 
   plain_goes cell (Tree file) small plain c held = shows_tree_goes laws file c
   plain_goes cell (Check word file) small plain c held = absurd plain
   plain_goes cell (Disassemble file to) small plain c held = disassemble_goes sizes places file to c (files_of_bytes c held)
-  plain_goes cell (Assemble file to) small plain c held = absurd plain
+  plain_goes cell (Assemble file to) small plain c held = assemble_goes sizes places spells file to c
   plain_goes cell (Play word area plan to list) small plain c held = absurd plain
   plain_goes cell (Generate number) small plain c held = generate_goes header some trees right settled pass have reads own made cell number small c
   plain_goes cell (Save word area plan entries state list) small plain c held = absurd plain
@@ -111,7 +111,7 @@ module _ (header : OneHeader) (some : SomeSplit) (trees : TreeOrPlace) (right : 
   form_goes cell cells (Tree file) small c held = surely (shows_tree_goes laws file c)
   form_goes cell cells (Check word file) small c held = check_goes sizes places header word file c (files_of_bytes c held)
   form_goes cell cells (Disassemble file to) small c held = surely (plain_goes cell (Disassemble file to) tt tt c held)
-  form_goes cell cells (Assemble file to) small c held = assemble_goes sizes places file to c
+  form_goes cell cells (Assemble file to) small c held = surely (plain_goes cell (Assemble file to) tt tt c held)
   form_goes cell cells (Play word area plan to list) small c held =
       play_goes header some trees right settled pass have reads own sizes places laws cell word area to c held plan
   form_goes cell cells (Generate number) small c held = surely (plain_goes cell (Generate number) small tt c held)

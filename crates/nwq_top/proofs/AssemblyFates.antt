@@ -1,5 +1,4 @@
--- What comes of an assembler text: it can't be that it stands for no file, and that no line and no
--- jump is the first at fault.
+-- What comes of an assembler text: it stands for a file, or a line or a jump is the first at fault.
 use Rattle.std.proofs.Common.{◌≡◌, ◌≢◌, ◌⊎◌, inl, inr, ℕ, ◌+◌, ◌<◌, ◌≤◌, nat_lt, Bool, true, false, List, [], ◌∷◌, ◌++◌, length, Some, refl, sym, ap, subst, arith, ltb-true, ltb-false}
 use Rattle.std.specs.List.{AllByRecursion}
 use Rattle.nwq_value.specs.Limits.{file_limit}
@@ -7,13 +6,14 @@ use Rattle.nwq_text.specs.Lines.{lines_of}
 use Rattle.ncs_code.specs.Plain.{PlainOp}
 use Rattle.ncs_code.specs.Spelling.{op_size, IsOp}
 use Rattle.ncs_code.specs.File.{header_size, ops_size, file_length, file_bytes, op_at, leads_well}
-use Rattle.ncs_code.specs.Laws.{PlaceLaws, StandsBehind}
+use Rattle.ncs_code.specs.Laws.{SpellingLaws, SizeLaws, PlaceLaws, StandsBehind}
 use Rattle.ncs_text.specs.Assembly.{Writes, IsRemark, Assembles, none, remark, instruction, IsAssembled}
 use Rattle.ncs_text.specs.declared.fault.AsmFault.{AsmFault}
 use Rattle.ncs_text.specs.declared.fault.AsmFault.TheVariants as asm
 use Rattle.ncs_text.specs.Assembly as assembly
-use Rattle.nwq_top.proofs.Undeniable.{Undeniable, surely, by_it, with_it, either_way, Least, least_one}
-use Rattle.nwq_top.proofs.CodeFates.{LeadsBadly, well}
+use Rattle.nwq_top.proofs.Undeniable.{Least}
+use Rattle.nwq_top.proofs.CodeFates.{LeadsBadly, well, search_bad}
+use Rattle.nwq_top.proofs.AssemblyLines.{Known, Written, written_known, remark_known}
 
 -- ---- lines
 
@@ -22,9 +22,6 @@ data Lined (at : ℕ) (lines : List (List ℕ)) : Type 0 where
   all : (ops : List PlainOp) → Assembles at lines ops → Lined at lines
   stops : (before behind : List (List ℕ)) (line : List ℕ) (ops : List PlainOp) → lines ≡ before ++ line ∷ behind → Assembles at before ops → (IsRemark line → ⊥)
       → ((op : PlainOp) → Writes (at + ops_size ops) line op → ⊥) → Lined at lines
-
-abbrev Written : ℕ → List ℕ → Type 0
-Written at line = (op : PlainOp) × Writes at line op
 
 past_remark : (at : ℕ) (line : List ℕ) (lines : List (List ℕ)) → IsRemark line → Lined at lines → Lined at (line ∷ lines)
 past_remark at line lines is (all ops a) = all ops (remark at line lines ops is a)
@@ -43,20 +40,18 @@ past_op at line lines op writes (stops before behind bad ops e a speaks unwritte
 no_further : (at : ℕ) → at ≡ at + ops_size []
 no_further at = omega arith
 
-op_by : (at : ℕ) (line : List ℕ) (lines : List (List ℕ)) → (IsRemark line → ⊥) → ((place : ℕ) → Undeniable (Lined place lines)) → Written at line ⊎ (Written at line → ⊥)
-    → Undeniable (Lined at (line ∷ lines))
-op_by at line lines speaks rest (inl (op, writes)) = with_it (rest (at + op_size op)) (past_op at line lines op writes)
+op_by : (at : ℕ) (line : List ℕ) (lines : List (List ℕ)) → (IsRemark line → ⊥) → ((place : ℕ) → Lined place lines) → Known (Written at line) → Lined at (line ∷ lines)
+op_by at line lines speaks rest (inl (op, writes)) = past_op at line lines op writes (rest (at + op_size op))
 op_by at line lines speaks rest (inr unwritten) =
-    surely (stops [] lines line [] refl (none at) speaks (λ op w. unwritten (op, subst (λ place. Writes place line op) (sym (no_further at)) w)))
+    stops [] lines line [] refl (none at) speaks (λ op w. unwritten (op, subst (λ place. Writes place line op) (sym (no_further at)) w))
 
-line_by : (at : ℕ) (line : List ℕ) (lines : List (List ℕ)) → ((place : ℕ) → Undeniable (Lined place lines)) → IsRemark line ⊎ (IsRemark line → ⊥)
-    → Undeniable (Lined at (line ∷ lines))
-line_by at line lines rest (inl is) = with_it (rest at) (past_remark at line lines is)
-line_by at line lines rest (inr speaks) = by_it (either_way (Written at line)) (op_by at line lines speaks rest)
+line_by : SpellingLaws → (at : ℕ) (line : List ℕ) (lines : List (List ℕ)) → ((place : ℕ) → Lined place lines) → Known (IsRemark line) → Lined at (line ∷ lines)
+line_by spells at line lines rest (inl is) = past_remark at line lines is (rest at)
+line_by spells at line lines rest (inr speaks) = op_by at line lines speaks rest (written_known spells at line)
 
-lined : (lines : List (List ℕ)) (at : ℕ) → Undeniable (Lined at lines)
-lined [] at = surely (all [] (none at))
-lined (line ∷ lines) at = by_it (either_way (IsRemark line)) (line_by at line lines (lined lines))
+lined : SpellingLaws → (lines : List (List ℕ)) (at : ℕ) → Lined at lines
+lined spells [] at = all [] (none at)
+lined spells (line ∷ lines) at = line_by spells at line lines (lined spells lines) (remark_known line)
 
 each_is_op : (at : ℕ) (lines : List (List ℕ)) (ops : List PlainOp) → Assembles at lines ops → AllByRecursion IsOp ops
 each_is_op _ _ _ (none at) = tt
@@ -129,7 +124,7 @@ pub data AssemblyComes (text : List ℕ) : Type 0 where
   file : (bytes : List ℕ) → IsAssembled text bytes → AssemblyComes text
   broken : (fails : AsmFault) → fails ≢ asm.NoMemory → assembly.AssemblyFails fails text → AssemblyComes text
 
-module _ (places : PlaceLaws) (text : List ℕ) where
+module _ (spells : SpellingLaws) (sizes : SizeLaws) (places : PlaceLaws) (text : List ℕ) where
   astray_in : (ops : List PlainOp) → Assembles header_size (lines_of text) ops → file_length ops ≤ file_limit → (l : Least (LeadsBadly ops)) → StandsBehind ops l.number l.is.op
       → AssemblyComes text
   astray_in ops a small l stands =
@@ -157,26 +152,29 @@ module _ (places : PlaceLaws) (text : List ℕ) where
       })
 
   leads_by : (ops : List PlainOp) → Assembles header_size (lines_of text) ops → file_length ops ≤ file_limit
-      → ((place : ℕ) × LeadsBadly ops place) ⊎ ((place : ℕ) × LeadsBadly ops place → ⊥) → Undeniable (AssemblyComes text)
-  leads_by ops a small (inl bad) =
-      with_it (least_one (LeadsBadly ops) bad.0 bad.1) (λ l. astray_in ops a small l (places.stands ops l.number l.is.op l.is.is))
-  leads_by ops a small (inr fine) =
-      surely (file (file_bytes ops) (record {
+      → ((place : ℕ) → place < file_length ops → LeadsBadly ops place → ⊥) ⊎ Least (LeadsBadly ops) → AssemblyComes text
+  leads_by ops a small (inr l) = astray_in ops a small l (places.stands ops l.number l.is.op l.is.is)
+  leads_by ops a small (inl fine) =
+      file (file_bytes ops) (record {
         ops = ops;
         lines = a;
-        code = record { each = each_is_op header_size (lines_of text) ops a; leads = λ at op h. well ops at op (λ bad. fine (at, bad)) h; bounded = small };
+        code = record {
+          each = each_is_op header_size (lines_of text) ops a;
+          leads = λ at op h. well ops at op (fine at (omega (arith, (places.lies ops at op h).1, sizes.some op))) h;
+          bounded = small;
+        };
         is = refl;
-      }))
+      })
 
-  size_by : (ops : List PlainOp) → Assembles header_size (lines_of text) ops → (b : Bool) → nat_lt file_limit (file_length ops) ≡ b → Undeniable (AssemblyComes text)
+  size_by : (ops : List PlainOp) → Assembles header_size (lines_of text) ops → (b : Bool) → nat_lt file_limit (file_length ops) ≡ b → AssemblyComes text
   size_by ops a true e =
-      surely (broken (asm.Large (file_length ops)) (λ same. absurd cc) (record { ops = ops; lines = a; is = refl; large = ltb-true file_limit (file_length ops) e }))
-  size_by ops a false e = by_it (either_way ((place : ℕ) × LeadsBadly ops place)) (leads_by ops a (ltb-false file_limit (file_length ops) e))
+      broken (asm.Large (file_length ops)) (λ same. absurd cc) (record { ops = ops; lines = a; is = refl; large = ltb-true file_limit (file_length ops) e })
+  size_by ops a false e = leads_by ops a (ltb-false file_limit (file_length ops) e) (search_bad ops (file_length ops))
 
-  by_lines : Lined header_size (lines_of text) → Undeniable (AssemblyComes text)
+  by_lines : Lined header_size (lines_of text) → AssemblyComes text
   by_lines (all ops a) = size_by ops a (nat_lt file_limit (file_length ops)) refl
   by_lines (stops before behind line ops e a speaks unwritten) =
-      surely (broken (asm.Line (length before + 1)) (λ same. absurd cc) (record {
+      broken (asm.Line (length before + 1)) (λ same. absurd cc) (record {
         before = before;
         line = line;
         behind = behind;
@@ -186,7 +184,7 @@ module _ (places : PlaceLaws) (text : List ℕ) where
         first = a;
         speaks = speaks;
         none = unwritten;
-      }))
+      })
 
-  pub assembly_comes : Undeniable (AssemblyComes text)
-  assembly_comes = by_it (lined (lines_of text) header_size) by_lines
+  pub assembly_comes : AssemblyComes text
+  assembly_comes = by_lines (lined spells (lines_of text) header_size)

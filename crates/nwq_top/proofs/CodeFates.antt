@@ -76,6 +76,10 @@ module _ (ops : List PlainOp) where
           let apart : true ≡ false = sym f ∙ ap (λ x. leads_well ops place x) same ∙ bad.bad in cc)
       by_case false f = inl (record { op = op; is = e; bad = f })
 
+  -- there is a first that does, or none before a bound
+  pub search_bad : (n : ℕ) → ((place : ℕ) → place < n → LeadsBadly place → ⊥) ⊎ Least LeadsBadly
+  search_bad n = search_below LeadsBadly (λ place. bad_or_not place (op_at ops place) refl) n
+
   -- the first that does
   first_bad : PlaceLaws → (l : Least LeadsBadly) → (index : ℕ) × IsFirstBad ops index l.number
   first_bad places l =
@@ -118,7 +122,7 @@ module _ (sizes : SizeLaws) (places : PlaceLaws) (bytes : List ℕ) (held : Byte
 
   row_comes : HasHeader bytes → Row (drop 13 bytes) → CodeComes bytes
   row_comes header (whole ops each is) =
-      leads_by ops each (whole_is ops header is) (search_below (LeadsBadly ops) (λ place. bad_or_not ops place (op_at ops place) refl) (file_length ops))
+      leads_by ops each (whole_is ops header is) (search_bad ops (file_length ops))
   row_comes header (stops ops rest fault each is some reason) =
       let behind : drop (file_length ops) bytes ≡ rest =
       sym (drop-drop (ops_size ops) 13 bytes) ∙ ap (drop (ops_size ops)) is ∙ drop_at (spellings ops) rest (ops_size ops) (sym (sizes.ops ops)) in

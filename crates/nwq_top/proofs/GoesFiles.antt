@@ -1,5 +1,5 @@
--- Trees, bytecode and assembler texts: what reads them comes to an end that is no cut. Of code it
--- can't be that it has none.
+-- Trees, bytecode and assembler texts: what reads them comes to an end that is no cut. Of what
+-- checks code it can't be that it has none.
 use Rattle.std.proofs.Common.{◌≡◌, ◌≢◌, ◌⊎◌, inl, inr, ℕ, ◌≤◌, List, length, Option, Some, None, Result, Ok, Err, refl, sym, subst, ◌∙◌}
 use Rattle.std.specs.List.{AllByRecursion}
 use Rattle.std.proofs.lemmas.List.Elements.{recursion_from_All}
@@ -17,7 +17,7 @@ use Rattle.gff_read.specs.Stands.{Stands}
 use Rattle.ncs_code.specs.Plain.{PlainOp}
 use Rattle.ncs_code.specs.Spelling.{IsByte}
 use Rattle.ncs_code.specs.File.{IsCode, file_bytes}
-use Rattle.ncs_code.specs.Laws.{SizeLaws, PlaceLaws}
+use Rattle.ncs_code.specs.Laws.{SpellingLaws, SizeLaws, PlaceLaws}
 use Rattle.ncs_code.specs.declared.fault.CodeFault.TheVariants as op_fault
 use Rattle.ncs_file.specs.declared.fault.LoadFault.{LoadFault}
 use Rattle.ncs_file.specs.declared.fault.LoadFault.TheVariants as load
@@ -185,13 +185,12 @@ module _ (sizes : SizeLaws) (places : PlaceLaws) where
   assembly_fate_of text (texts.file bytes is) = (assemblies.Whole bytes, assemblies.whole bytes is)
   assembly_fate_of text (texts.broken fails own h) = let flaw = asm_flawed fails own in (assemblies.Faulty flaw.0, assemblies.broken fails flaw.0 h flaw.1)
 
-  pub assemble_goes : (name to : List ℕ) (c : Contents) → Undeniable (Goes (assembles name to) c Anything)
+  pub assemble_goes : SpellingLaws → (name to : List ℕ) (c : Contents) → Goes (assembles name to) c Anything
   unfolding assembles assembly_named assembly_in writes_and_puts writes puts
-  assemble_goes name to c =
-      goes_both (assembly_named name) (writes_assembly to) c Anything Anything
-      (goes_both (file_named name) (assembly_in name) c (Still c (IsRead c name)) Anything (surely (file_goes name c))
-      (λ text d is. with_it (assembly_comes places text) (λ k. let f = assembly_fate_of text k in (f.0, f.1, by_fate f.0 d))))
-      (λ bytes d is. surely tt)
+  assemble_goes spells name to c =
+      goes_next (assembly_named name) (writes_assembly to) c Anything Anything
+      (goes_next (file_named name) (assembly_in name) c (Still c (IsRead c name)) Anything (file_goes name c)
+      (λ text d is. let f = assembly_fate_of text (assembly_comes spells sizes places text) in (f.0, f.1, by_fate f.0 d))) (λ bytes d is. tt)
     where
       by_fate : (fate : AssemblyFate) (d : Contents) → Goes (assembly_by name fate) d Anything
       by_fate (assemblies.Whole bytes) d = tt

@@ -26,6 +26,7 @@ mod Changes
 mod Undeniable
 mod Decoding
 mod CodeFates
+mod AssemblyLines
 mod AssemblyFates
 mod TableFates
 mod TableCells

@@ -6,7 +6,7 @@ use Rattle.world_rules.specs.Pure.{CellLookup}
 use Rattle.play_room.specs.Kept.{CellsAreBytes}
 use Rattle.command_work.specs.declared.status.Status.{Status}
 use Rattle.command_work.specs.Work.{Work, IsCut, Does, Finished}
-use Rattle.command_words.specs.Words.{Form, Run, Compile, Tree, Disassemble, Generate, NoForm, form_of}
+use Rattle.command_words.specs.Words.{Form, Run, Compile, Tree, Disassemble, Assemble, Generate, NoForm, form_of}
 use Rattle.nwq_top.specs.Command.{work_of, whole_work}
 
 -- from these contents and taken bytes on the work has this outcome, which isn't cut
@@ -33,12 +33,13 @@ EachHasOutcome = (cell : CellLookup) (words : List (List ℕ)) (c : Contents) (t
 abbrev pub EachWholeHasOutcome : Type 0
 EachWholeHasOutcome = (words : List (List ℕ)) (c : Contents) (t : List ℕ) → ContentsAreBytes c → HasOutcome (whole_work (form_of words)) c t
 
--- these check no bytecode, and read neither a text by its lines nor a state
+-- these check no bytecode, and read neither a plan nor a state
 abbrev pub IsPlainForm : Form → Type 0
 IsPlainForm (Run header script) = Unit {0}
 IsPlainForm (Compile header script) = Unit {0}
 IsPlainForm (Tree file) = Unit {0}
 IsPlainForm (Disassemble file to) = Unit {0}
+IsPlainForm (Assemble file to) = Unit {0}
 IsPlainForm (Generate number) = Unit {0}
 IsPlainForm NoForm = Unit {0}
 IsPlainForm _ = ⊥

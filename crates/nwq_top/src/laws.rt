@@ -21,7 +21,7 @@ use engine_table::headers_have_tables;
 use engine_table::laws::one_header;
 use generator_laws::sources_compile;
 use gff_read::read_trees_stand;
-use ncs_code::{place_laws, size_laws};
+use ncs_code::{place_laws, size_laws, spelling_laws};
 use nss_lexer::laws::some_split;
 use nss_parser::laws::tree_or_place;
 use plan_text::laws::plans_keep;
@@ -52,9 +52,8 @@ pub fn one_outcome()
 
 /// Each input has an answer: whatever the words are, whatever bytes the files and the cells of
 /// tables hold, and whatever was taken, the work has an outcome that isn't cut. So has the whole
-/// program. Of words for which no code is checked, and neither a text by its lines nor a state is
-/// read, it is there; of all others it is refuted that there is none, which is the same by excluded
-/// middle.
+/// program. Of words for which no code is checked, and neither a plan nor a state is read, it is
+/// there; of all others it is refuted that there is none, which is the same by excluded middle.
 pub fn each_has_outcome()
     ensures each { EachHasOutcome }
     ensures whole { EachWholeHasOutcome }
@@ -68,6 +67,7 @@ pub fn each_has_outcome()
     scripts_play_units();
     units_pass();
     sources_compile();
+    spelling_laws();
     size_laws();
     place_laws();
     read_trees_stand();
