@@ -12,7 +12,7 @@ use Rattle.state_parts.specs.World.{things_of, variables_of, entries_of}
 use Rattle.state_parts.specs.ShortTexts.{has_short_items, is_short_entry}
 use Rattle.state_parts.specs.Keeping.{HasValues}
 
--- nor have those of a world's queues
+-- no captured state of an action in a world has base cells
 abbrev pub QueuesHaveValues : List (Things Saved) → Type 0
 QueuesHaveValues things = AllByRecursion (λ (t : Things Saved). AllByRecursion HasValues t.queue.actions) things
 
