@@ -48,11 +48,6 @@ test_at p [] i x all h e = absurd (omega arith)
 test_at p (y ∷ ys) zero x all h e = subst (λ z. IsTrue (p z)) (sym e) (both_true (p y) (list_all p ys) all).0
 test_at p (y ∷ ys) (suc i) x all h e = test_at p ys i x (both_true (p y) (list_all p ys) all).1 (omega arith) e
 
-pub all_drop : {A : Type 0} (P : A → Type 0) (xs : List A) (i : ℕ) → AllByRecursion P xs → AllByRecursion P (drop i xs)
-all_drop P xs zero all = all
-all_drop P [] (suc i) all = all
-all_drop P (y ∷ ys) (suc i) all = all_drop P ys i all.1
-
 -- one action more
 pub queue_more : {A X : Type 0} (f : A → Item X) (busy : Bool) (xs : List A) (i : ℕ) (x : A) (y : Item X) (old new : Queued X)
     → old ≡ record { actions = map f (take i xs); busy = busy } → new ≡ record old { actions = old.actions ++ y ∷ [] } → y ≡ f x → i < length xs → x ≡ get_or xs i x
