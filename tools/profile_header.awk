@@ -1,331 +1,348 @@
-# The work of tools/profile_header. A line is kept twice: raw, and masked, in which each byte of a
-# comment is a blank and each byte inside a string an x, so that places are those of the raw line.
+# The work of tools/profile_header. The header is split into tokens as the program splits it:
+# gap[i] is what stands before token i, blanks and comments. Only tokens are changed, so that all
+# else stays as it is, byte for byte.
 
 function tell(line, text) {
-    print ENVIRON["NAME"] ":" line ": " text >"/dev/stderr"
+    print ENVIRON["NAME"] ":" line ": " text | "cat >&2"
     told++
 }
 
-function blanks(length_,   text) {
-    text = " "
-    while (length(text) < length_) text = text text
-    return substr(text, 1, length_)
+# Tokens.
+
+function add(text, what) {
+    token[++count] = text
+    kind[count] = what
+    gap[count] = between
+    line_of[count] = NR
+    between = ""
 }
 
-function newlines(text) { return gsub(/\n/, "", text) }
+# What the line begins with becomes a token or a part of the gap; the rest of the line.
+function cut(line,   what) {
+    if (match(line, /^[ \t\r\f\v]+/) || match(line, /^\/\/.*/)) {
+        between = between substr(line, 1, RLENGTH)
+        return substr(line, RLENGTH + 1)
+    }
+    if (line ~ /^\/\*/) {
+        in_comment = NR
+        between = between "/*"
+        return substr(line, 3)
+    }
+    if (match(line, /^[A-Za-z_][A-Za-z0-9_]*/))
+        what = (substr(line, 1, RLENGTH) in reserved) ? "word" : "name"
+    else if (match(line, FLOAT)) what = "float"
+    else if (match(line, INT)) what = "int"
+    else if (match(line, STRING)) what = "string"
+    else if (match(line, SIGN)) what = "sign"
+    else {
+        if (strange != NR) tell(NR, "a byte that begins no token is a blank here")
+        strange = NR
+        between = between " "
+        return substr(line, 2)
+    }
+    add(substr(line, 1, RLENGTH), what)
+    return substr(line, RLENGTH + 1)
+}
 
-function is_blank(text) { return text ~ /^[ \t\r\n]*$/ }
+function comment(line,   at) {
+    at = index(line, "*/")
+    if (at) in_comment = 0
+    else at = length(line)
+    between = between substr(line, 1, at ? at + 1 : 0)
+    return substr(line, at + 2)
+}
 
-function trimmed(text) {
-    sub(/^[ \t\r\n]+/, "", text)
-    sub(/[ \t\r\n]+$/, "", text)
+# Values.
+
+# The value of an int in 32 bits, or "" where it is too great.
+function int_value(text, sign,   at, value) {
+    value = 0
+    if (text ~ /^0[xX]/) {
+        text = tolower(text)
+        for (at = 3; at <= length(text); at++)
+            value = value * 16 + index("0123456789abcdef", substr(text, at, 1)) - 1
+    } else value = text + 0
+    if (value > 4294967295) return ""
+    value *= sign
+    return "int " (value < 0 ? value + 4294967296 : value)
+}
+
+# What a string stands for: a backslash and byte 0 stay escaped.
+function string_value(text,   out, escape) {
+    text = substr(text, 2, length(text) - 2)
+    out = "string "
+    while (match(text, /\\(x..|.)/)) {
+        escape = tolower(substr(text, RSTART + 1, RLENGTH - 1))
+        out = out substr(text, 1, RSTART - 1)
+        if (escape == "n") escape = "x0a"
+        if (escape in byte) out = out byte[escape]
+        else out = out (escape ~ /^.$/ && escape != "\\" ? escape : "\\" escape)
+        text = substr(text, RSTART + RLENGTH)
+    }
+    return out text
+}
+
+# The constant that tokens stand for as one of a type, or "" where they are none.
+function constant_of(type, from, to) {
+    if (type == "int" && to == from + 1 && token[from] == "-" && kind[to] == "int")
+        return int_value(token[to], -1)
+    if (from != to) return ""
+    if ((type, token[from]) in value_of) return value_of[type, token[from]]
+    if (type == "int") return kind[from] == "int" ? int_value(token[from], 1) : ""
+    if (type == "string") return kind[from] == "string" ? string_value(token[from]) : ""
+    return token[from] ~ /^OBJECT_(SELF|INVALID)$/ ? "object " token[from] : ""
+}
+
+# The first constant of each name, which lines above it may name.
+function look_ahead(   at, to, place) {
+    for (at = 1; at + 4 <= count; at++) {
+        if (!has_value(token[at]) || token[at + 2] != "=") continue
+        to = token[at + 4] == ";" ? at + 3 : token[at + 5] == ";" ? at + 4 : 0
+        place = token[at] SUBSEP token[at + 1]
+        if (!to || (place in later) || constant_of(token[at], at + 3, to) == "") continue
+        later[place] = shown(at + 3, to)
+        later_value[place] = constant_of(token[at], at + 3, to)
+    }
+}
+
+# The tokens as a text of one line.
+function shown(from, to,   text) {
+    text = token[from]
+    while (++from <= to) text = text (gap[from] == "" ? "" : " ") token[from]
     return text
 }
 
-# The line masked. What is an open comment goes on in the next line.
-function masked_line(line, number,   out, at, kind) {
-    out = ""
-    while (line != "") {
-        if (in_comment) {
-            at = index(line, "*/")
-            if (!at) return out blanks(length(line))
-            out = out blanks(at + 1)
-            line = substr(line, at + 2)
-            in_comment = 0
-            continue
-        }
-        if (!match(line, /"|\/\*|\/\//)) return out line
-        out = out substr(line, 1, RSTART - 1)
-        line = substr(line, RSTART)
-        kind = substr(line, 1, 2)
-        if (kind == "//") return out blanks(length(line))
-        if (kind == "/*") {
-            out = out "  "
-            line = substr(line, 3)
-            in_comment = number
-        } else if (match(line, /^"([^"\\]|\\.)*"/)) {
-            kind = blanks(RLENGTH)
-            gsub(/ /, "x", kind)
-            out = out "\"" substr(kind, 3) "\""
-            line = substr(line, RLENGTH + 1)
-        } else {
-            # A string that isn't closed: its quote begins no token.
-            out = out "\001"
-            line = substr(line, 2)
-        }
-    }
-    return out
+function replace(from, to, text) {
+    token[from] = text
+    clear(from + 1, to)
 }
 
-# Takes what begins no token out of a line, in both forms.
-function clean_line(number,   at, found) {
-    while (match(masked[number], STRANGE)) {
-        at = RSTART
-        if (!found++) tell(number, "a byte that begins no token is a blank here")
-        masked[number] = substr(masked[number], 1, at - 1) " " substr(masked[number], at + 1)
-        raw[number] = substr(raw[number], 1, at - 1) " " substr(raw[number], at + 1)
-    }
+function clear(from, to) {
+    for (; from <= to; from++) token[from] = gap[from] = ""
 }
 
-# A declaration as a comment, line by line; the rest of its last line goes on below where it must.
-function commented(text, rest) {
-    if (sub(/\n$/, "", text)) rest = "more"
-    gsub(/\n/, "\n// ", text)
-    sub(/\n.*/, "", rest)
-    return "// " text (rest ~ /^[ \t\r]*(\/\/.*)?$/ ? "" : "\n")
+function put(from, to,   text) {
+    text = token[from]
+    while (++from <= to) text = text gap[from] token[from]
+    printf "%s", text
 }
 
-function take_out(line, text, why) {
-    tell(line, why ": taken out")
+# Prints tokens as a comment, line by line. What follows begins a line where it must.
+function take_out(from, to, why,   text, rest) {
+    tell(line_of[from], why ": taken out")
     outs++
-    printf "%s", commented(text, after)
+    rest = gap[to + 1]
+    if (to < count && rest !~ /\n/) rest = "more"
+    sub(/\n.*/, "", rest)
+    text = token[from]
+    while (++from <= to) text = text gap[from] token[from]
+    gsub(/\n/, "\n// ", text)
+    printf "// %s%s", text, rest ~ /^[ \t\r\f\v]*(\/\/.*)?$/ ? "" : "\n"
 }
 
-# The value of an int literal in 32 bits, or "" where it is none or too great.
-function int_value(text,   sign, at, value) {
-    sign = 1
-    if (sub(/^-[ \t\r\n]*/, "", text)) sign = -1
-    if (text ~ /^[0-9]+$/) value = text + 0
-    else if (text ~ /^0[xX][0-9A-Fa-f]+$/) {
-        text = tolower(text)
-        value = 0
-        for (at = 3; at <= length(text); at++)
-            value = value * 16 + index("0123456789abcdef", substr(text, at, 1)) - 1
-    } else return ""
-    if (value > 4294967295) return ""
-    value *= sign
-    if (value < 0) value += 4294967296
-    return "int " value
-}
-
-# The constant that a text stands for as one of a type, or "" where it is none.
-function constant_of(type, hidden, text) {
-    if ((type, text) in value_of) return value_of[type, text]
-    if (type == "int") return int_value(text)
-    if (type == "string") return hidden ~ /^"x*"$/ ? "string " text : ""
-    return (text == "OBJECT_SELF" || text == "OBJECT_INVALID") ? "object " text : ""
-}
+# Types.
 
 function is_type(word) { return (word in types) || (word in engine_types) }
 
-function is_left_out(word) { return (word in left_out) || (word in engine_types) }
+# Whether a script can name a constant of the type, or give one as a value.
+function has_value(type) { return type == "int" || type == "string" || type == "object" }
 
-# A directive as a comment. A comment that begins behind it stays as it is.
-function drop_directive(number, why,   size) {
-    size = match(masked[number], /[ \t\r]+$/) ? RSTART - 1 : length(masked[number])
-    after = substr(raw[number], size + 1)
-    take_out(number, substr(raw[number], 1, size), why)
-    print after
+# Left out are all types but those of the engine that scripts can use, whatever a game adds.
+function is_left_out(type) { return !(type in usable) }
+
+# Where things end.
+
+# Where a declaration ends that may have any form: at a `;`, a body, or before what can't be in it.
+# The two parameters without a value tell which.
+function any_end(at,   from, depth) {
+    has_body = is_open = 0
+    for (from = at; at <= count; at++) {
+        if (token[at] == "#" && at > from && line_of[at] > line_of[at - 1]) break
+        if (token[at] == ";") return at
+        if (token[at] == "(") depth++
+        else if (token[at] == ")") depth--
+        else if (token[at] == "{" && depth <= 0) return body_end(at)
+    }
+    is_open = 1
+    return at - 1
 }
 
-# `#define`, `#include` and whatever else a line with a # may be.
-function directive(number,   line, words, digit) {
-    line = trimmed(masked[number])
-    sub(/^#[ \t]*/, "", line)
-    if (line !~ /^define[ \t]/) {
-        drop_directive(number, "a directive that headers haven't")
-        return
+function body_end(at,   depth) {
+    has_body = 1
+    for (depth = 0; at <= count; at++) {
+        if (token[at] == "{") depth++
+        else if (token[at] == "}" && !--depth) return token[at + 1] == ";" ? at + 1 : at
     }
-    if (split(line, words, /[ \t\r]+/) != 3 || words[2] !~ /^[A-Za-z_][A-Za-z0-9_]*$/ || \
-        (words[2] in reserved) || \
-        (words[3] !~ /^[A-Za-z_][A-Za-z0-9_]*$/ && int_value(words[3]) !~ /^int/) || \
-        words[3] ~ /^-/) {
-        drop_directive(number, "a define of another form than a name and a name or int")
-        return
-    }
-    if (words[2] !~ /^ENGINE_STRUCTURE_[0-9]+$/ || words[3] !~ /^[A-Za-z_]/) {
-        print raw[number]
-        return
-    }
-    digit = substr(words[2], 18)
-    if (words[3] == "effect" || words[3] == "event") {
-        if (digit == (words[3] == "event")) print raw[number]
-        else drop_directive(number, words[3] " has another number here, and needs no define")
-        return
-    }
-    if (words[3] in reserved) {
-        print raw[number]
-        return
-    }
-    engine_types[words[3]] = 1
-    if (length(digit) == 1 && digit > 1) {
-        print raw[number]
-        return
-    }
-    tell(number, "structure " digit " is 9 here, so that " words[3] " names a type")
-    line = raw[number]
-    sub("ENGINE_STRUCTURE_" digit, "ENGINE_STRUCTURE_9", line)
-    print line
+    is_open = 1
+    return count
 }
 
-# Where the first declaration of a text ends, or 0.
-function end_of_declaration(text,   at, from, depth, character) {
-    from = 0
-    while (match(substr(text, from + 1), /[;{}()]/)) {
-        from += RSTART
-        character = substr(text, from, 1)
-        if (character == ";") return from
-        if (character == "(") depth++
-        else if (character == ")") depth--
-        else if (character == "{" && depth <= 0) return end_of_body(text, from)
+# Where a value ends whose type is left out: before the first `,`, `)` or `;` outside brackets.
+function value_end(at,   depth) {
+    for (depth = 0; at <= count; at++) {
+        if (!depth && token[at] ~ /^[,);]$/) break
+        if (token[at] ~ /^[([{]$/) depth++
+        else if (depth && token[at] ~ /^[])}]$/) depth--
     }
-    return 0
+    return at
 }
 
-function end_of_body(text, from,   depth) {
-    depth = 1
-    while (match(substr(text, from + 1), /[{}]/)) {
-        from += RSTART
-        depth += substr(text, from, 1) == "{" ? 1 : -1
-        if (depth) continue
-        return match(substr(text, from + 1), /^[ \t\r\n]*;/) ? from + RLENGTH : from
-    }
-    return 0
+# The last token of the directive's line.
+function line_end(at) {
+    while (at < count && line_of[at + 1] == line_of[at]) at++
+    return at
 }
 
-function declaration(hidden, text, line,   lead, words, count, type, name, is_const, head) {
-    match(hidden, /^[ \t\r\n]*/)
-    lead = RLENGTH
-    printf "%s", substr(text, 1, lead)
-    line += newlines(substr(text, 1, lead))
-    hidden = substr(hidden, lead + 1)
-    text = substr(text, lead + 1)
-    if (hidden == ";") {
-        tell(line, "a `;` alone: taken out")
-        return
-    }
-    if (hidden ~ /[}][ \t\r\n]*;?$/) {
-        take_out(line, text, "a body or a struct, which headers haven't")
-        return
-    }
-    if (!match(hidden, HEAD)) {
-        take_out(line, text, "neither a constant nor a function")
-        return
-    }
-    head = RLENGTH
-    count = split(trimmed(substr(hidden, 1, head)), words, /[ \t\r\n]+/)
-    is_const = words[1] == "const"
-    type = words[count - 1]
-    name = words[count]
-    if (name in reserved) take_out(line, text, name " is a word and no name")
-    else if (!is_type(type)) take_out(line, text, "no define names the type " type)
-    else if (substr(hidden, head + 1, 1) == "=") constant(hidden, text, line, head, type, name)
-    else if (substr(hidden, head + 1, 1) == "(" && !is_const)
-        function_line(hidden, text, line, head, type, name)
-    else take_out(line, text, "neither a constant with a value nor a function")
+function begins_declaration(at) {
+    return at > count || token[at] == "#" || token[at] == "const" || \
+        (is_type(token[at]) && kind[at + 1] == "name")
 }
 
-function constant(hidden, text, line, head, type, name,   from, size, shown, value) {
-    if (type != "int" && type != "string" && type != "object") {
-        if (!is_balanced(substr(hidden, head + 2, length(hidden) - head - 2))) {
-            take_out(line, text, "the value of " name " ends early")
-            return
-        }
-        printf "%s", text
-        if (is_left_out(type)) forgotten++
-        return
+# Declarations: each of these functions gives the last token of what it did.
+
+# `#define`, `#include` and whatever else begins with a #. A define of a name alone takes the next
+# line's first word as its value where the lines behind it can be read so.
+function directive(at) {
+    if (token[at + 1] != "define") {
+        take_out(at, line_end(at), "a directive that headers haven't")
+        return line_end(at)
     }
-    from = head + 2
-    size = length(hidden) - from
-    shown = trimmed(substr(text, from, size))
-    value = constant_of(type, trimmed(substr(hidden, from, size)), shown)
-    if (value == "" && ((type, shown) in later)) {
-        tell(line, name " is " later[type, shown] ", the value of " shown ", which stands below")
-        text = substr(text, 1, from - 1) " " later[type, shown] ";"
-        value = constant_of(type, later_hidden[type, shown], later[type, shown])
+    if (kind[at + 2] != "name" || kind[at + 3] !~ /^(name|word|int)$/ || \
+        (kind[at + 3] == "int" && int_value(token[at + 3], 1) == "") || \
+        (!begins_declaration(at + 4) && line_end(at) != at + 3)) {
+        take_out(at, line_end(at), "a define of another form than a name and a name or int")
+        return line_end(at)
     }
-    if (value == "") take_out(line, text, "the value of " name " is no constant of type " type)
-    else if ((name in constants) && constants[name] == value) printf "%s", text
-    else if ((name in constants) || (name in functions))
-        take_out(line, text, name " was declared before")
+    if (token[at + 2] ~ /^ENGINE_STRUCTURE_[0-9]+$/ && kind[at + 3] != "int" && \
+        !structure(at, substr(token[at + 2], 18), token[at + 3])) return at + 3
+    put(at, at + 3)
+    return at + 3
+}
+
+# A define of an engine structure; 0 where it was taken out.
+function structure(at, digits, name) {
+    if (name == "effect" || name == "event") {
+        if (length(digits) > 1 || digits == (name == "event")) return 1
+        take_out(at, at + 3, name " has another number here, and needs no define")
+        return 0
+    }
+    if (name in reserved) return 1
+    engine_types[name]
+    if (length(digits) == 1 && digits > 1) return 1
+    tell(line_of[at], "structure " digits " is 9 here, so that " name " names a type")
+    token[at + 2] = "ENGINE_STRUCTURE_9"
+    return 1
+}
+
+function declaration(at,   from, end, why, is_const) {
+    from = at
+    end = any_end(at)
+    is_const = token[at] == "const"
+    at += is_const
+    if (kind[at] !~ /^(name|word)$/ || kind[at + 1] !~ /^(name|word)$/)
+        why = "neither a constant nor a function"
+    else if (kind[at + 1] == "word") why = token[at + 1] " is a word and no name"
+    else if (!is_type(token[at])) why = "no define names the type " token[at]
+    else if (token[at + 2] == "=") {
+        if (!has_value(token[at])) return forgotten_constant(from, at, end)
+        if (!has_body && !is_open) return constant(from, at, end)
+    } else if (token[at + 2] == "(" && !is_const) {
+        if (read_parameters(at + 3)) return function_line(at)
+        why = "the parameters of " token[at + 1] " have no form of a header"
+    } else why = "neither a constant with a value nor a function"
+    if (has_body) why = "a body or a struct, which headers haven't"
+    if (is_open) why = "a declaration without an end"
+    take_out(from, end, why)
+    return end
+}
+
+# A constant whose value is any tokens, and which no script can use.
+function forgotten_constant(from, at, end,   to) {
+    to = value_end(at + 3)
+    if (token[to] != ";") {
+        take_out(from, end, is_open ? "a declaration without an end" : \
+            "the value of " token[at + 1] " ends early")
+        return end
+    }
+    if ((token[at + 1] in constants) || (token[at + 1] in functions))
+        take_out(from, to, token[at + 1] " was declared before")
+    else {
+        put(from, to)
+        if (is_left_out(token[at])) forgotten++
+    }
+    return to
+}
+
+function constant(from, at, end,   type, name, value, place) {
+    type = token[at]
+    name = token[at + 1]
+    value = constant_of(type, at + 3, end - 1)
+    place = type SUBSEP token[at + 3]
+    if (value == "" && end == at + 4 && (place in later)) {
+        tell(line_of[from], name " is " later[place] ", the value of " token[at + 3] \
+            ", which stands below")
+        token[at + 3] = later[place]
+        value = later_value[place]
+    }
+    if (value == "") take_out(from, end, "the value of " name " is no constant of type " type)
+    else if (((name in constants) && constants[name] != value) || (name in functions))
+        take_out(from, end, name " was declared before")
     else {
         constants[name] = value_of[type, name] = value
-        printf "%s", text
+        put(from, end)
     }
+    return end
 }
 
-# Whether a value goes on to its end: a comma or a `)` outside brackets would end it.
-function is_balanced(hidden,   depth) {
-    while (match(hidden, /[][(){},]/)) {
-        if (index("([{", substr(hidden, RSTART, 1))) depth++
-        else if (depth && substr(hidden, RSTART, 1) != ",") depth--
-        else if (!depth && index(",)", substr(hidden, RSTART, 1))) return 0
-        hidden = substr(hidden, RSTART + 1)
+# Reads parameters from the first one on: their places and types, and where the declaration ends.
+# Whether they have the form of a list of parameters.
+function read_parameters(at) {
+    for (parts = 0; token[at] != ")" || parts; at++) {
+        first[++parts] = at
+        part_type[parts] = token[at]
+        part_name[parts] = "parameter " parts
+        if (kind[at] !~ /^(name|word)$/) return 0
+        if (kind[++at] == "name") part_name[parts] = token[at++]
+        equals[parts] = token[at] == "=" ? at : 0
+        if (equals[parts]) at = value_end(at + 1)
+        last[parts] = at - 1
+        if (equals[parts] == last[parts] && has_value(part_type[parts])) return 0
+        if (token[at] == ")") break
+        if (token[at] != ",") return 0
     }
-    return !depth
-}
-
-# The parameters of a list in parentheses, as raw and masked texts; -1 where they don't end.
-function cut_parameters(hidden, text,   at, depth, begin, character, count) {
-    begin = 2
-    depth = count = 0
-    for (at = 1; at <= length(hidden); at++) {
-        character = substr(hidden, at, 1)
-        if (index("([{", character)) depth++
-        else if (index(")]}", character)) depth--
-        if ((character == "," && depth == 1) || !depth) {
-            part_hidden[++count] = substr(hidden, begin, at - begin)
-            part[count] = substr(text, begin, at - begin)
-            begin = at + 1
-        }
-        if (!depth) break
-    }
-    if (depth || substr(hidden, begin) !~ /^[ \t\r\n]*;$/) return -1
-    tail = substr(text, begin)
-    return (count == 1 && is_blank(part_hidden[1])) ? 0 : count
-}
-
-# The parts of a parameter; whether it is one.
-function read_parameter(at,   hidden, words, count, equals) {
-    hidden = part_hidden[at]
-    equals = index(hidden, "=")
-    has_default[at] = equals > 0
-    shown_default[at] = equals ? trimmed(substr(part[at], equals + 1)) : ""
-    hidden_default[at] = equals ? trimmed(substr(hidden, equals + 1)) : ""
-    if (equals) hidden = substr(hidden, 1, equals - 1)
-    count = split(trimmed(hidden), words, /[ \t\r\n]+/)
-    part_type[at] = words[1]
-    part_name[at] = count > 1 ? words[2] : "parameter " at
-    return (count == 1 || (count == 2 && words[2] ~ /^[A-Za-z_][A-Za-z0-9_]*$/ && \
-        !(words[2] in reserved)))
+    end_of_function = at + 1
+    return token[at + 1] == ";"
 }
 
 # A default that is no constant of its parameter's type.
-function mend_default(at, line,   type, shown) {
-    type = part_type[at]
-    if (!has_default[at] || (type != "int" && type != "string" && type != "object")) return
-    shown = shown_default[at]
-    if (constant_of(type, hidden_default[at], shown) != "") return
+function mend_default(part, line,   type, from, text, place) {
+    type = part_type[part]
+    from = equals[part] + 1
+    if (from == 1 || !has_value(type) || constant_of(type, from, last[part]) != "") return
+    text = shown(from, last[part])
+    place = type SUBSEP text
     if (type == "object") {
-        set_default(at, "OBJECT_INVALID")
-        tell(line, "the default " shown " of " part_name[at] " is no object: OBJECT_INVALID")
-    } else if ((type, shown) in later) {
-        set_default(at, later[type, shown])
-        tell(line, "the default " shown " stands below: " later[type, shown])
+        replace(from, last[part], "OBJECT_INVALID")
+        tell(line, "the default " text " of " part_name[part] " is no object: OBJECT_INVALID")
+    } else if (place in later) {
+        replace(from, last[part], later[place])
+        tell(line, "the default " text " stands below: " later[place])
     } else {
-        set_default(at, "")
-        tell(line, "the default " shown " of " part_name[at] " is no constant of type " type \
+        clear(equals[part], last[part])
+        tell(line, "the default " text " of " part_name[part] " is no constant of type " type \
             ": scripts have to give it")
     }
-}
-
-function set_default(at, text,   before) {
-    before = substr(part[at], 1, index(part_hidden[at], "=") - 1)
-    sub(/[ \t\r\n]+$/, "", before)
-    has_default[at] = text != ""
-    part[at] = before (text == "" ? "" : "=" text)
-    is_changed = 1
 }
 
 # How many of the parameters stay: those from one on that only a value of a type that is left out
 # could be given to go, where all of them have defaults, and those that the engine's own routine of
 # this name hasn't.
-function kept_parameters(name, result, count, line,   at, keep, wanted, own_count, fits) {
-    keep = count
-    for (at = 1; at <= count && !is_left_out(part_type[at]); at++) { }
-    if (at <= count && !is_left_out(result) && have_defaults(at, count)) {
+function kept_parameters(name, result, line,   at, keep, wanted, own_count, fits) {
+    keep = parts
+    for (at = 1; at <= parts && !is_left_out(part_type[at]); at++) { }
+    if (at <= parts && !is_left_out(result) && have_defaults(at, parts)) {
         keep = at - 1
-        tell(line, name " is without its optional " told_parts(at, count) \
+        tell(line, name " is without its optional " told_parts(at, parts) \
             ", which scripts couldn't give")
     }
     if (!(name in own_types)) return keep
@@ -338,103 +355,98 @@ function kept_parameters(name, result, count, line,   at, keep, wanted, own_coun
     return own_count
 }
 
-function have_defaults(at, count) {
-    for (; at <= count; at++) if (!has_default[at]) return 0
+function have_defaults(at, to) {
+    for (; at <= to; at++) if (!equals[at]) return 0
     return 1
 }
 
-function told_parts(at, count,   text) {
-    for (; at <= count; at++) text = text (text == "" ? "" : ", ") part_name[at]
+function told_parts(at, to,   text) {
+    for (; at <= to; at++) text = text (text == "" ? "" : ", ") part_name[at]
     return text
 }
 
 # Seconds are whole milliseconds in three routines.
-function mend_seconds(name, count, line,   at) {
+function mend_seconds(name, line,   at) {
     at = name == "ApplyEffectToObject" ? 4 : 1
-    if ((name != "DelayCommand" && name != "ActionWait" && at == 1) || count < at || \
+    if ((name != "DelayCommand" && name != "ActionWait" && at == 1) || parts < at || \
         part_type[at] != "float") return
     tell(line, name " takes its time as an int of milliseconds, not as seconds")
     part_type[at] = "int"
-    part[at] = (at == 1 ? "" : " ") "int nMilliseconds" (has_default[at] ? "=0" : "")
-    if (has_default[at]) {
-        part_hidden[at] = part[at]
-        shown_default[at] = hidden_default[at] = "0"
+    token[first[at]] = "int"
+    if (kind[first[at] + 1] == "name") token[first[at] + 1] = "nMilliseconds"
+    if (!equals[at]) return
+    if (equals[at] == last[at]) {
+        # A value of a type that is left out may have no token at all.
+        clear(equals[at], last[at])
+        equals[at] = 0
+        return
     }
-    is_changed = 1
+    replace(equals[at] + 1, last[at], int(1000 * token[equals[at] + 1] + 0.5))
+    kind[equals[at] + 1] = "int"
+    last[at] = equals[at] + 1
 }
 
-function function_line(hidden, text, line, head, type, name,   count, at, keep, list, types_) {
-    count = cut_parameters(substr(hidden, head + 1), substr(text, head + 1))
-    for (at = 1; at <= count; at++) if (!read_parameter(at)) count = -1
-    if (count < 0) {
-        take_out(line, text, "the parameters of " name " have no form of a header")
-        return
-    }
-    for (at = 1; at <= count; at++) if (!is_type(part_type[at])) {
-        take_out(line, text, "no define names the type " part_type[at])
-        return
-    }
-    if ((name in constants) || (name in functions) || count > 255) {
-        take_out(line, text, count > 255 ? name " has more than 255 parameters" : \
+function function_line(at,   line, name, result, end, part, keep, types_) {
+    line = line_of[at]
+    result = token[at]
+    name = token[at + 1]
+    end = end_of_function
+    if ((name in constants) || (name in functions) || parts > 255) {
+        take_out(at, end, parts > 255 ? name " has more than 255 parameters" : \
             name " was declared before")
-        return
+        return end
     }
-    is_changed = 0
-    mend_seconds(name, count, line)
-    for (at = 1; at <= count; at++) mend_default(at, line)
-    keep = kept_parameters(name, type, count, line)
-    functions[name] = 1
+    mend_seconds(name, line)
+    keep = kept_parameters(name, result, line)
+    for (part = 1; part <= keep; part++) if (!is_type(part_type[part])) {
+        take_out(at, end, "no define names the type " part_type[part])
+        return end
+    }
+    types_ = result
+    for (part = 1; part <= keep; part++) {
+        mend_default(part, line)
+        types_ = types_ " " part_type[part]
+    }
+    # With the first parameter that goes, the comma before it.
+    if (keep < parts) clear(keep ? last[keep] + 1 : first[1], last[parts])
+    functions[name]
     function_count++
-    types_ = type
-    for (at = 1; at <= keep; at++) {
-        list = list (at == 1 ? "" : ",") part[at]
-        types_ = types_ " " part_type[at]
-    }
     count_callable(name, types_, line)
-    if (is_changed || keep < count) printf "%s(%s)%s", substr(text, 1, head), list, tail
-    else printf "%s", text
+    put(at, end)
+    return end
 }
 
-function count_callable(name, types_, line,   words, count, at) {
+function count_callable(name, types_, line,   words, count_, at) {
     if ((name in own_types) && own_types[name] != types_)
         tell(line, name " isn't the engine's own, whose types are " own_types[name])
     if ((name in own_types) && own_types[name] == types_) return
-    count = split(types_, words, " ")
-    for (at = 1; at <= count; at++) if (is_left_out(words[at]) || words[at] == "action") {
+    count_ = split(types_, words, " ")
+    for (at = 1; at <= count_; at++) if (is_left_out(words[at]) || words[at] == "action") {
         uncallable++
         return
     }
 }
 
-# Keeps a constant of a line, which lines above it may name.
-function look_ahead(number,   line, list, size, hidden, shown) {
-    line = masked[number]
-    if (!match(line, "^[ \t]*(const[ \t]+)?(int|string|object)[ \t]+" word "[ \t]*=")) return
-    line = trimmed(substr(line, 1, RLENGTH - 1))
-    sub(/^const[ \t]+/, "", line)
-    split(line, list, /[ \t]+/)
-    size = index(masked[number], ";") - RLENGTH - 1
-    hidden = trimmed(substr(masked[number], RLENGTH + 1, size))
-    shown = trimmed(substr(raw[number], RLENGTH + 1, size))
-    if (constant_of(list[1], hidden, shown) == "") return
-    later[list[1], list[2]] = shown
-    later_hidden[list[1], list[2]] = hidden
-}
-
 function own(name, types_) { own_types[name] = types_ }
 
+function words_of(text, set,   list, at) {
+    for (at = split(text, list, " "); at > 0; at--) set[list[at]]
+}
+
 BEGIN {
-    word = "[A-Za-z_][A-Za-z0-9_]*"
-    STRANGE = "[^][A-Za-z0-9_ \t\r\"(){},;:?#|&^=!<>+*/%~.-]"
-    HEAD = "^(const[ \t\r\n]+)?" word "[ \t\r\n]+" word "[ \t\r\n]*"
-    count = split("void int float string object vector location effect event talent " \
-        "itemproperty action", list, " ")
-    for (at = 1; at <= count; at++) types[list[at]] = reserved[list[at]] = 1
-    count = split("struct const if else while do for switch case default break continue return " \
-        "OBJECT_SELF OBJECT_INVALID", list, " ")
-    for (at = 1; at <= count; at++) reserved[list[at]] = 1
-    count = split("float vector location talent itemproperty", list, " ")
-    for (at = 1; at <= count; at++) left_out[list[at]] = 1
+    FLOAT = "^([0-9]+[.][0-9]*f?|[.][0-9]+f?|[0-9]+f)"
+    INT = "^(0[xX][0-9A-Fa-f]+|[0-9]+)"
+    STRING = "^\"([^\"\\\\]|\\\\[^x]|\\\\x[0-9A-Fa-f][0-9A-Fa-f])*\""
+    SIGN = "^(>>>=|<<=|>>=|>>>|<<|>>|[|][|]|&&|[+][+]|--|[-=!<>+*/%&|^]=|" \
+        "[][(){},;:?#|&^=!<>+*/%~.-])"
+    words_of("void int string object effect event action", usable)
+    words_of("void int float string object vector location effect event talent itemproperty " \
+        "action", types)
+    for (at in types) reserved[at]
+    words_of("struct const if else while do for switch case default break continue return " \
+        "OBJECT_SELF OBJECT_INVALID", reserved)
+    for (at = 1; at < 256; at++) byte[sprintf("x%02x", at)] = sprintf("%c", at)
+    byte["x5c"] = "\\\\"
     # The engine's own routines: result, then parameters.
     own("Random", "int int"); own("PrintString", "void string"); own("PrintInteger", "void int")
     own("PrintObject", "void object"); own("AssignCommand", "void object action")
@@ -457,51 +469,32 @@ BEGIN {
     own("SignalEvent", "void object event"); own("GetUserDefinedEventNumber", "int")
 }
 
-{ raw[NR] = $0 }
+NR == 1 && /^\357\273\277/ {
+    tell(1, "a byte order mark: taken out")
+    $0 = substr($0, 4)
+}
+
+{
+    line = $0
+    while (line != "") line = in_comment ? comment(line) : cut(line)
+    between = between "\n"
+}
 
 END {
-    if (raw[1] ~ /^\357\273\277/) {
-        tell(1, "a byte order mark: taken out")
-        raw[1] = substr(raw[1], 4)
-    }
-    for (number = 1; number <= NR; number++) {
-        masked[number] = masked_line(raw[number], number)
-        clean_line(number)
-        look_ahead(number)
-    }
     if (in_comment) {
         tell(in_comment, "the comment isn't closed: it ends with the file")
-        raw[NR] = raw[NR] "*/"
-        masked[NR] = masked[NR] "  "
+        sub(/\n$/, "*/\n", between)
     }
-    hidden = text = ""
-    for (number = 1; number <= NR; number++) {
-        if (masked[number] ~ /^[ \t]*#/) {
-            if (!is_blank(hidden)) take_out(start, text, "a declaration without an end")
-            hidden = text = ""
-            directive(number)
-            continue
-        }
-        if (hidden == "") start = number
-        hidden = hidden masked[number] "\n"
-        text = text raw[number] "\n"
-        while ((size = end_of_declaration(hidden)) > 0) {
-            after = substr(text, size + 1)
-            declaration(substr(hidden, 1, size), substr(text, 1, size), start)
-            start += newlines(substr(text, 1, size))
-            hidden = substr(hidden, size + 1)
-            text = after
-        }
-        if (is_blank(hidden)) {
-            printf "%s", text
-            hidden = text = ""
-        }
+    gap[count + 1] = between
+    look_ahead()
+    for (at = 1; at <= count; at++) {
+        printf "%s", gap[at]
+        if (token[at] == "#") at = directive(at)
+        else if (token[at] == ";") tell(line_of[at], "a `;` alone: taken out")
+        else at = declaration(at)
     }
-    if (!is_blank(hidden)) {
-        after = ""
-        take_out(start, text, "a declaration without an end")
-    }
+    printf "%s", between
     print "profile_header: " told + 0 " changes, " outs + 0 " of them taken out; of " \
         function_count + 0 " functions " uncallable + 0 " can't be called, and " forgotten + 0 \
-        " constants can't be used: their types are left out" >"/dev/stderr"
+        " constants can't be used: their types are left out" | "cat >&2"
 }

@@ -40,4 +40,4 @@ int LOWEST = 4; // café "“
 sqlquery SqlPrepare(cassowary cSolver, json jQuery=JSON_NULL);
  // int switch(int nCase);
 // int GetLast(int nCount)
-// /* déjà vu, and left open*/
+/* déjà vu, and left open*/

@@ -1,4 +1,5 @@
-//! Tests of the code of units: whole files against listings that were written by hand.
+//! Tests of the code of units: whole files against listings that were written by hand, and the
+//! scripts of docs/LANGUAGE.md against those that it shows.
 #![tactic(auto)]
 
 #[cfg(test)]
@@ -9,5 +10,7 @@ mod declarations;
 mod expressions;
 #[cfg(test)]
 mod headers;
+#[cfg(test)]
+mod language;
 #[cfg(test)]
 mod statements;

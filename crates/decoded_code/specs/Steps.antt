@@ -1,9 +1,10 @@
 -- Decoded instructions, and what they stand for.
-use Rattle.std.specs.Prelude.{◌≡◌, ℕ, ◌-◌, ◌/◌, ◌<◌, ◌≤◌, List, ◌++◌, length, take, replicate, slice_get, Some, IsTrue, nat_lt, if◌then◌else◌}
+use Rattle.std.specs.Prelude.{◌≡◌, ℕ, ◌+◌, ◌-◌, ◌/◌, ◌<◌, ◌≤◌, List, ◌++◌, length, take, replicate, slice_get, Some, IsTrue, nat_lt, if◌then◌else◌}
 use Rattle.std.specs.Option.{option_map}
 use Rattle.nwq_value.specs.Limits.{text_limit}
 use Rattle.ncs_code.specs.Plain.{PlainOp, Int, Float, Text, Object, CpDownSp, RsAdd, CpTopSp, Const, Action, LogAnd, LogOr, IncOr, ExcOr, BoolAnd, Equal, Nequal, Geq, Gt, Lt, Leq, ShLeft, ShRight, UshRight, Add, Sub, Mul, Div, Mod, Neg, Comp, MovSp, Jmp, Jsr, Jz, Retn, Destruct, Not, DecISp, IncISp, Jnz, CpDownBp, CpTopBp, DecIBp, IncIBp, SaveBp, RestoreBp, StoreState, Nop}
 use Rattle.ncs_code.specs.File.{begins, file_length, op_at}
+use Rattle.stack_shape.specs.Laws.{offset_to}
 use Rattle.decoded_code.specs.declared.step.Step.{Step}
 use Rattle.decoded_code.specs.declared.step.Step.TheVariants as steps
 
@@ -12,10 +13,13 @@ use Rattle.decoded_code.specs.declared.step.Step.TheVariants as steps
 abbrev pub whole : List ℕ → ℕ → List ℕ
 whole text left_out = text ++ replicate (if nat_lt (length text) text_limit then 0 else left_out) 0
 
--- the instruction that a decoded one stands for
+-- The instruction that a decoded one stands for. Cells are four bytes, and offsets count from the top
+-- down.
 abbrev pub op_of : Step → PlainOp
+op_of (steps.DownCell above) = CpDownSp (offset_to (above + 1)) 4
 op_of (steps.CpDownSp offset size) = CpDownSp offset size
 op_of (steps.RsAdd kind) = RsAdd kind
+op_of (steps.TopCell above) = CpTopSp (offset_to (above + 1)) 4
 op_of (steps.CpTopSp offset size) = CpTopSp offset size
 op_of (steps.ConstInt n) = Const (Int n)
 op_of (steps.ConstFloat bytes) = Const (Float bytes)
@@ -43,6 +47,7 @@ op_of (steps.Div kind) = Div kind
 op_of steps.Mod = Mod
 op_of (steps.Neg kind) = Neg kind
 op_of steps.Comp = Comp
+op_of (steps.DropCells count) = MovSp (offset_to count)
 op_of (steps.MovSp offset) = MovSp offset
 op_of (steps.Jmp offset) = Jmp offset
 op_of (steps.Jsr offset) = Jsr offset
@@ -50,7 +55,9 @@ op_of (steps.Jz offset) = Jz offset
 op_of steps.Retn = Retn
 op_of (steps.Destruct total offset size) = Destruct total offset size
 op_of steps.Not = Not
+op_of (steps.DecCell above) = DecISp (offset_to (above + 1))
 op_of (steps.DecISp offset) = DecISp offset
+op_of (steps.IncCell above) = IncISp (offset_to (above + 1))
 op_of (steps.IncISp offset) = IncISp offset
 op_of (steps.Jnz offset) = Jnz offset
 op_of (steps.CpDownBp offset size) = CpDownBp offset size

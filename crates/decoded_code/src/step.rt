@@ -1,22 +1,32 @@
-ghost use Rattle.std.specs.Prelude.{◌≡◌, ◌≤◌, IfOk};
+ghost use Rattle.std.specs.Prelude.{◌≡◌, ◌≤◌, ◌<◌, ◌+◌, ◌^◌, IfOk, IfSome};
 ghost use Rattle.nwq_value.specs.Limits.{file_limit};
 ghost use Rattle.ncs_code.specs.Plain.{Const, plain, plain_lit, Text as TextLit};
+ghost use Rattle.ncs_code.specs.Plain.{CpDownSp, CpTopSp, DecISp, IncISp, MovSp};
 ghost use Rattle.ncs_code.specs.Spelling.{op_size};
+ghost use Rattle.stack_shape.specs.Laws.{offset_to};
 ghost use Rattle.decoded_code.specs.Steps.{kept, op_of, whole};
 
 use ncs_code::{Lit, Op};
 use nwq_value::{NoMemory, Text};
+use stack_shape::{range_at, ranges_of_cells};
 use std::alloc::Global;
 
 /// How many bytes a text has at most.
 const TEXT_BYTES: u32 = 8192;
 
-/// A decoded instruction: one variant for each name, with its arguments as they are spelled. What
-/// CONST pushes is decoded too.
+/// A decoded instruction. One variant stands for each name, with its arguments as they are spelled;
+/// further ones, which are asked for first, for those that name one cell, or cells that are
+/// dropped, by numbers of cells. What CONST pushes is decoded too.
+///
+/// The variants that do more than change the cells stand last, so that one comparison tells them.
 #[derive(Drop)]
 pub enum Step {
+    /// CPDOWNSP of one cell, over which so many others lie.
+    DownCell { above: u32 },
     CpDownSp { offset: i32, size: u16 },
     RsAdd { kind: u8 },
+    /// CPTOPSP of one cell, over which so many others lie.
+    TopCell { above: u32 },
     CpTopSp { offset: i32, size: u16 },
     ConstInt(i32),
     /// The four bytes of a float, as they are spelled.
@@ -25,7 +35,6 @@ pub enum Step {
     ConstText { left_out: u32, text: Text },
     /// An object's number.
     ConstObject(u32),
-    Action { routine: u16, count: u8 },
     LogAnd,
     LogOr,
     IncOr,
@@ -43,28 +52,104 @@ pub enum Step {
     Add { kind: u8 },
     Sub { kind: u8 },
     Mul { kind: u8 },
-    Div { kind: u8 },
-    Mod,
     Neg { kind: u8 },
     Comp,
+    /// MOVSP of so many cells, at least one.
+    DropCells { count: u32 },
     MovSp { offset: i32 },
     Jmp { offset: i32 },
-    Jsr { offset: i32 },
     Jz { offset: i32 },
-    Retn,
     Destruct { total: u16, offset: u16, size: u16 },
     Not,
+    /// DECISP of the cell over which so many others lie.
+    DecCell { above: u32 },
     DecISp { offset: i32 },
+    /// INCISP of the cell over which so many others lie.
+    IncCell { above: u32 },
     IncISp { offset: i32 },
     Jnz { offset: i32 },
     CpDownBp { offset: i32, size: u16 },
     CpTopBp { offset: i32, size: u16 },
     DecIBp { offset: i32 },
     IncIBp { offset: i32 },
+    Nop,
+    Div { kind: u8 },
+    Mod,
+    Action { routine: u16, count: u8 },
+    Jsr { offset: i32 },
+    Retn,
     SaveBp,
     RestoreBp,
     StoreState { globals: u32, locals: u32 },
-    Nop,
+}
+
+/// How many cells lie over the one that begins at an offset from the top, where one does.
+#[tactic(auto, using(crate::proofs::Offsets::offset_lemmas))]
+fn cells_above(offset: i32) -> Option<u32>
+    ensures offset { IfSome result (λ above. offset ≡ offset_to (above + 1)) }
+    ensures bound { IfSome result (λ above. above + 1 < 2 ^ 32) }
+{
+    ranges_of_cells();
+    match range_at(offset, 4) {
+        None => None,
+        Some(range) => Some(range.above as u32),
+    }
+}
+
+/// CPDOWNSP.
+fn down_step(offset: i32, size: u16) -> Step
+    ensures step { op_of result ≡ CpDownSp offset size }
+{
+    if size != 4 {
+        return Step::CpDownSp { offset, size };
+    }
+    match cells_above(offset) {
+        None => Step::CpDownSp { offset, size },
+        Some(above) => Step::DownCell { above },
+    }
+}
+
+/// CPTOPSP.
+fn top_step(offset: i32, size: u16) -> Step
+    ensures step { op_of result ≡ CpTopSp offset size }
+{
+    if size != 4 {
+        return Step::CpTopSp { offset, size };
+    }
+    match cells_above(offset) {
+        None => Step::CpTopSp { offset, size },
+        Some(above) => Step::TopCell { above },
+    }
+}
+
+/// MOVSP.
+fn drop_step(offset: i32) -> Step
+    ensures step { op_of result ≡ MovSp offset }
+{
+    match cells_above(offset) {
+        None => Step::MovSp { offset },
+        Some(above) => Step::DropCells { count: above + 1 },
+    }
+}
+
+/// DECISP.
+fn less_step(offset: i32) -> Step
+    ensures step { op_of result ≡ DecISp offset }
+{
+    match cells_above(offset) {
+        None => Step::DecISp { offset },
+        Some(above) => Step::DecCell { above },
+    }
+}
+
+/// INCISP.
+fn more_step(offset: i32) -> Step
+    ensures step { op_of result ≡ IncISp offset }
+{
+    match cells_above(offset) {
+        None => Step::IncISp { offset },
+        Some(above) => Step::IncCell { above },
+    }
 }
 
 /// CONST, of this size.
@@ -90,15 +175,9 @@ pub(crate) fn step_of(alloc: Global, op: &Op<'_>, size: u32) -> Result<Step, NoM
     ensures same { IfOk result (λ step. op_of step ≡ kept (plain op.now)) }
 {
     match op {
-        Op::CpDownSp { offset, size } => Ok(Step::CpDownSp {
-            offset: *offset,
-            size: *size,
-        }),
+        Op::CpDownSp { offset, size } => Ok(down_step(*offset, *size)),
         Op::RsAdd { kind } => Ok(Step::RsAdd { kind: *kind }),
-        Op::CpTopSp { offset, size } => Ok(Step::CpTopSp {
-            offset: *offset,
-            size: *size,
-        }),
+        Op::CpTopSp { offset, size } => Ok(top_step(*offset, *size)),
         Op::Const(lit) => const_step(alloc, lit, size),
         Op::Action { routine, count } => Ok(Step::Action {
             routine: *routine,
@@ -131,7 +210,7 @@ pub(crate) fn step_of(alloc: Global, op: &Op<'_>, size: u32) -> Result<Step, NoM
         Op::Mod => Ok(Step::Mod),
         Op::Neg { kind } => Ok(Step::Neg { kind: *kind }),
         Op::Comp => Ok(Step::Comp),
-        Op::MovSp { offset } => Ok(Step::MovSp { offset: *offset }),
+        Op::MovSp { offset } => Ok(drop_step(*offset)),
         Op::Jmp { offset } => Ok(Step::Jmp { offset: *offset }),
         Op::Jsr { offset } => Ok(Step::Jsr { offset: *offset }),
         Op::Jz { offset } => Ok(Step::Jz { offset: *offset }),
@@ -146,8 +225,8 @@ pub(crate) fn step_of(alloc: Global, op: &Op<'_>, size: u32) -> Result<Step, NoM
             size: *size,
         }),
         Op::Not => Ok(Step::Not),
-        Op::DecISp { offset } => Ok(Step::DecISp { offset: *offset }),
-        Op::IncISp { offset } => Ok(Step::IncISp { offset: *offset }),
+        Op::DecISp { offset } => Ok(less_step(*offset)),
+        Op::IncISp { offset } => Ok(more_step(*offset)),
         Op::Jnz { offset } => Ok(Step::Jnz { offset: *offset }),
         Op::CpDownBp { offset, size } => Ok(Step::CpDownBp {
             offset: *offset,
@@ -191,7 +270,9 @@ impl Step {
         ensures size { result ≡ op_size (op_of self.now) }
     {
         match self {
+            Step::DownCell { .. } => 8,
             Step::CpDownSp { .. } => 8,
+            Step::TopCell { .. } => 8,
             Step::CpTopSp { .. } => 8,
             Step::CpDownBp { .. } => 8,
             Step::CpTopBp { .. } => 8,
@@ -203,17 +284,25 @@ impl Step {
             Step::Action { .. } => 5,
             Step::Equal { kind, .. } => if *kind == 0x24 { 4 } else { 2 },
             Step::Nequal { kind, .. } => if *kind == 0x24 { 4 } else { 2 },
+            Step::DropCells { .. } => 6,
             Step::MovSp { .. } => 6,
             Step::Jmp { .. } => 6,
             Step::Jsr { .. } => 6,
             Step::Jz { .. } => 6,
             Step::Jnz { .. } => 6,
+            Step::DecCell { .. } => 6,
             Step::DecISp { .. } => 6,
+            Step::IncCell { .. } => 6,
             Step::IncISp { .. } => 6,
             Step::DecIBp { .. } => 6,
             Step::IncIBp { .. } => 6,
             Step::StoreState { .. } => 10,
-            _ => 2,
+            Step::RsAdd { .. } | Step::LogAnd | Step::LogOr | Step::IncOr | Step::ExcOr => 2,
+            Step::BoolAnd | Step::Geq { .. } | Step::Gt { .. } | Step::Lt { .. } => 2,
+            Step::Leq { .. } | Step::ShLeft | Step::ShRight | Step::UshRight => 2,
+            Step::Add { .. } | Step::Sub { .. } | Step::Mul { .. } | Step::Div { .. } => 2,
+            Step::Mod | Step::Neg { .. } | Step::Comp | Step::Not | Step::Retn => 2,
+            Step::SaveBp | Step::RestoreBp | Step::Nop => 2,
         }
     }
 }

@@ -35,17 +35,29 @@ divided_in : (op : PlainOp) (f : Frame) (o : Option (List Cell)) → o ≢ None 
 divided_in op f None h e = absurd (h refl)
 divided_in op f (Some cells) h e = ap (λ (b : Bool). Some (if b then Divides else Moves (record f { place = place_after op f.place f.stack.cells; stack = record f.stack { cells = cells } }))) e
 
-pub moved_divides : (op : PlainOp) (f : Frame) → moved op f ≢ None → (is_division op && zero_on_top f.stack.cells) ≡ true → moved op f ≡ Some Divides
-moved_divides op f h e = divided_in op f (cells_after op f.self f.stack) (moved_case op f h) e
+pub moved_divides : (op : PlainOp) (f : Frame) → moved op f ≢ None → is_division op ≡ true → zero_on_top f.stack.cells ≡ true → moved op f ≡ Some Divides
+moved_divides op f h division zero =
+    divided_in op f (cells_after op f.self f.stack) (moved_case op f h)
+    (ap (λ (b : Bool). b && zero_on_top f.stack.cells) division ∙ zero)
 
-pub moved_is : (op : PlainOp) (f : Frame) (cells : List Cell) → (is_division op && zero_on_top f.stack.cells) ≡ false → cells_after op f.self f.stack ≡ Some cells
+moved_as : (op : PlainOp) (f : Frame) (cells : List Cell) → (is_division op && zero_on_top f.stack.cells) ≡ false → cells_after op f.self f.stack ≡ Some cells
     → moved op f ≡ Some (Moves (record f { place = place_after op f.place f.stack.cells; stack = record f.stack { cells = cells } }))
-moved_is op f cells e h =
+moved_as op f cells e h =
     ap (option_map (λ cells. if is_division op && zero_on_top f.stack.cells then Divides
     else Moves (record f { place = place_after op f.place f.stack.cells; stack = record f.stack { cells = cells } }))) h
     ∙ ap (λ (b : Bool). Some (if b then Divides else Moves (record f { place = place_after op f.place f.stack.cells; stack = record f.stack { cells = cells } }))) e
 
-pub ruleset moved_lemmas = (moved_case, moved_divides, moved_is)
+pub moved_is : (op : PlainOp) (f : Frame) (cells : List Cell) → is_division op ≡ false → cells_after op f.self f.stack ≡ Some cells
+    → moved op f ≡ Some (Moves (record f { place = place_after op f.place f.stack.cells; stack = record f.stack { cells = cells } }))
+moved_is op f cells whole h = moved_as op f cells (ap (λ (b : Bool). b && zero_on_top f.stack.cells) whole) h
+
+pub divided_is : (op : PlainOp) (f : Frame) (cells : List Cell) → is_division op ≡ true → zero_on_top f.stack.cells ≡ false → cells_after op f.self f.stack ≡ Some cells
+    → moved op f ≡ Some (Moves (record f { place = place_after op f.place f.stack.cells; stack = record f.stack { cells = cells } }))
+divided_is op f cells division some h = moved_as op f cells (ap (λ (b : Bool). b && zero_on_top f.stack.cells) division ∙ some) h
+
+pub ruleset division_lemmas = (moved_case, moved_divides, divided_is)
+
+pub ruleset moved_lemmas = (moved_case, moved_is)
 
 -- ---- RETN
 

@@ -5,4 +5,3 @@ pub mod RangeLemmas
 pub mod Tests
 pub mod FrameLemmas
 pub mod TakeLemmas
-pub mod OperationLemmas

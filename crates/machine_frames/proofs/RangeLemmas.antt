@@ -15,6 +15,7 @@ use Rattle.saved_state.specs.declared.cell.Cell.TheVariants.{Value as Holds, Bas
 use Rattle.saved_state.specs.Cells.{StackView}
 use Rattle.stack_shape.specs.declared.range.CellRange.{CellRange}
 use Rattle.stack_shape.specs.Ranges.{cell_count, depth_of, range_of, range_at}
+use Rattle.stack_shape.specs.Laws.{DepthOfOffset, RangeOfNumbers, offset_to}
 use Rattle.machine_rules.specs.Cells.{values_on, values_at, value_types, with_values, overwritten, from_bp, range_pushed, values_written, range_written, int_written, int_changed, values_dropped, values_kept, runs_eq, runs_compared, pair_eq, pair_compared}
 use Rattle.machine_rules.specs.Act.{bp_range}
 use Rattle.machine_rules.specs.Laws.{EqualityIsTested}
@@ -41,6 +42,18 @@ if_some false x h = absurd (h refl)
 
 from_some : {A : Type 0} (o : Option A) (P : A → Type 0) (a : A) → o ≡ Some a → IfSome o P → P a
 from_some o P a e h = subst (λ o. IfSome o P) e h
+
+-- ---- by numbers of cells
+
+pub one_is : RangeOfNumbers → (above : ℕ) → Some (record { above = above; count = 1 }) ≡ range_at (offset_to (above + 1)) 4
+one_is law above =
+    let over : (above + 1) - 1 ≡ above = omega arith in
+    sym (law (above + 1) 1 (omega arith) (omega arith) ∙ ap (λ (n : ℕ). Some (record { above = n; count = 1 })) over)
+
+pub count_is : DepthOfOffset → (count : ℕ) → Some count ≡ depth_of (offset_to count)
+count_is law count = sym (law count)
+
+pub ruleset one_lemmas = (one_is, count_is)
 
 -- ---- pushed
 

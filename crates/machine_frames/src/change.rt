@@ -4,14 +4,15 @@ ghost use Rattle.std.specs.Prelude.{slice_get};
 ghost use Rattle.ncs_code.specs.Spelling.{op_size};
 ghost use Rattle.ncs_code.specs.File.{jump_place};
 ghost use Rattle.nwq_value.specs.Limits.{file_limit};
-ghost use Rattle.machine_rules.specs.Act.{cells_after, is_division, place_after};
-ghost use Rattle.machine_rules.specs.Cells.{zero_on_top};
+ghost use Rattle.machine_rules.specs.Act.{cells_after, if_ints, is_division, place_after};
+ghost use Rattle.machine_rules.specs.Cells.{of_ints, zero_on_top};
 ghost use Rattle.decoded_code.specs.Steps.{op_of};
-ghost use Rattle.machine_frames.specs.Operations.{operation_of};
+ghost use Rattle.machine_frames.specs.Operations.{binary_of, divides};
 
 use crate::operation::{Binary, Unary};
 use crate::ranges::{
-    bp_range, change_int, compare, drop_values, keep_range, push_range, write_range,
+    bp_range, cells, change_int, compare, drop_values, keep_range, one_cell, push_range,
+    write_range,
 };
 use crate::top::cell;
 use crate::values::{
@@ -22,14 +23,6 @@ use nwq_value::{NoMemory, Value};
 use saved_state::{Cell, Stack};
 use stack_shape::{depth_of, range_at};
 use std::alloc::Global;
-
-/// Whether the top cell is a divisor.
-#[inline(always)]
-pub fn is_division(step: &Step) -> bool
-    ensures test { result ≡ is_division (op_of step.now) }
-{
-    matches!(step, Step::Div { .. } | Step::Mod)
-}
 
 /// Whether an int that is 0 is on top.
 #[inline(always)]
@@ -63,36 +56,26 @@ pub fn jump(at: u32, offset: i32) -> u32
     }
 }
 
-/// The operation of an instruction that is for two ints alone, behind its type byte.
+/// An operation of the two ints on top, by an instruction with this type byte. Gives the place that
+/// follows.
 #[inline(always)]
-fn operation(step: &Step) -> Option<(u8, Binary)>
-    ensures operation { result ≡ operation_of (op_of step.now) }
+pub fn operate(stack: &mut Stack, kind: u8, op: Binary, at: u32) -> Result<u32, NoMemory>
+    requires case { if_ints kind (of_ints (binary_of op) stack.old.cells) ≢ None }
+    requires divisor { (divides op && zero_on_top stack.old.cells) ≡ false }
+    requires small { at + 2 ≤ file_limit }
+    ensures cells { OnOk result
+        (if_ints kind (of_ints (binary_of op) stack.old.cells) ≡ Some stack.new.cells) }
+    ensures bp { OnOk result (stack.new.bp ≡ stack.old.bp) }
+    ensures place { IfOk result (λ place. place ≡ at + 2) }
 {
-    match step {
-        Step::LogAnd => Some((0x20, Binary::LogAnd)),
-        Step::LogOr => Some((0x20, Binary::LogOr)),
-        Step::IncOr => Some((0x20, Binary::IncOr)),
-        Step::ExcOr => Some((0x20, Binary::ExcOr)),
-        Step::BoolAnd => Some((0x20, Binary::BoolAnd)),
-        Step::Geq { kind } => Some((*kind, Binary::Geq)),
-        Step::Gt { kind } => Some((*kind, Binary::Gt)),
-        Step::Lt { kind } => Some((*kind, Binary::Lt)),
-        Step::Leq { kind } => Some((*kind, Binary::Leq)),
-        Step::ShLeft => Some((0x20, Binary::ShLeft)),
-        Step::ShRight => Some((0x20, Binary::ShRight)),
-        Step::UshRight => Some((0x20, Binary::UshRight)),
-        Step::Sub { kind } => Some((*kind, Binary::Sub)),
-        Step::Mul { kind } => Some((*kind, Binary::Mul)),
-        Step::Div { kind } => Some((*kind, Binary::Div)),
-        Step::Mod => Some((0x20, Binary::Mod)),
-        _ => None,
-    }
+    kind_ints(stack, kind, op)?;
+    Ok(at + 2)
 }
 
-/// The cells after an instruction at a place, in a script that runs with the object `own` as self,
-/// and the place that follows.
+/// The cells after an instruction at a place that doesn't divide, in a script that runs with the
+/// object `own` as self, and the place that follows.
 #[inline(always)]
-#[tactic(auto, using(crate::proofs::OperationLemmas::operation_lemmas))]
+#[tactic(auto, using(crate::proofs::RangeLemmas::reach_lemmas), unfolding(machine_rules::specs::Act::cells_after))]
 pub fn change(
     alloc: Global,
     stack: &mut Stack,
@@ -101,35 +84,7 @@ pub fn change(
     own: u32,
 ) -> Result<u32, NoMemory>
     requires case { cells_after (op_of step.now) own stack.old ≢ None }
-    requires divisor { (is_division (op_of step.now) && zero_on_top stack.old.cells) ≡ false }
-    requires small { at + op_size (op_of step.now) ≤ file_limit }
-    ensures cells { OnOk result
-        (cells_after (op_of step.now) own stack.old ≡ Some stack.new.cells) }
-    ensures bp { OnOk result (stack.new.bp ≡ stack.old.bp) }
-    ensures place { IfOk result
-        (λ place. place ≡ place_after (op_of step.now) at stack.old.cells) }
-{
-    match operation(step) {
-        Some((kind, operation)) => {
-            kind_ints(stack, kind, operation)?;
-            Ok(at + 2)
-        }
-        None => change_otherwise(alloc, stack, step, at, own),
-    }
-}
-
-/// The same of an instruction that isn't for two ints alone.
-#[inline(always)]
-#[tactic(auto, using(crate::proofs::RangeLemmas::reach_lemmas), unfolding(machine_rules::specs::Act::cells_after))]
-fn change_otherwise(
-    alloc: Global,
-    stack: &mut Stack,
-    step: &Step,
-    at: u32,
-    own: u32,
-) -> Result<u32, NoMemory>
-    requires case { cells_after (op_of step.now) own stack.old ≢ None }
-    requires other { operation_of (op_of step.now) ≡ None }
+    requires no_division { is_division (op_of step.now) ≡ false }
     requires small { at + op_size (op_of step.now) ≤ file_limit }
     ensures cells { OnOk result
         (cells_after (op_of step.now) own stack.old ≡ Some stack.new.cells) }
@@ -138,6 +93,40 @@ fn change_otherwise(
         (λ place. place ≡ place_after (op_of step.now) at stack.old.cells) }
 {
     match step {
+        Step::DownCell { above } => {
+            write_range(alloc, stack, one_cell(*above))?;
+            Ok(at + 8)
+        }
+        Step::TopCell { above } => {
+            push_range(alloc, stack, one_cell(*above))?;
+            Ok(at + 8)
+        }
+        Step::DropCells { count } => {
+            drop_values(stack, cells(*count));
+            Ok(at + 6)
+        }
+        Step::DecCell { above } => {
+            change_int(stack, one_cell(*above), Unary::Dec)?;
+            Ok(at + 6)
+        }
+        Step::IncCell { above } => {
+            change_int(stack, one_cell(*above), Unary::Inc)?;
+            Ok(at + 6)
+        }
+        Step::LogAnd => operate(stack, 0x20, Binary::LogAnd, at),
+        Step::LogOr => operate(stack, 0x20, Binary::LogOr, at),
+        Step::IncOr => operate(stack, 0x20, Binary::IncOr, at),
+        Step::ExcOr => operate(stack, 0x20, Binary::ExcOr, at),
+        Step::BoolAnd => operate(stack, 0x20, Binary::BoolAnd, at),
+        Step::Geq { kind } => operate(stack, *kind, Binary::Geq, at),
+        Step::Gt { kind } => operate(stack, *kind, Binary::Gt, at),
+        Step::Lt { kind } => operate(stack, *kind, Binary::Lt, at),
+        Step::Leq { kind } => operate(stack, *kind, Binary::Leq, at),
+        Step::ShLeft => operate(stack, 0x20, Binary::ShLeft, at),
+        Step::ShRight => operate(stack, 0x20, Binary::ShRight, at),
+        Step::UshRight => operate(stack, 0x20, Binary::UshRight, at),
+        Step::Sub { kind } => operate(stack, *kind, Binary::Sub, at),
+        Step::Mul { kind } => operate(stack, *kind, Binary::Mul, at),
         Step::CpDownSp { offset, size } => {
             write_range(alloc, stack, range_at(*offset, *size))?;
             Ok(at + 8)
@@ -238,6 +227,8 @@ fn change_otherwise(
             Ok(at + 6)
         }
         Step::Nop => Ok(at + 2),
-        _ => unreachable!(),
+        Step::ConstFloat(_) | Step::Div { .. } | Step::Mod => unreachable!(),
+        Step::Action { .. } | Step::Jsr { .. } | Step::Retn => unreachable!(),
+        Step::SaveBp | Step::RestoreBp | Step::StoreState { .. } => unreachable!(),
     }
 }

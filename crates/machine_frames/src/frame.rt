@@ -1,13 +1,13 @@
 //! Running scripts.
-ghost use Rattle.std.specs.Prelude.{◌≡◌, ◌≢◌, ◌+◌, ◌≤◌, ◌<◌, ◌^◌, None, Some, IfOk, OnOk, length};
-ghost use Rattle.std.specs.Prelude.{if◌then◌else◌};
+ghost use Rattle.std.specs.Prelude.{◌≡◌, ◌≢◌, ◌+◌, ◌≤◌, ◌<◌, ◌^◌, false, length};
+ghost use Rattle.std.specs.Prelude.{if◌then◌else◌, None, Some, IfOk, OnOk};
 ghost use Rattle.nwq_value.specs.Limits.{file_limit};
-ghost use Rattle.ncs_code.specs.Plain.{Jsr, SaveBp, RestoreBp, StoreState};
+ghost use Rattle.ncs_code.specs.Plain.{Div, Jsr, Mod, SaveBp, RestoreBp, StoreState};
 ghost use Rattle.ncs_code.specs.Spelling.{op_size};
 ghost use Rattle.machine_rules.specs.Frames.{started, continued};
 ghost use Rattle.machine_rules.specs.Machine.{with_answer};
 ghost use Rattle.machine_rules.specs.Act.{Moves, Divides, Returns, based, subroutine_called, moved};
-ghost use Rattle.machine_rules.specs.Act.{restored};
+ghost use Rattle.machine_rules.specs.Act.{is_division, restored};
 ghost use Rattle.machine_rules.specs.Act.{returned, stored, stored_cells};
 ghost use Rattle.std.specs.Prelude.{◌∷◌};
 ghost use Rattle.std.specs.Option.{option_map};
@@ -15,7 +15,8 @@ ghost use Rattle.decoded_code.specs.Steps.{op_of};
 ghost use Rattle.machine_frames.specs.Tops.{bp_on_top};
 ghost use Rattle.machine_rules.specs.Frames.{Frame as FrameView};
 
-use crate::change::{change, is_division, jump, zero_on_top};
+use crate::change::{change, jump, operate, zero_on_top};
+use crate::operation::Binary;
 use crate::top::cell;
 use decoded_code::Step;
 use nwq_value::{NoMemory, Value};
@@ -119,20 +120,49 @@ impl Frame {
         self.place += size;
     }
 
-    /// An instruction that changes nothing but the cells and the place. `false` says that its
-    /// divisor is 0.
+    /// An instruction that changes nothing but the cells and the place, and isn't a division.
     #[inline(always)]
     #[tactic(auto, using(crate::proofs::FrameLemmas::moved_lemmas))]
-    pub fn moves(&mut self, alloc: Global, step: &Step) -> Result<bool, NoMemory>
+    pub fn moves(&mut self, alloc: Global, step: &Step) -> Result<(), NoMemory>
         requires case { moved (op_of step.now) self.old ≢ None }
+        requires no_division { is_division (op_of step.now) ≡ false }
         requires small { self.old.place + op_size (op_of step.now) ≤ file_limit }
-        ensures act { IfOk result (λ goes. moved (op_of step.now) self.old
-            ≡ Some (if goes then Moves self.new else Divides)) }
+        ensures act { OnOk result (moved (op_of step.now) self.old ≡ Some (Moves self.new)) }
+        ensures script { self.new.script ≡ self.old.script }
     {
-        if is_division(step) && zero_on_top(&self.stack) {
+        self.place = change(alloc, &mut self.stack, step, self.place, self.own)?;
+        Ok(())
+    }
+
+    /// DIV. `false` says that its divisor is 0.
+    #[tactic(auto, using(crate::proofs::FrameLemmas::division_lemmas), unfolding(machine_rules::specs::Act::cells_after))]
+    pub fn divides(&mut self, kind: u8) -> Result<bool, NoMemory>
+        requires case { moved (Div kind) self.old ≢ None }
+        requires small { self.old.place + op_size (Div kind) ≤ file_limit }
+        ensures act { IfOk result (λ goes. moved (Div kind) self.old
+            ≡ Some (if goes then Moves self.new else Divides)) }
+        ensures script { self.new.script ≡ self.old.script }
+    {
+        if zero_on_top(&self.stack) {
             return Ok(false);
         }
-        self.place = change(alloc, &mut self.stack, step, self.place, self.own)?;
+        self.place = operate(&mut self.stack, kind, Binary::Div, self.place)?;
+        Ok(true)
+    }
+
+    /// MOD. `false` says that its divisor is 0.
+    #[tactic(auto, using(crate::proofs::FrameLemmas::division_lemmas), unfolding(machine_rules::specs::Act::cells_after))]
+    pub fn leaves_remainder(&mut self) -> Result<bool, NoMemory>
+        requires case { moved Mod self.old ≢ None }
+        requires small { self.old.place + op_size Mod ≤ file_limit }
+        ensures act { IfOk result (λ goes. moved Mod self.old
+            ≡ Some (if goes then Moves self.new else Divides)) }
+        ensures script { self.new.script ≡ self.old.script }
+    {
+        if zero_on_top(&self.stack) {
+            return Ok(false);
+        }
+        self.place = operate(&mut self.stack, 0x20, Binary::Mod, self.place)?;
         Ok(true)
     }
 
@@ -142,6 +172,7 @@ impl Frame {
         requires size { size ≡ op_size (Jsr offset) }
         requires small { self.old.place + size ≤ file_limit }
         ensures act { OnOk result (subroutine_called offset self.old ≡ Moves self.new) }
+        ensures script { self.new.script ≡ self.old.script }
     {
         self.calls.push(self.place + size)?;
         self.place = jump(self.place, offset);
@@ -153,6 +184,7 @@ impl Frame {
     pub fn give_back(&mut self) -> bool
         ensures act { returned self.old.calls self.old
             ≡ (if result then Moves self.new else Returns) }
+        ensures script { self.new.script ≡ self.old.script }
     {
         match self.calls.pop() {
             None => false,
@@ -168,6 +200,7 @@ impl Frame {
         requires size { size ≡ op_size SaveBp }
         requires small { self.old.place + size ≤ file_limit }
         ensures act { OnOk result (based self.old ≡ Moves self.new) }
+        ensures script { self.new.script ≡ self.old.script }
     {
         let len = self.stack.len();
         let bp = self.stack.bp();
@@ -186,6 +219,7 @@ impl Frame {
         requires size { size ≡ op_size RestoreBp }
         requires small { self.old.place + size ≤ file_limit }
         ensures act { restored self.old.stack.cells self.old ≡ Some (Moves self.new) }
+        ensures script { self.new.script ≡ self.old.script }
     {
         let bp = self.kept_bp();
         self.stack.drop_top(1);
@@ -212,6 +246,7 @@ impl Frame {
         requires size { size ≡ op_size (StoreState globals locals) }
         requires small { self.old.place + size ≤ file_limit }
         ensures act { OnOk result (stored globals locals self.old ≡ Some (Moves self.new)) }
+        ensures script { self.new.script ≡ self.old.script }
     {
         match (cell_count(globals), cell_count(locals)) {
             (Some(globals), Some(locals)) => self.capture(globals, locals, size),
@@ -228,6 +263,7 @@ impl Frame {
           place = self.old.place + size;
           pending = saved ∷ self.old.pending;
         }) (stored_cells globals locals self.old) ≡ Some self.new) }
+        ensures script { self.new.script ≡ self.old.script }
     {
         let saved = self
             .stack

@@ -6,6 +6,8 @@ ghost use Rattle.machine_rules.specs.Act.{bp_range, compared};
 ghost use Rattle.machine_rules.specs.Cells.{int_changed, pair_compared, range_kept, range_pushed};
 ghost use Rattle.machine_rules.specs.Cells.{range_written, runs_compared, values_dropped};
 ghost use Rattle.machine_rules.specs.Cells.{values_kept, values_on};
+ghost use Rattle.stack_shape.specs.Laws.{offset_to};
+ghost use Rattle.stack_shape.specs.Ranges.{depth_of, range_at};
 ghost use Rattle.stack_shape.specs.StackEffects.{type_of_both};
 ghost use Rattle.machine_frames.specs.Operations.{unary_of};
 ghost use Rattle.machine_frames.specs.Tops.{AreValues, answer_of, int_at, reached};
@@ -16,8 +18,31 @@ use crate::top::{int, put, value};
 use machine_rules::equality_is_tested;
 use nwq_value::{NoMemory, Value};
 use saved_state::{Cell, Stack};
-use stack_shape::{CellRange, cell_count, range_at};
+use stack_shape::{CellRange, cell_count, cells_of_bytes, range_at, ranges_of_cells};
 use std::alloc::Global;
+
+/// The one cell over which so many others lie.
+#[inline(always)]
+#[tactic(auto, using(crate::proofs::RangeLemmas::one_lemmas))]
+pub fn one_cell(above: u32) -> Option<CellRange>
+    ensures range { result ≡ range_at (offset_to (above + 1)) 4 }
+{
+    ranges_of_cells();
+    Some(CellRange {
+        above: above as usize,
+        count: 1,
+    })
+}
+
+/// So many cells.
+#[inline(always)]
+#[tactic(auto, using(crate::proofs::RangeLemmas::one_lemmas))]
+pub fn cells(count: u32) -> Option<usize>
+    ensures count { result ≡ depth_of (offset_to count) }
+{
+    cells_of_bytes();
+    Some(count as usize)
+}
 
 /// The values of a range are pushed.
 #[inline(always)]

@@ -1,7 +1,7 @@
 -- Writing the lines out.
 use Rattle.std.proofs.Common.{◌≡◌, ◌<◌, ◌≤◌, ◌+◌, ◌*◌, ◌++◌, ◌∷◌, [], ℕ, ℤ, List, length, get_or, take, drop, sym, ◌∙◌, ap, arith, refl, subst, append_assoc, Option, None}
 use Rattle.std.specs.Prelude.{unwrap_or}
-use Rattle.std.proofs.lemmas.List.{length-append, append-nil, take_at, drop_more}
+use Rattle.std.proofs.lemmas.List.{length-append, take_at, drop_more}
 use Rattle.ncs_code.specs.Plain.{PlainOp}
 use Rattle.ncs_code.specs.Spelling.{spelling, op_size, four}
 use Rattle.ncs_code.specs.Reading.{op_of}
@@ -78,15 +78,6 @@ put_label whole lines labels size file rest left others label h is =
       fits = fits.1;
       total = omega (arith, h.total, ap kept_total is);
     }
-
-pub put_ends : (whole : List ℕ) (lines : List Line) (labels size : ℕ) (file rest : List ℕ) (left : List Kept) → PutSoFar whole lines labels size file rest left → left ≡ [] → file ≡ whole
-put_ends whole lines labels size file rest left h is =
-    sym (append-nil file) ∙ subst (λ ks. file ++ spellings (ops_from (place_of_label lines) (length file) (lines_of rest ks)) ≡ whole) is h.same
-
--- the label of the jump in view was made, and its place is known
-pub label_made : (whole : List ℕ) (lines : List Line) (labels size : ℕ) (file rest : List ℕ) (left others : List Kept) (kind : Jump) (label : ℕ) → PutSoFar whole lines labels size file rest left
-    → left ≡ kept.Jump kind label ∷ others → label < labels
-label_made whole lines labels size file rest left others kind label h is = (subst (KeptFits labels rest) is h.fits).0
 
 pub place_known : (labels size : ℕ) (bytes : List ℕ) (all : List Kept) (places : List (Option ℕ)) (label : ℕ) → KeptFits labels bytes all
     → ((l : ℕ) → unwrap_or (get_or places l None) size ≡ kept_place 13 all l) → unwrap_or (get_or places label None) size ≡ place_of_label (lines_of bytes all) label

@@ -1,6 +1,6 @@
 -- A run, turn by turn.
 use Rattle.std.proofs.Common.{arith, ◌≡◌, ◌≤◌, ◌<◌, ◌+◌, ◌-◌, ℕ, suc, List, [], ◌∷◌, length, Option, Some, None, sym, subst, ap, ◌∙◌, refl}
-use Rattle.std.specs.Prelude.{◌^◌}
+use Rattle.std.specs.Prelude.{◌^◌, ◌≢◌, slice_get}
 use Rattle.nwq_value.specs.Engine.{IsTable}
 use Rattle.nwq_value.specs.Limits.{instruction_limit}
 use Rattle.saved_state.specs.declared.saved.Saved.{Saved}
@@ -17,12 +17,14 @@ use Rattle.stack_rules.specs.Laws.{AllMeet, IsReached, Unchanged, ByCall, ByMiss
 use Rattle.world_rules.specs.World.{World, count}
 use Rattle.world_rules.specs.Kept.{IsWorld, EngineKeeps, NoScriptKeeps, TooDeepKeeps}
 use Rattle.world_rules.specs.declared.data.Told.TheVariants as line
-use Rattle.ncs_machine.specs.Host.{EngineView, host}
+use Rattle.ncs_machine.specs.declared.scripts.Loaded.{Loaded}
+use Rattle.ncs_machine.specs.Host.{EngineView, host, scripts_of}
 use Rattle.ncs_machine.specs.Endings.{EndsAs, IsCut, IsLeft, IsRunOf, WhereRan}
 use Rattle.ncs_machine.specs.Stored.{StatesFit}
 use Rattle.ncs_machine.proofs.Fitting.{engine_keeps, told_keeps}
 use Rattle.ncs_machine.specs.Steps.{AnswersTyped, Frames, GoesWell, IsHalfway, state, world_behind}
 use Rattle.world_core.specs.Calls.{IsEarly}
+use Rattle.ncs_machine.proofs.Stepping.{is_listed}
 use Rattle.ncs_machine.proofs.Kept.{AllObjects, AreObjects, WorldLaws, step_leaves}
 
 abbrev pub Reached : List Script → EngineView → Tables → World Saved → World Saved → Type 0
@@ -214,6 +216,11 @@ module _ (scripts : List Script) (e : EngineView) (tables : Tables) (limit : ℕ
     clock = let k = left.clock in omega arith;
     next = let k = left.few in omega arith;
   }
+
+-- the script that runs is listed
+pub still_listed : (scripts : List Loaded) (e : EngineView) (tables : Tables) (limit : ℕ) (first : State (World Saved)) (done : ℕ) (m : Frames) (w : World Saved)
+    → SoFar (scripts_of scripts) e tables limit first done (state m w) → slice_get scripts m.running.script ≢ None
+still_listed scripts e tables limit first done m w x = is_listed scripts e m w (steps_well (scripts_of scripts) e tables limit first done (state m w) x)
 
 -- ---- the worlds that a run leads to
 

@@ -197,4 +197,5 @@ decoded_cut scripts e m w v l decoded h next half =
     (sym (act_step scripts e m w l next.op h next.stands ∙ ap (option_map (followed (host (scripts_of scripts) e) (state m w))) (sym (same_act e.table l m.running.place decoded m.running next))))
     half
 
-pub ruleset step_lemmas = (not_listed)
+pub is_listed : (scripts : List Loaded) (e : EngineView) (m : Frames) (w : World Saved) → GoesWell (step (host (scripts_of scripts) e) (state m w)) → slice_get scripts m.running.script ≢ None
+is_listed scripts e m w well none = not_listed scripts e m w none well

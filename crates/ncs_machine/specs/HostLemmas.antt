@@ -21,7 +21,6 @@ use Rattle.stack_rules.specs.Fits.{Tables, IsListed}
 use Rattle.stack_rules.specs.Laws.{AllMeet, HasType, IsWellStackedHost, TablesTypeExecuteScript}
 use Rattle.world_rules.specs.World.{World}
 use Rattle.world_rules.specs.AlikeLaws.{call}
-use Rattle.world_rules.specs.Plays as plays
 use Rattle.world_core.specs.Answers.{AnswersHaveTypes, IsOfType}
 use Rattle.ncs_machine.specs.Host.{EngineView, engine_answer, host}
 

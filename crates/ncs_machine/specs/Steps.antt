@@ -24,6 +24,7 @@ state m w = record { running = m.running; waiting = m.waiting; world = w }
 -- what the code's answer says of a step that leads to this state, if the entry goes on
 abbrev pub next_of : StepOutcome → State (World Saved) → Next (World Saved)
 next_of code.Goes t = Goes t
+next_of code.Enters t = Goes t
 next_of code.Ends t = Ends
 next_of code.Divides t = Divided
 
@@ -59,5 +60,13 @@ pub data IsHalfway (before behind v : World Saved) : Type 0 where
 -- where the entry ends, the world is left as it is
 abbrev pub Stays : StepOutcome → World Saved → World Saved → Type 0
 Stays code.Goes w v = Unit {0}
+Stays code.Enters w v = Unit {0}
 Stays code.Ends w v = v ≡ w
 Stays code.Divides w v = v ≡ w
+
+-- where the script goes on, the frames that run before and after a step are of the same one
+abbrev pub Remains : StepOutcome → ℕ → ℕ → Type 0
+Remains code.Goes before after = after ≡ before
+Remains code.Enters before after = Unit {0}
+Remains code.Ends before after = Unit {0}
+Remains code.Divides before after = Unit {0}

@@ -78,12 +78,14 @@ fn run_machine(
     world.keeps();
     table.keeps();
     answers_have_types::<Saved>();
+    let mut script = machine.script(scripts);
     for done in 0..limit {
         let own = machine.own();
-        match machine.step(alloc, scripts, world, hooks, table) {
+        match machine.step(alloc, scripts, script, world, hooks, table) {
             Err(_) => return (Ran::NoMemory, done, own),
             Ok(next) => match next {
                 StepOutcome::Goes => {}
+                StepOutcome::Enters => script = machine.script(scripts),
                 StepOutcome::Ends => return (Ran::Ended, done + 1, own),
                 StepOutcome::Divides => return (Ran::Divide, done + 1, own),
             },

@@ -1,6 +1,6 @@
 //! The frames of a running entry, and one step.
 ghost use Rattle.std.specs.Prelude.{◌≡◌, ◌≢◌, ◌≤◌, ◌<◌, ◌+◌, ◌^◌, [], ◌∷◌, length, map, None};
-ghost use Rattle.std.specs.Prelude.{IfOk, OnErr, OnOk};
+ghost use Rattle.std.specs.Prelude.{IfOk, OnErr, OnOk, Some, slice_get, ℕ};
 ghost use Rattle.std.specs.List.{position_from};
 ghost use Rattle.nwq_value.specs.Limits.{file_limit};
 ghost use Rattle.ncs_code.specs.Plain.{Action};
@@ -17,7 +17,7 @@ ghost use Rattle.machine_rules.specs.Machine.{script_named};
 ghost use Rattle.world_rules.specs.World.{World as WorldView, count as object_count};
 ghost use Rattle.ncs_machine.specs.Host.{EngineView, answer_of, engine_answer, engine_view, host};
 ghost use Rattle.ncs_machine.specs.Host.{scripts_of};
-ghost use Rattle.ncs_machine.specs.Steps.{FitArguments, IsHalfway, next_of, state};
+ghost use Rattle.ncs_machine.specs.Steps.{FitArguments, IsHalfway, Remains, next_of, state};
 ghost use Rattle.world_core.specs.Calls.{AreServing, IsEarly};
 
 use crate::scripts::{Loaded, Scripts};
@@ -52,7 +52,10 @@ impl Model for Machine {
 /// What a step leads to.
 #[derive(Clone, Copy)]
 pub enum StepOutcome {
+    /// The script goes on.
     Goes,
+    /// The entry goes on, in another script maybe.
+    Enters,
     /// The last script is over.
     Ends,
     /// A divisor is 0, which ends the whole entry.
@@ -115,11 +118,15 @@ impl Machine {
         }
     }
 
-    /// The number of the running script.
-    pub(crate) fn script(&self) -> u32
-        ensures script { result ≡ self.now.running.script }
+    /// The running script.
+    pub(crate) fn script<'a>(&self, scripts: &'a Scripts) -> &'a Loaded
+        requires listed { slice_get scripts.now self.now.running.script ≢ None }
+        ensures script { slice_get scripts.now self.now.running.script ≡ Some result.now }
     {
-        self.running.script()
+        match scripts.get(self.running.script() as usize) {
+            None => unreachable!(),
+            Some(script) => script,
+        }
     }
 
     /// The place of its next instruction.
@@ -165,12 +172,13 @@ impl Machine {
     fn end_script(&mut self) -> StepOutcome
         ensures next { (w : WorldView SavedView) → over self.old.waiting (state self.old w)
             ≡ next_of result (state self.new w) }
+        ensures remains { (script : ℕ) → Remains result script self.new.running.script }
     {
         match self.waiting.pop() {
             None => StepOutcome::Ends,
             Some(frame) => {
                 drop(mem::replace(&mut self.running, frame));
-                StepOutcome::Goes
+                StepOutcome::Enters
             }
         }
     }
@@ -181,6 +189,7 @@ impl Machine {
         ensures next { (h : Host (WorldView SavedView)) (w : WorldView SavedView) →
             followed h (state self.old w) (returned self.old.running.calls self.old.running)
             ≡ next_of result (state self.new w) }
+        ensures remains { Remains result self.old.running.script self.new.running.script }
     {
         if self.running.give_back() {
             StepOutcome::Goes

@@ -1,6 +1,6 @@
 //! One instruction of a running entry.
 ghost use Rattle.std.specs.Prelude.{◌≡◌, ◌≢◌, ◌≤◌, ◌<◌, ◌+◌, ◌^◌, None, Some, IfOk, IfSome};
-ghost use Rattle.std.specs.Prelude.{OnErr, length, map};
+ghost use Rattle.std.specs.Prelude.{OnErr, length, map, slice_get};
 ghost use Rattle.std.specs.Option.{option_map};
 ghost use Rattle.nwq_value.specs.Limits.{file_limit};
 ghost use Rattle.ncs_code.specs.Spelling.{op_size};
@@ -10,12 +10,13 @@ ghost use Rattle.machine_rules.specs.Machine.{followed, step};
 ghost use Rattle.world_rules.specs.World.{count};
 ghost use Rattle.decoded_code.specs.Steps.{op_of};
 ghost use Rattle.ncs_machine.specs.Host.{engine_view, host, scripts_of};
-ghost use Rattle.ncs_machine.specs.Steps.{GoesWell, IsHalfway, Stays, next_of, state, world_behind};
+ghost use Rattle.ncs_machine.specs.Steps.{GoesWell, IsHalfway, Remains, Stays, next_of, state};
+ghost use Rattle.ncs_machine.specs.Steps.{world_behind};
 ghost use Rattle.world_core.specs.Calls.{AreServing, IsEarly};
 
 use crate::call::EngineCall;
 use crate::machine::{Machine, StepOutcome};
-use crate::scripts::Scripts;
+use crate::scripts::{Loaded, Scripts};
 use decoded_code::Step;
 use hook_table::Hooks;
 use ncs_code::place_laws;
@@ -53,6 +54,8 @@ impl Machine {
             (engine_view table.now (map (λ h. h.known) hooks.now.all.items)))
             (state self.old world.old.world) a
             ≡ next_of next (state self.new world.new.world))) }
+        ensures remains { IfOk result (λ next. Remains next self.old.running.script
+            self.new.running.script) }
         ensures cut { OnErr result (IsHalfway world.old.world (world_behind (option_map (followed
             (host (scripts_of scripts.now)
             (engine_view table.now (map (λ h. h.known) hooks.now.all.items)))
@@ -67,7 +70,7 @@ impl Machine {
                     size: decoded.size(),
                 };
                 self.call_engine(alloc, scripts, world, hooks, table, call)?;
-                Ok(StepOutcome::Goes)
+                Ok(StepOutcome::Enters)
             }
             Step::Jsr { offset } => {
                 self.running.call(*offset, decoded.size())?;
@@ -86,28 +89,40 @@ impl Machine {
                 self.running.store(*globals, *locals, decoded.size())?;
                 Ok(StepOutcome::Goes)
             }
-            _ => {
-                if self.running.moves(alloc, decoded)? {
+            Step::Div { kind } => {
+                if self.running.divides(*kind)? {
                     Ok(StepOutcome::Goes)
                 } else {
                     Ok(StepOutcome::Divides)
                 }
             }
+            Step::Mod => {
+                if self.running.leaves_remainder()? {
+                    Ok(StepOutcome::Goes)
+                } else {
+                    Ok(StepOutcome::Divides)
+                }
+            }
+            _ => {
+                self.running.moves(alloc, decoded)?;
+                Ok(StepOutcome::Goes)
+            }
         }
     }
 
-    /// The next instruction.
+    /// The next instruction, of the running script.
     #[inline(always)]
-    #[tactic(auto, using(crate::proofs::Stepping::step_lemmas))]
     pub(crate) fn step(
         &mut self,
         alloc: Global,
         scripts: &Scripts,
+        script: &Loaded,
         world: &mut World<Saved>,
         hooks: &Hooks,
         table: &Table,
     ) -> Result<StepOutcome, NoMemory>
         requires few { length scripts.now < 2 ^ 32 }
+        requires script { slice_get scripts.now self.old.running.script ≡ Some script.now }
         requires early { IsEarly world.old.world }
         requires caller { self.old.running.self ≤ count world.old.world }
         requires hooks { AreServing (map (λ h. h.known) hooks.now.all.items) }
@@ -121,20 +136,17 @@ impl Machine {
             (engine_view table.now (map (λ h. h.known) hooks.now.all.items)))
             (state self.old world.old.world)
             ≡ Some (next_of next (state self.new world.new.world))) }
+        ensures remains { IfOk result (λ next. Remains next self.old.running.script
+            self.new.running.script) }
         ensures cut { OnErr result (IsHalfway world.old.world (world_behind (step
             (host (scripts_of scripts.now)
             (engine_view table.now (map (λ h. h.known) hooks.now.all.items)))
             (state self.old world.old.world)) world.old.world) world.new.world) }
     {
         place_laws();
-        match scripts.get(self.script() as usize) {
-            None => unreachable!(),
-            Some(script) => {
-                script.code.sound();
-                let decoded = script.code.step_at(self.place());
-                let next = self.act(alloc, scripts, world, hooks, table, decoded)?;
-                Ok(next)
-            }
-        }
+        script.code.sound();
+        let decoded = script.code.step_at(self.place());
+        let next = self.act(alloc, scripts, world, hooks, table, decoded)?;
+        Ok(next)
     }
 }

@@ -1,4 +1,5 @@
 mod FoundLemmas
+mod HashLemmas
 mod IndexLemmas
 mod KeyLemmas
 mod NameLemmas

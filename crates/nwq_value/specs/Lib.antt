@@ -1,6 +1,7 @@
 pub mod Effect
 pub mod Engine
 pub mod Entries
+pub mod Hashed
 pub mod Header
 pub mod HeaderTable
 pub mod Index

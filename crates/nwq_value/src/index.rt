@@ -1,41 +1,136 @@
-ghost use Rattle.std.specs.Prelude.{◌≡◌, [], None, Some, IsSome, OnOk, OnErr, map};
+ghost use Rattle.std.specs.Prelude.{◌≡◌, [], None, Some, IsSome, OnOk, OnErr, map, true};
+ghost use Rattle.std.specs.Ordering.{nat_cmp};
+ghost use Rattle.std.specs.BTreeMap.{get};
 ghost use Rattle.nwq_value.specs.Index.{entry, number_under, Puts};
+ghost use Rattle.nwq_value.specs.Hashed.{hash_of, first_of, is_free, AreHashed, PutsFirst};
 
 use crate::memory::NoMemory;
 use std::alloc::Global;
 use std::collections::BTreeMap;
+use std::hash::{FoldHasher, Hasher};
 use std::marker::Model;
 
-/// Numbers under names, each found by going down a tree of the names. Contracts see names with
-/// numbers, and speak of the number that stands under a name.
+/// A name with its number.
+#[derive(Drop)]
+pub(crate) struct Numbered {
+    name: Vec<u8>,
+    number: usize,
+}
+
+/// Numbers under names, each found by going down a tree of the names' hashes. Contracts see names
+/// with numbers, and speak of the number that stands under a name.
+///
+/// The hash is fixed, so whoever picks the names can make hashes equal. The tree of hashes has one
+/// name for each hash; the others stand in a tree of names. So a look-up takes a logarithm of how
+/// many names there are, whatever they are.
 pub struct NameIndex {
     alloc: Global,
-    numbers: BTreeMap<Vec<u8>, usize>,
+    first: BTreeMap<u64, Numbered>,
+    others: BTreeMap<Vec<u8>, usize>,
 }
 
 impl Model for NameIndex {
-    ghost use Rattle.std.specs.Prelude.{List, ℕ, map};
-    ghost use Rattle.nwq_value.specs.Index.{entry};
+    ghost use Rattle.std.specs.Prelude.{List, ℕ};
+    ghost use Rattle.nwq_value.specs.Hashed.{AreHashed, names_of};
 
     ghost Value = { List (List ℕ × ℕ) };
 
-    ghost view = { λ n. map entry n.numbers.entries };
+    ghost view = { λ n. names_of n.first n.others };
+
+    ghost invariant = { λ n. AreHashed n.first };
 }
 
 impl Drop for NameIndex {
     fn drop(self) {
-        let NameIndex { alloc: _, numbers } = self;
-        drop(numbers);
+        let NameIndex {
+            alloc: _,
+            first,
+            others,
+        } = self;
+        drop(first);
+        drop(others);
+    }
+}
+
+/// The hash of a name.
+fn hash_of(name: &[u8]) -> u64
+    ensures { result ≡ hash_of name.now }
+{
+    let mut hasher = FoldHasher::default();
+    hasher.write(name);
+    hasher.finish()
+}
+
+/// The number of a name, if it is the one that stands under its hash.
+fn first_of(first: &BTreeMap<u64, Numbered>, name: &[u8]) -> Option<usize>
+    ensures { result ≡ first_of first.now name.now }
+{
+    match first.get(&hash_of(name)) {
+        Some(held) => {
+            if held.name.as_slice() == name {
+                Some(held.number)
+            } else {
+                None
+            }
+        }
+        None => None,
+    }
+}
+
+/// Whether no other name stands under the hash of a name.
+fn is_free(first: &BTreeMap<u64, Numbered>, hash: u64, name: &[u8]) -> bool
+    ensures { result ≡ is_free name.now (get nat_cmp first.now hash) }
+{
+    match first.get(&hash) {
+        Some(held) => held.name.as_slice() == name,
+        None => true,
+    }
+}
+
+/// Puts a name with its number under its hash, where no other name stands.
+fn put_first(first: &mut BTreeMap<u64, Numbered>, hash: u64, held: Numbered) -> Result<(), NoMemory>
+    requires hashed { AreHashed first.old }
+    requires hash { hash ≡ hash_of held.name.items }
+    requires free { is_free held.name.items (get nat_cmp first.old hash) ≡ true }
+    ensures ok { OnOk result
+        (PutsFirst held.name.items (Some held.number) first.old first.new) }
+    ensures same { OnErr result (first.new.entries ≡ first.old.entries) }
+    ensures still { OnErr result (AreHashed first.new) }
+{
+    match first.insert(hash, held) {
+        Ok(_) => Ok(()),
+        Err(_) => Err(NoMemory),
+    }
+}
+
+/// Puts another number under a name that stands under its hash.
+fn renumber(first: &mut BTreeMap<u64, Numbered>, name: &[u8], number: usize)
+    requires hashed { AreHashed first.old }
+    requires there { IsSome (first_of first.old name.now) }
+    ensures { PutsFirst name.now (Some number) first.old first.new }
+{
+    if let Some(held) = first.get_mut(&hash_of(name)) {
+        held.number = number;
+    }
+}
+
+/// Takes a name out, if it stands under its hash.
+fn take_out(first: &mut BTreeMap<u64, Numbered>, name: &[u8])
+    requires hashed { AreHashed first.old }
+    ensures { PutsFirst name.now None first.old first.new }
+{
+    if first_of(first, name).is_some() {
+        first.remove(&hash_of(name));
     }
 }
 
 /// Puts another number under a name that is there.
-fn replace(numbers: &mut BTreeMap<Vec<u8>, usize>, name: &[u8], number: usize)
-    requires there { IsSome (number_under name.now (map entry numbers.old.entries)) }
-    ensures { Puts name.now (Some number) (map entry numbers.old.entries)
-        (map entry numbers.new.entries) }
+fn replace(others: &mut BTreeMap<Vec<u8>, usize>, name: &[u8], number: usize)
+    requires there { IsSome (number_under name.now (map entry others.old.entries)) }
+    ensures { Puts name.now (Some number) (map entry others.old.entries)
+        (map entry others.new.entries) }
 {
-    if let Some(held) = numbers.get_mut(name) {
+    if let Some(held) = others.get_mut(name) {
         *held = number;
     }
 }
@@ -47,7 +142,8 @@ impl NameIndex {
     {
         NameIndex {
             alloc,
-            numbers: BTreeMap::new(alloc),
+            first: BTreeMap::new(alloc),
+            others: BTreeMap::new(alloc),
         }
     }
 
@@ -55,7 +151,10 @@ impl NameIndex {
     pub fn get(&self, name: &[u8]) -> Option<usize>
         ensures number { result ≡ number_under name.now self.now }
     {
-        self.numbers.get(name).copied()
+        match first_of(&self.first, name) {
+            Some(number) => Some(number),
+            None => self.others.get(name).copied(),
+        }
     }
 
     /// Puts a number under a name, whether there is one or not. After `NoMemory` the index is as
@@ -64,9 +163,14 @@ impl NameIndex {
         ensures ok { OnOk result (Puts name.now (Some number) self.old self.new) }
         ensures err { OnErr result (self.new ≡ self.old) }
     {
+        let hash = hash_of(name);
         let key = Vec::from_slice(self.alloc, name)?;
-        self.numbers.insert(key, number)?;
-        Ok(())
+        if is_free(&self.first, hash, name) {
+            put_first(&mut self.first, hash, Numbered { name: key, number })
+        } else {
+            self.others.insert(key, number)?;
+            Ok(())
+        }
     }
 
     /// Puts another number under a name, which takes no memory.
@@ -74,20 +178,26 @@ impl NameIndex {
         requires there { IsSome (number_under name.now self.old) }
         ensures put { Puts name.now (Some number) self.old self.new }
     {
-        replace(&mut self.numbers, name, number);
+        if first_of(&self.first, name).is_some() {
+            renumber(&mut self.first, name, number);
+        } else {
+            replace(&mut self.others, name, number);
+        }
     }
 
     /// Takes a name out, if it is there.
     pub fn remove(&mut self, name: &[u8])
         ensures gone { Puts name.now None self.old self.new }
     {
-        self.numbers.remove(name);
+        take_out(&mut self.first, name);
+        self.others.remove(name);
     }
 
     /// Takes all names out.
     pub fn clear(&mut self)
         ensures empty { self.new ≡ [] }
     {
-        self.numbers.clear();
+        self.first.clear();
+        self.others.clear();
     }
 }

@@ -61,7 +61,8 @@ end_place R x place v p h = at x place [] [] [] h.0
 
 -- From its first instruction on, with an empty stack, the code of such a script does what its start
 -- means, up to its last RETN, for which a credit is left: as any object, and whatever scripts wait
--- for it. It asks of scripts that are run from a first value of a global what it asks of others.
+-- for it. What it asks of scripts that are run it also asks where globals are made, where no typed
+-- unit runs one: ExecuteScript gives no value.
 abbrev pub StartsRun : (ℕ → EntryPoint) → Ty → ℕ → Type 0
 StartsRun begin t last =
     (s : Setting) (host : MachineHost) (start : Option Starter) (script self : ℕ) (waiting : List Frame) (l : Listed) (p : Progress) (w : World Saved)

@@ -505,7 +505,7 @@ never_gives header code heap facts n p target held trial given k r stands has e 
     let same = some_is h.0 t.own (sym h.1 ∙ ap (λ (o : Callee). o.given) (some_is l.own t.callee (sym l.known ∙ t.known)) ∙ t.gives) in
     ne (h.2 ∙ ap (λ z. z ++ f.x) same ∙ sym t.cells)
 
-saved_nil : (x y : List Slot) (us : List (List Slot)) → deeper_saved x y us ≡ [] → us ≡ []
+pub saved_nil : (x y : List Slot) (us : List (List Slot)) → deeper_saved x y us ≡ [] → us ≡ []
 saved_nil x y [] h = refl
 saved_nil x y (u ∷ us) h = absurd cc
 

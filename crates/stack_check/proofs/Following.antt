@@ -1,5 +1,5 @@
 -- What is kept where a shape is reached that every table has.
-use Rattle.std.proofs.Common.{arith, ◌≡◌, ℕ, List, inl, inr, ◌⊎◌, sym, subst, ◌∙◌, ap, refl}
+use Rattle.std.proofs.Common.{arith, ◌≡◌, ℕ, List, [], ◌∷◌, ◌++◌, inl, inr, ◌⊎◌, sym, subst, ◌∙◌, ap, refl}
 use Rattle.std.specs.Prelude.{Result, Ok, Err, IfOk}
 use Rattle.nwq_value.specs.Engine.{EngineTable}
 use Rattle.ncs_code.specs.Plain.{PlainOp}
@@ -12,8 +12,9 @@ use Rattle.stack_check.specs.declared.seen.Seen.TheVariants.{Quiet, Changed, Bad
 use Rattle.stack_check.specs.declared.leads.Lead.TheVariants.{One, Two}
 use Rattle.stack_lists.specs.Held.{IsIn, shape_of}
 use Rattle.stack_lists.specs.Rows.{row_in}
-use Rattle.stack_lists.specs.Worklist.{Worklist, waiting}
-use Rattle.stack_check.specs.Inference.{Keeps, NothingNew, Visited, WhereQuiet, Owed, RowIs, Reached, RowsKept, Takes, AllLed, after_change}
+use Rattle.stack_lists.specs.declared.todo.Spot.{Spot}
+use Rattle.stack_lists.specs.Worklist.{CallKept, Worklist, calls_of, waiting}
+use Rattle.stack_check.specs.Inference.{IsKept, IsNext, Keeps, NothingNew, Visited, WhereQuiet, Owed, RowIs, Reached, RowsKept, Takes, AllLed, after_change}
 use Rattle.stack_check.specs.Facts.{FindsMore}
 use Rattle.stack_check.proofs.Left.{more_row}
 use Rattle.stack_check.proofs.Steps.{step_kept}
@@ -141,5 +142,23 @@ pub waits_weaker : {E : Type 0} (a b c : Worklist) (r : Result Seen E) → waiti
     → IfOk r (λ seen. NothingNew a c seen)
 waits_weaker a b c (Ok seen) h k = waits_same a b c seen h k
 waits_weaker a b c (Err e) h k = tt
+
+pub waits_after : (a b c : Worklist) (seen : Seen) → NothingNew a b seen → waiting c ≡ waiting b → NothingNew a c seen
+waits_after a b c Quiet k h = h ∙ k
+waits_after a b c Changed k h = tt
+waits_after a b c Bad k h = tt
+
+pub next_of : (a b : Worklist) (spot : Spot) → waiting b ≡ waiting a ++ spot ∷ [] → IsNext b spot
+next_of a b spot h = record { others = waiting a; is = h }
+
+pub kept_of : (a b : Worklist) (target : ℕ) (spot : Spot) → CallKept a b target spot → IsKept b target spot
+kept_of a b target spot k = elim k.here [
+  | inl e ↦ record { others = calls_of a target; is = e }
+  | inr e ↦ record { others = e.1.0; is = e.0 ∙ e.1.1 }
+]
+
+pub ruleset nexting = (next_of)
+
+pub ruleset keeping = (waits_after, kept_of)
 
 pub ruleset handing = (waits_then, waits_same, waits_changed, waits_from, waits_none, waits_found, waits_weaker)

@@ -8,6 +8,7 @@ pub mod Following
 pub mod Adding
 pub mod Seeing
 pub mod Calling
+pub mod RingLemmas
 pub mod CallSteps
 pub mod ReturnSteps
 pub mod Visits

@@ -111,7 +111,7 @@ lowest_fewer m n l h i =
 pub deeper_cells : (x y : List Slot) (s own : TopShape) → s ≡ deeper x y own → length s.cells ≡ length own.cells + length x
 deeper_cells x y s own e = ap (λ (s : TopShape). length s.cells) e ∙ length-append own.cells x
 
-under_length : (x y : List Slot) (s own : TopShape) → s ≡ deeper x y own → length s.under ≡ length own.under + length (beneath_under x y own.saved)
+pub under_length : (x y : List Slot) (s own : TopShape) → s ≡ deeper x y own → length s.under ≡ length own.under + length (beneath_under x y own.saved)
 under_length x y s own e = ap (λ (s : TopShape). length s.under) e ∙ length-append own.under (beneath_under x y own.saved)
 
 min_least : (a b c : ℕ) → c ≤ a → c ≤ b → c ≤ min a b

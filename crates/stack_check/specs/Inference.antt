@@ -29,7 +29,8 @@ use Rattle.stack_check.specs.declared.leads.Kind.TheVariants.{Call, Return, Stor
 use Rattle.stack_lists.specs.Shared.{read}
 use Rattle.stack_lists.specs.Held.{HeapGrows, IsIn, shape_of}
 use Rattle.stack_lists.specs.Rows.{RowAdded, row_in}
-use Rattle.stack_lists.specs.Worklist.{CallersAdded, Worklist, waiting}
+use Rattle.stack_lists.specs.declared.todo.Spot.{Spot}
+use Rattle.stack_lists.specs.Worklist.{CallersAdded, Worklist, calls_of, waiting}
 use Rattle.stack_check.specs.Facts.{FindsMore, current, first_place, first_held, callee_of, trial_table, unseen_cells, unseen_under}
 
 -- ---- the facts hang together
@@ -157,6 +158,20 @@ Takes before after seen = WhereChanged seen (FindsMore before after)
 -- What is quiet hands in nothing that is to be looked at.
 abbrev pub NothingNew : Worklist → Worklist → Seen → Type 0
 NothingNew before after seen = WhereQuiet seen (waiting after ≡ waiting before)
+
+-- What was found is looked at next.
+abbrev pub HandedIn : Worklist → Worklist → Spot → Seen → Type 0
+HandedIn before after spot seen = WhereChanged seen (waiting after ≡ waiting before ++ spot ∷ [])
+
+-- the spot is looked at next
+pub record IsNext (w : Worklist) (spot : Spot) : Type 0 where
+  pub others : List Spot
+  pub is : waiting w ≡ others ++ spot ∷ []
+
+-- the call is kept of the routine that begins there, so it is looked at when more is known of that
+pub record IsKept (w : Worklist) (target : ℕ) (spot : Spot) : Type 0 where
+  pub others : List Spot
+  pub is : calls_of w target ≡ spot ∷ others
 
 -- ---- one shape
 

@@ -1,4 +1,5 @@
 pub mod Facts
 pub mod Inference
+pub mod Rings
 pub mod Checked
 pub mod Fitting

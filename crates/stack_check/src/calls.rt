@@ -6,15 +6,17 @@ ghost use Rattle.stack_lists.specs.Rows.{row_in};
 ghost use Rattle.stack_lists.specs.Held.{IsIn, shape_of};
 ghost use Rattle.stack_check.specs.Facts.{FindsMore};
 ghost use Rattle.stack_check.specs.Inference.{AllIn, BeginsAlike, Calls, IsCall, Keeps, NothingNew};
-ghost use Rattle.stack_check.specs.Inference.{RowIs, Sees, TrialIn, Within, window};
+ghost use Rattle.stack_check.specs.Inference.{IsKept, RowIs, Sees, TrialIn, Within, window};
+ghost use Rattle.stack_rules.specs.Rules.{WellStacked};
 
 use crate::facts::{Facts, Trial, Unseen, begin};
 use crate::judged::Judged;
 use crate::reach::{Found, follow};
+use crate::rings::{Window, grows_for_ever};
 use crate::see::see;
 use crate::seen::Seen;
 use nwq_value::NoMemory;
-use stack_lists::{Heap, Held, Spot, Todo, with_cells};
+use stack_lists::{Heap, Held, Side, Spot, Todo, with_cells};
 use stack_shape::{Entry, Reach};
 use std::alloc::Global;
 
@@ -180,8 +182,31 @@ fn call_given(
     Ok(seen)
 }
 
+/// Whether windows of a trial that a call made grow do so for ever. It is looked for once as many
+/// have grown as there are trials, so the search takes no longer than the growth.
+fn grows(judged: &Judged<'_>, heap: &Heap, facts: &Facts, todo: &mut Todo, trial: u32) -> bool
+    requires keeps { Keeps judged.now.table.now judged.now.code.now heap.now facts.now }
+    ensures none { result ≡ true → WellStacked judged.now.table.now judged.now.code.now → ⊥ }
+{
+    if !todo.is_due(facts.trials.len()) {
+        return false;
+    }
+    let cells = Window {
+        trial,
+        side: Side::Cells,
+    };
+    if grows_for_ever(judged, heap, facts, todo, cells) {
+        return true;
+    }
+    let under = Window {
+        trial,
+        side: Side::Under,
+    };
+    grows_for_ever(judged, heap, facts, todo, under)
+}
+
 /// A call of a routine whose trial is this one.
-#[tactic(auto, using(crate::proofs::Following::handing))]
+#[tactic(auto, using(crate::proofs::Following::handing, crate::proofs::RingLemmas::growing))]
 fn call_known(
     alloc: Global,
     judged: &Judged<'_>,
@@ -203,7 +228,18 @@ fn call_known(
     if !begins(heap, at.from.held, callee)? {
         return Ok(Seen::Bad);
     }
-    if see(judged, heap, facts, todo, at.from, window(heap, callee))? {
+    if see(
+        judged,
+        heap,
+        facts,
+        todo,
+        at.from,
+        window(heap, callee),
+        at.from.place,
+    )? {
+        if grows(judged, heap, facts, todo, at.from.trial) {
+            return Ok(Seen::Bad);
+        }
         return Ok(Seen::Changed);
     }
     match callee.given {
@@ -215,9 +251,9 @@ fn call_known(
     }
 }
 
-/// JSR.
+/// JSR, which isn't kept yet.
 #[tactic(auto, using(crate::proofs::Following::handing))]
-pub fn call(
+fn call_routine(
     alloc: Global,
     judged: &Judged<'_>,
     heap: &mut Heap,
@@ -233,11 +269,6 @@ pub fn call(
         heap.new facts.old facts.new at.from.trial at.from.place at.from.held seen) }
     ensures waits { IfOk result (λ seen. NothingNew todo.old todo.new seen) }
 {
-    let spot = Spot {
-        trial: at.from.trial,
-        place: at.from.place,
-    };
-    todo.add_call(at.target, spot)?;
     match counting(facts, at.target) {
         None => {
             call_first(judged, heap, facts, todo, at.from, at.target)?;
@@ -245,6 +276,35 @@ pub fn call(
         }
         Some(callee) => call_known(alloc, judged, heap, facts, todo, at, callee),
     }
+}
+
+/// JSR. The call is kept, and looked at again when more is known of the routine.
+#[tactic(auto, using(crate::proofs::Following::keeping))]
+pub fn call(
+    alloc: Global,
+    judged: &Judged<'_>,
+    heap: &mut Heap,
+    facts: &mut Facts,
+    todo: &mut Todo,
+    at: FoundCall,
+) -> Result<Seen, NoMemory>
+    requires keeps { Keeps judged.now.table.now judged.now.code.now heap.old facts.old }
+    requires row { row_in facts.old.rows at.from.trial at.from.place ≡ Some at.from.held }
+    requires op { IsCall judged.now.code.now at.from.place at.target }
+    requires next { at.next ≡ at.from.place + 6 }
+    ensures sees { IfOk result (λ seen. Sees judged.now.table.now judged.now.code.now heap.old
+        heap.new facts.old facts.new at.from.trial at.from.place at.from.held seen) }
+    ensures waits { IfOk result (λ seen. NothingNew todo.old todo.new seen) }
+    ensures kept { IfOk result (λ _. IsKept todo.new at.target
+        (record { trial = at.from.trial; place = at.from.place })) }
+{
+    let seen = call_routine(alloc, judged, heap, facts, todo, at)?;
+    let spot = Spot {
+        trial: at.from.trial,
+        place: at.from.place,
+    };
+    todo.add_call(at.target, spot)?;
+    Ok(seen)
 }
 
 /// The trial that counts for the routine that begins at a place.

@@ -1,4 +1,6 @@
-ghost use Rattle.std.specs.Prelude.{◌≡◌, ◌≢◌, ◌<◌, ◌≤◌, ◌^◌, Some, IfOk, OnOk, length, slice_get};
+ghost use Rattle.std.specs.Prelude.{◌≡◌, ◌≢◌, ◌<◌, ◌≤◌, ◌^◌, ◌++◌, ◌∷◌, [], Some, IfOk, OnOk};
+ghost use Rattle.std.specs.Prelude.{length, slice_get};
+ghost use Rattle.stack_lists.specs.Worklist.{waiting};
 ghost use Rattle.stack_shape.specs.declared.shape.Entry.TheVariants.{Start};
 ghost use Rattle.stack_check.specs.Facts.{FindsMore, first_place, first_held};
 ghost use Rattle.stack_check.specs.Inference.{TrialBegins, Formed, GivenOwed, Keeps, SeesMore};
@@ -87,6 +89,7 @@ fn add_trial(facts: &mut Facts, trial: Trial) -> Result<u32, NoMemory>
     requires entry { trial.entry ≢ Start }
     requires place { first_place trial.entry < 2 ^ 32 }
     ensures added { IfOk result (λ _. TrialAdded facts.old facts.new trial) }
+    ensures number { IfOk result (λ number. number ≡ length facts.old.trials) }
 {
     let number = facts.trials.len();
     room(number)?;
@@ -115,6 +118,8 @@ pub fn begin(
     ensures keeps { IfOk result (λ _. Keeps judged.now.table.now judged.now.code.now heap.now
         facts.new) }
     ensures takes { IfOk result (λ _. FindsMore facts.old facts.new) }
+    ensures handed { OnOk result (waiting todo.new ≡ waiting todo.old
+        ++ record { trial = length facts.old.trials; place = first_place trial.entry } ∷ []) }
 {
     let _ = judged;
     let _ = heap;

@@ -21,6 +21,7 @@ mod laws;
 mod leads;
 mod reach;
 mod returns;
+mod rings;
 mod see;
 mod seen;
 mod visit;

@@ -1,8 +1,8 @@
-ghost use Rattle.std.specs.Prelude.{◌≡◌, IfOk};
+ghost use Rattle.std.specs.Prelude.{◌≡◌, IfOk, OnOk};
 ghost use Rattle.ncs_code.specs.Plain.{plain};
 ghost use Rattle.stack_lists.specs.Held.{IsIn, shape_of};
 ghost use Rattle.stack_check.specs.Inference.{AllLed, IsLed, IsStep, Keeps, NothingNew, Owed};
-ghost use Rattle.stack_check.specs.Inference.{Reached};
+ghost use Rattle.stack_check.specs.Inference.{HandedIn, Reached};
 ghost use Rattle.stack_check.specs.Inference.{RowIs, RowsKept, Takes};
 ghost use Rattle.stack_check.specs.Inference.{Visited, WhereQuiet, after_change, leads_of};
 ghost use Rattle.machine_rules.specs.Act.{next_place};
@@ -46,6 +46,7 @@ fn reach(
 #[tactic(auto, using(crate::proofs::Following::handing))]
 fn note(todo: &mut Todo, seen: Seen, spot: Spot) -> Result<(), NoMemory>
     ensures waits { NothingNew todo.old todo.new seen }
+    ensures handed { OnOk result (HandedIn todo.old todo.new spot seen) }
 {
     match seen {
         Seen::Changed => todo.add(spot),
@@ -75,6 +76,7 @@ pub fn follow(
     ensures quiet { IfOk result (λ seen. WhereQuiet seen ((facts.new ≡ facts.old)
         × RowIs heap.now facts.old spot.trial spot.place (shape_of heap.now held))) }
     ensures waits { IfOk result (λ seen. NothingNew todo.old todo.new seen) }
+    ensures handed { IfOk result (λ seen. HandedIn todo.old todo.new spot seen) }
 {
     let _ = judged;
     let seen = reach(heap, facts, spot.trial, spot.place, held)?;

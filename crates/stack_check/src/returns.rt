@@ -4,7 +4,8 @@ ghost use Rattle.ncs_code.specs.Plain.{Retn};
 ghost use Rattle.ncs_code.specs.File.{op_at};
 ghost use Rattle.stack_shape.specs.declared.shape.Entry.TheVariants.{Called};
 ghost use Rattle.stack_lists.specs.Rows.{row_in};
-ghost use Rattle.stack_check.specs.Inference.{Keeps, NothingNew, Sees};
+ghost use Rattle.stack_lists.specs.Worklist.{CallersAdded};
+ghost use Rattle.stack_check.specs.Inference.{Keeps, NothingNew, Sees, WhereChanged};
 
 use crate::facts::{Facts, Trial, give};
 use crate::judged::Judged;
@@ -35,6 +36,9 @@ fn return_cells(
     ensures sees { IfOk result (λ seen. Sees judged.now.table.now judged.now.code.now heap.now
         heap.now facts.old facts.new from.trial from.place from.held seen) }
     ensures waits { IfOk result (λ seen. NothingNew todo.old todo.new seen) }
+    // Once it is known what the routine gives, its calls are looked at again.
+    ensures again { IfOk result (λ seen. WhereChanged seen (CallersAdded todo.old todo.new
+        target)) }
 {
     match trial.given {
         None => {

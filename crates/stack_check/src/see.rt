@@ -1,15 +1,16 @@
 ghost use Rattle.std.specs.Prelude.{◌≡◌, ◌<◌, ◌↔◌, Some, IfOk, IsTrue, OnOk, min, true, false};
 ghost use Rattle.stack_lists.specs.Rows.{row_in};
+ghost use Rattle.stack_lists.specs.Worklist.{waiting};
 ghost use Rattle.stack_check.specs.Facts.{FindsMore};
 ghost use Rattle.stack_lists.specs.Held.{shape_of};
-ghost use Rattle.stack_check.specs.Inference.{CallsAgain, IsThere, Keeps, LooksOwed, Within};
-ghost use Rattle.stack_check.specs.Inference.{narrowed, unseen_after};
+ghost use Rattle.stack_check.specs.Inference.{CallsAgain, IsNext, IsThere, Keeps, LooksOwed};
+ghost use Rattle.stack_check.specs.Inference.{Within, narrowed, unseen_after};
 
 use crate::facts::{Facts, Trial, Unseen, narrow};
 use crate::judged::Judged;
 use crate::reach::Found;
 use nwq_value::NoMemory;
-use stack_lists::{Heap, Held, Spot, Todo};
+use stack_lists::{Heap, Held, Side, Spot, Todo};
 use stack_shape::{Entry, Reach};
 
 fn least(a: u32, b: u32) -> u32
@@ -66,6 +67,25 @@ fn look_again(todo: &mut Todo, entry: Entry) -> Result<(), NoMemory>
     }
 }
 
+/// Keeps the place of the call that made windows of a trial grow, or 0 where no call did.
+fn note_growth(
+    todo: &mut Todo,
+    number: u32,
+    before: Unseen,
+    after: Unseen,
+    place: u32,
+) -> Result<(), NoMemory>
+    ensures waits { waiting todo.new ≡ waiting todo.old }
+{
+    if after.cells < before.cells {
+        todo.grew(number, Side::Cells, place)?;
+    }
+    if after.under < before.under {
+        todo.grew(number, Side::Under, place)?;
+    }
+    Ok(())
+}
+
 /// Whether a trial looked at its whole lists, as a script's start did from the first.
 fn has_seen_all(trial: Trial) -> bool
     ensures { IsTrue result ↔ ((trial.unseen.cells ≡ 0) × (trial.unseen.under ≡ 0)) }
@@ -74,8 +94,9 @@ fn has_seen_all(trial: Trial) -> bool
 }
 
 /// Looks so deep into a shape that was found. True where some of these slots lie in what the
-/// trial's routine took from its first caller, and no instruction had looked at them.
-#[tactic(auto, using(crate::proofs::Seeing::seeing))]
+/// trial's routine took from its first caller, and no instruction had looked at them. `call` is
+/// the place of the call that looks, 0 where no call does.
+#[tactic(auto, using(crate::proofs::Seeing::seeing, crate::proofs::Following::nexting))]
 pub fn see(
     judged: &Judged<'_>,
     heap: &Heap,
@@ -83,6 +104,7 @@ pub fn see(
     todo: &mut Todo,
     from: Found,
     reach: Reach,
+    call: u32,
 ) -> Result<bool, NoMemory>
     requires keeps { Keeps judged.now.table.now judged.now.code.now heap.now facts.old }
     requires row { row_in facts.old.rows from.trial from.place ≡ Some from.held }
@@ -95,6 +117,8 @@ pub fn see(
     ensures within { IfOk result (λ more. more ≡ false → (facts.new ≡ facts.old)
         × Within heap.now facts.old from.trial (shape_of heap.now from.held) reach) }
     ensures same { IfOk result (λ more. more ≡ false → todo.new ≡ todo.old) }
+    ensures handed { IfOk result (λ more. more ≡ true → IsNext todo.new
+        (record { trial = from.trial; place = from.place })) }
 {
     match facts.trials.get(from.trial as usize) {
         None => unreachable!(),
@@ -108,6 +132,7 @@ pub fn see(
                 return Ok(false);
             }
             narrow(judged, heap, facts, from.trial, trial, unseen);
+            note_growth(todo, from.trial, trial.unseen, unseen, call)?;
             look_again(todo, trial.entry)?;
             todo.add(Spot {
                 trial: from.trial,

@@ -60,7 +60,7 @@ fn visit_step(
         None => Ok(Seen::Bad),
         Some(after) => {
             let reach = reach_of(at.op, judged.table);
-            if see(judged, heap, facts, todo, at.from, reach)? {
+            if see(judged, heap, facts, todo, at.from, reach, 0)? {
                 return Ok(Seen::Changed);
             }
             let leads = leads_of(at.op, at.from.place, at.next);
@@ -267,7 +267,7 @@ fn visit_stored(
 }
 
 /// The place behind an instruction.
-fn end_of(code: &Code, op: &Op<'_>, place: u32, size: u32) -> u32
+pub fn end_of(code: &Code, op: &Op<'_>, place: u32, size: u32) -> u32
     requires op { op_at code.now place ≡ Some (plain op.now) }
     requires size { size ≡ op_size (plain op.now) }
     ensures next { result ≡ next_place place (plain op.now) }

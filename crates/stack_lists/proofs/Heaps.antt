@@ -4,7 +4,9 @@ use Rattle.std.specs.Option.{option_map}
 use Rattle.stack_shape.specs.declared.shape.Slot.{Slot}
 use Rattle.stack_shape.specs.declared.shape.Slot.TheVariants.{Of, Base}
 use Rattle.stack_shape.specs.declared.effect.StackEffect.{StackEffect}
-use Rattle.stack_shape.specs.StackEffects.{after_effect, pushed, stack_effect}
+use Rattle.stack_shape.specs.StackEffects.{after_effect, pushed, removed, stack_effect}
+use Rattle.stack_shape.specs.TopFirst.{types_on}
+use Rattle.stack_lists.specs.Stacks.{AreTyped}
 use Rattle.stack_shape.specs.declared.store.StoredTypes.{StoredTypes}
 use Rattle.nwq_value.specs.declared.value.Ty.{Ty}
 use Rattle.stack_shape.specs.Stored.{TopShape, stored_types}
@@ -92,6 +94,32 @@ pub push_some : (a b : Heap) (after : Held) (o : Option Ty) (t : Ty) (s : TopSha
 push_some a b after o t s e h = (h.grows, h.inside, ap (λ o. affected (pushed o) s) e ∙ ap Some (sym h.is))
 
 pub ruleset pushing = (push_none, push_some)
+
+-- ---- MOVSP
+
+pub move_none : (a : Heap) (o : Option ℕ) (s : TopShape) → o ≡ None → AfterStep a a None (affected (removed o s.cells) s)
+move_none a o s e = (heap_same a, ap (λ o. affected (removed o s.cells) s) e)
+
+pub move_untyped : (a : Heap) (o : Option ℕ) (n : ℕ) (s : TopShape) → o ≡ Some n → types_on n s.cells ≡ None
+    → AfterStep a a None (affected (removed o s.cells) s)
+move_untyped a o n s e u = (
+  heap_same a,
+  ap (λ o. affected (removed o s.cells) s) e ∙ ap (λ t. affected (option_map (λ _. record { pops = n; pushes = [] }) t) s) u,
+)
+
+pub move_some : (a : Heap) (held now : Held) (o : Option ℕ) (n : ℕ) → IsIn a held → o ≡ Some n → AreTyped n (read a.slots held.cells)
+    → read a.slots now.cells ≡ drop n (read a.slots held.cells) → now.cells ≤ held.cells → now.under ≡ held.under → now.saved ≡ held.saved
+    → now.pending ≡ held.pending → AfterStep a a (Some now) (affected (removed o (shape_of a held).cells) (shape_of a held))
+move_some a held now o n i e t r less under saved pending =
+    let h = cells_changed a a held now (drop n (read a.slots held.cells)) held.pending i (grows_none a.slots) refl under saved pending
+    (omega (arith, less, i.cells)) r in (
+      h.grows,
+      h.inside,
+      ap (λ o. affected (removed o (shape_of a held).cells) (shape_of a held)) e
+          ∙ ap (λ t. affected (option_map (λ _. record { pops = n; pushes = [] }) t) (shape_of a held)) t.1 ∙ ap Some (sym h.is),
+    )
+
+pub ruleset moving = (move_none, move_untyped, move_some)
 
 -- ---- SAVEBP
 

@@ -8,12 +8,15 @@ use Rattle.std.proofs.lemmas.Bool.{cases_eq}
 use Rattle.std.proofs.lemmas.Bool.Decides.{nat_tests}
 use Rattle.std.proofs.lemmas.List.{append_assoc, append_cancel_left, drop_all, length-append, length-map}
 use Rattle.std.proofs.Math.Seq.{drop-append_seam}
+use Rattle.std.specs.Option.{option_map}
+use Rattle.stack_shape.specs.TopFirst.{types_on}
 use Rattle.stack_shape.specs.declared.shape.Slot.{Slot}
+use Rattle.stack_shape.specs.declared.shape.Slot.TheVariants.{Of, Base}
 use Rattle.stack_lists.specs.declared.lists.Node.{Node}
 use Rattle.stack_lists.specs.declared.stacks.Link.{Link}
 use Rattle.stack_lists.specs.declared.stacks.Agreed.{Agreed}
 use Rattle.stack_lists.specs.Shared.{with_node, read_within, read, Grows}
-use Rattle.stack_lists.specs.Stacks.{node_of, nodes_of, LiesOn, IsLink, IsNew, IsTop, AreLinked, Agrees, AllAgree}
+use Rattle.stack_lists.specs.Stacks.{AreTyped, from_base, node_of, nodes_of, LiesOn, IsLink, IsNew, IsTop, AreLinked, Agrees, AllAgree}
 use Rattle.stack_lists.proofs.SharedLists.{grows_one, older_one, pop_inside, pop_older, pop_none, pop_top, pushed_reads, read_zero}
 use Rattle.stack_lists.specs.Growth.{read_empty}
 
@@ -99,6 +102,46 @@ depth_few nodes number l t = let s = read_short nodes number in omega (arith, t.
 
 pub ruleset measuring = (depth_none, depth_is, depth_few)
 
+-- ---- values on top
+
+pub based_none : (nodes : List (Node Slot)) (number : ℕ) → read nodes number ≡ [] → 0 ≡ from_base (read nodes number)
+based_none nodes number e = sym (ap from_base e)
+
+pub based_is : (nodes : List (Node Slot)) (number : ℕ) (l : Link) → IsTop nodes number l → l.based ≡ from_base (read nodes number)
+based_is nodes number l t = t.link.based
+
+pub ruleset basing = (based_none, based_is)
+
+pub from_base_few : (slots : List Slot) → from_base slots ≤ length slots
+from_base_few [] = omega arith
+from_base_few (Base ∷ slots) = omega arith
+from_base_few (Of t ∷ slots) = let i = from_base_few slots in omega (arith, i)
+
+values_there : (count : ℕ) (slots : List Slot) → count ≤ length slots - from_base slots → AreTyped count slots
+values_there zero slots h = ([], refl)
+values_there (suc count) [] h = absurd (omega (arith, h))
+values_there (suc count) (Base ∷ slots) h = absurd (omega (arith, h))
+values_there (suc count) (Of t ∷ slots) h =
+    let few = from_base_few slots in
+    let i = values_there count slots (omega (arith, h, few)) in (t ∷ i.0, ap (option_map (λ types. t ∷ types)) i.1)
+
+values_none : (count : ℕ) (slots : List Slot) → length slots - from_base slots < count → types_on count slots ≡ None
+values_none zero slots h = absurd (omega (arith, h))
+values_none (suc count) [] h = refl
+values_none (suc count) (Base ∷ slots) h = refl
+values_none (suc count) (Of t ∷ slots) h =
+    let few = from_base_few slots in ap (option_map (λ types. t ∷ types)) (values_none count slots (omega (arith, h, few)))
+
+pub are_typed : (count values depth based : ℕ) (slots : List Slot) → depth ≡ length slots → based ≡ from_base slots → values ≡ depth - based → count ≤ values
+    → AreTyped count slots
+are_typed count values depth based slots d b v h = values_there count slots (omega (arith, d, b, v, h))
+
+pub not_typed : (count values depth based : ℕ) (slots : List Slot) → depth ≡ length slots → based ≡ from_base slots → values ≡ depth - based → values < count
+    → types_on count slots ≡ None
+not_typed count values depth based slots d b v h = values_none count slots (omega (arith, d, b, v, h))
+
+pub ruleset valuing = (are_typed, not_typed)
+
 -- ---- further down
 
 pub lies_same : (nodes : List (Node Slot)) (number : ℕ) → LiesOn nodes number number
@@ -164,6 +207,7 @@ link_still before after number l g h i = record {
   depth = i.depth ∙ ap (λ (z : List Slot). length z) (sym (g.same number h));
   older = i.older;
   on = reads_still before after number l.jump g h (omega (arith, i.older, h)) i.on;
+  based = i.based ∙ ap from_base (sym (g.same number h));
 }
 
 get_end : (xs : List Link) (x y : Link) (k : ℕ) → slice_get (xs ++ x ∷ []) k ≡ Some y → (slice_get xs k ≡ Some y) ⊎ ((k ≡ length xs) × (y ≡ x))
@@ -191,8 +235,9 @@ added_inside links after l number e n =
     omega (arith, a, b, n)
 
 new_link : (links after : List Link) (l : Link) → AreLinked links → after ≡ links ++ l ∷ [] → l.below ≤ length (nodes_of links)
-    → l.depth ≡ length (read (nodes_of links) l.below) + 1 → LiesOn (nodes_of links) l.below l.jump → l.jump ≤ l.below → IsLink (nodes_of after) (suc (length links)) l
-new_link links after l all e h d on older =
+    → l.depth ≡ length (read (nodes_of links) l.below) + 1 → LiesOn (nodes_of links) l.below l.jump → l.jump ≤ l.below
+    → l.based ≡ from_base (l.slot ∷ read (nodes_of links) l.below) → IsLink (nodes_of after) (suc (length links)) l
+new_link links after l all e h d on older based =
     let g = added_grows links after l all e in
     let r = added_reads links after l (suc (length links)) all e h (omega arith) in
     record {
@@ -202,19 +247,21 @@ new_link links after l all e h d on older =
         front = l.slot ∷ on.front;
         is = r ∙ ap (λ z. l.slot ∷ z) (on.is ∙ ap (λ z. on.front ++ z) (sym (g.same l.jump (omega (arith, older, h)))));
       };
+      based = based ∙ ap from_base (sym r);
     }
 
 pub ruleset adding = (added_grows, added_reads, added_inside)
 
 pub added_linked : (links after : List Link) (l : Link) → AreLinked links → after ≡ links ++ l ∷ [] → l.below ≤ length (nodes_of links)
-    → l.depth ≡ length (read (nodes_of links) l.below) + 1 → LiesOn (nodes_of links) l.below l.jump → l.jump ≤ l.below → length links < 33554432 → AreLinked after
-added_linked links after l all e h d on older room = record {
+    → l.depth ≡ length (read (nodes_of links) l.below) + 1 → LiesOn (nodes_of links) l.below l.jump → l.jump ≤ l.below
+    → l.based ≡ from_base (l.slot ∷ read (nodes_of links) l.below) → length links < 33554432 → AreLinked after
+added_linked links after l all e h d on older based room = record {
   older = older_one (nodes_of links) (nodes_of after) (node_of l) all.older (ap nodes_of e ∙ nodes_more links l) h;
   each = λ k m f. elim (get_end links l m k (ap (λ xs. slice_get xs k) (sym e) ∙ f)) [
     | inl old ↦ link_still (nodes_of links) (nodes_of after) (suc k) m (added_grows links after l all e)
         (let i = link_fits links k m old in let n = nodes_length links in omega (arith, i, n)) (all.each k m old)
     | inr is ↦ subst (λ (m : Link). IsLink (nodes_of after) (suc k) m) (sym is.1)
-        (subst (λ k. IsLink (nodes_of after) (suc k) l) (sym is.0) (new_link links after l all e h d on older))
+        (subst (λ k. IsLink (nodes_of after) (suc k) l) (sym is.0) (new_link links after l all e h d on older based))
   ];
   few = let a = ap (λ (z : List Link). length z) e ∙ length-append links (l ∷ []) in omega (arith, a, room);
 }
@@ -334,7 +381,7 @@ pub ruleset agreeing = (agree_less, agree_more, agree_back)
 pub added_all : (links after : List Link) (l : Link) (agreed : BTreeMap ℕ Agreed) → AreLinked links × AllAgree (nodes_of links) agreed → after ≡ links ++ l ∷ []
     → IsNew (nodes_of links) l → length links < 33554432 → AreLinked after × AllAgree (nodes_of after) agreed
 added_all links after l agreed all e n room = (
-  added_linked links after l all.0 e n.below n.depth n.on n.older room,
+  added_linked links after l all.0 e n.below n.depth n.on n.older n.based room,
   agree_still (nodes_of links) (nodes_of after) agreed (added_grows links after l all.0 e) all.1,
 )
 

@@ -74,18 +74,33 @@ pub call_newest : (w : Worklist) (target below : ℕ) (spot newest : Spot) (rest
     → read w.calls below ≡ newest ∷ rest → CallKept w w target spot
 call_newest w target below spot newest rest b e r = record {
   here = inr (refl, (rest, ap (read w.calls) (sym b) ∙ r ∙ ap (λ s. s ∷ rest) e));
+  once = λ rest h. refl;
   others = λ t ne. refl;
 }
 
 pub call_added : (before after : Worklist) (target below number : ℕ) (spot : Spot) → AreThere before.calls before.called → Grows before.calls after.calls
     → below ≡ get_or before.called target 0 → read after.calls number ≡ spot ∷ read before.calls below → PutAt before.called after.called target number
-    → CallKept before after target spot
-call_added before after target below number spot there g b r p = record {
+    → ((rest : List Spot) → read before.calls below ≡ spot ∷ rest → ⊥) → CallKept before after target spot
+call_added before after target below number spot there g b r p ne = record {
   here = inl (ap (read after.calls) p.here ∙ r ∙ ap (λ n. spot ∷ read before.calls n) b);
+  once = λ rest h. absurd (ne rest (ap (read before.calls) b ∙ h));
   others = λ t ne. ap (read after.calls) (p.others t ne) ∙ g.same (get_or before.called t 0) (there.by t);
 }
 
-pub ruleset keeping = (there_put, there_same, there_more, call_newest, call_added)
+-- the newest call is another one, or there is none
+pub newest_other : (calls : List Spot) (spot newest : Spot) (more : List Spot) → calls ≡ newest ∷ more → (newest ≡ spot → ⊥) → (rest : List Spot) → calls ≡ spot ∷ rest → ⊥
+newest_other calls spot newest more e ne rest h = ne (top_is newest spot more rest (sym e ∙ h))
+  where
+    top_is : (a b : Spot) (x y : List Spot) → a ∷ x ≡ b ∷ y → a ≡ b
+    top_is a b x y h = cc
+
+pub newest_none : (calls : List Spot) (spot : Spot) → calls ≡ [] → (rest : List Spot) → calls ≡ spot ∷ rest → ⊥
+newest_none calls spot e rest h = never spot rest (sym e ∙ h)
+  where
+    never : (b : Spot) (y : List Spot) → [] ≡ b ∷ y → ⊥
+    never b y h = absurd cc
+
+pub ruleset keeping = (newest_other, newest_none, there_put, there_same, there_more, call_newest, call_added)
 
 pub callers_added : (before after : Worklist) (target number : ℕ) → after.first ≡ before.first → after.calls ≡ before.calls → number ≡ get_or before.called target 0
     → after.later ≡ before.later ++ read before.calls number → PutAt before.called after.called target 0 → CallersAdded before after target

@@ -1,9 +1,12 @@
 -- Lists of slots that share their lower parts, with their depths and lists that lie far down in
 -- them.
-use Rattle.std.specs.Prelude.{◌≡◌, ◌≤◌, ◌<◌, ◌+◌, ◌^◌, ℕ, suc, List, ◌∷◌, ◌++◌, length, map, take, Some, slice_get}
+use Rattle.std.specs.Prelude.{◌≡◌, ◌≤◌, ◌<◌, ◌+◌, ◌^◌, ℕ, suc, List, [], ◌∷◌, ◌++◌, length, map, take, Some, slice_get}
 use Rattle.std.specs.Ordering.{nat_cmp}
 use Rattle.std.specs.BTreeMap.{BTreeMap, get}
+use Rattle.nwq_value.specs.declared.value.Ty.{Ty}
+use Rattle.stack_shape.specs.TopFirst.{types_on}
 use Rattle.stack_shape.specs.declared.shape.Slot.{Slot}
+use Rattle.stack_shape.specs.declared.shape.Slot.TheVariants.{Of, Base}
 use Rattle.stack_lists.specs.declared.lists.Node.{Node}
 use Rattle.stack_lists.specs.declared.stacks.Link.{Link}
 use Rattle.stack_lists.specs.declared.stacks.Agreed.{Agreed}
@@ -15,6 +18,16 @@ node_of l = record { item = l.slot; below = l.below }
 abbrev pub nodes_of : List Link → List (Node Slot)
 nodes_of links = map node_of links
 
+-- how many slots a list has from its topmost base on
+abbrev pub from_base : List Slot → ℕ
+from_base [] = 0
+from_base (Base ∷ slots) = suc (length slots)
+from_base (Of t ∷ slots) = from_base slots
+
+-- so many of the topmost slots are values
+abbrev pub AreTyped : ℕ → List Slot → Type 0
+AreTyped count slots = (types : List Ty) × (types_on count slots ≡ Some types)
+
 -- The one list ends with the other.
 pub record LiesOn (nodes : List (Node Slot)) (upper lower : ℕ) : Type 0 where
   pub front : List Slot
@@ -24,6 +37,7 @@ pub record IsLink (nodes : List (Node Slot)) (number : ℕ) (l : Link) : Type 0 
   pub depth : l.depth ≡ length (read nodes number)
   pub older : l.jump < number
   pub on : LiesOn nodes number l.jump
+  pub based : l.based ≡ from_base (read nodes number)
 
 -- the link is the list's top
 pub record IsTop (nodes : List (Node Slot)) (number : ℕ) (l : Link) : Type 0 where
@@ -39,6 +53,7 @@ pub record IsNew (nodes : List (Node Slot)) (l : Link) : Type 0 where
   pub depth : l.depth ≡ length (read nodes l.below) + 1
   pub on : LiesOn nodes l.below l.jump
   pub older : l.jump ≤ l.below
+  pub based : l.based ≡ from_base (l.slot ∷ read nodes l.below)
 
 pub record AreLinked (links : List Link) : Type 0 where
   pub older : AreOlder (nodes_of links)

@@ -4,7 +4,7 @@ ghost use Rattle.stack_shape.specs.Rule.{affected, based, called_with, restored,
 ghost use Rattle.stack_shape.specs.Rule.{IsOneStep, called_shape};
 ghost use Rattle.stack_shape.specs.StackEffects.{after_effect, stack_effect};
 ghost use Rattle.stack_shape.specs.declared.shape.Slot.TheVariants.{Of};
-ghost use Rattle.ncs_code.specs.Plain.{plain, RsAdd};
+ghost use Rattle.ncs_code.specs.Plain.{plain, MovSp, RsAdd};
 ghost use Rattle.stack_lists.specs.Shared.{read};
 ghost use Rattle.stack_lists.specs.Held.{AfterStep, Holds, IsIn, is_still, shape_of};
 
@@ -15,7 +15,7 @@ use crate::stacks::Stacks;
 use ncs_code::Op;
 use nwq_value::{NoMemory, Routine, Table, Ty};
 use stack_shape::{
-    Slot, StackEffect, action_count, call_effect, stack_effect, stored_types, type_of_one,
+    Slot, StackEffect, action_count, call_effect, depth_of, stack_effect, stored_types, type_of_one,
 };
 use std::alloc::Global;
 
@@ -311,6 +311,30 @@ fn changed(
     affected(heap, effect, held, held.pending)
 }
 
+/// MOVSP of this offset. Only values are removed, so no list of types is made.
+#[tactic(auto, using(crate::proofs::Heaps::moving), unfolding(stack_shape::specs::StackEffects::stack_effect))]
+fn moved(heap: &Heap, offset: i32, held: Held) -> Option<Held>
+    requires inside { IsIn heap.now held }
+    ensures { AfterStep heap.now heap.now result
+        (let s = shape_of heap.now held in
+        affected (stack_effect (MovSp offset) s.under s.cells) s) }
+{
+    match depth_of(offset) {
+        None => None,
+        Some(count) => {
+            if !heap.slots.are_values(held.cells, count) {
+                return None;
+            }
+            Some(Held {
+                cells: heap.slots.lower(held.cells, count),
+                under: held.under,
+                saved: held.saved,
+                pending: held.pending,
+            })
+        }
+    }
+}
+
 /// Whether an instruction leaves each shape as it is.
 #[tactic(auto, unfolding(crate::specs::Held::is_still))]
 fn is_still(op: &Op<'_>) -> bool
@@ -347,6 +371,7 @@ pub fn step(
         Op::RestoreBp => Ok(restored(heap, held)),
         Op::StoreState { globals, locals } => stored(alloc, *globals, *locals, heap, held),
         Op::RsAdd { kind } => started(heap, *kind, held),
+        Op::MovSp { offset } => Ok(moved(heap, *offset, held)),
         _ => changed(alloc, op, heap, held),
     }
 }

@@ -26,4 +26,4 @@ pub use places::Places;
 pub use rows::{Rows, ShapeRow};
 pub use slots::{put_types, same};
 pub use stacks::Stacks;
-pub use todo::{Spot, Todo};
+pub use todo::{Side, Spot, Todo};

@@ -1,9 +1,10 @@
 ghost use Rattle.std.specs.Prelude.{◌≡◌, ◌≤◌, ◌<◌, ◌↔◌, ◌^◌, [], ◌∷◌, length, take, drop, map};
-ghost use Rattle.std.specs.Prelude.{IfOk, IfSome, IsTrue, MatchOption, true};
+ghost use Rattle.std.specs.Prelude.{IfOk, IfSome, IsTrue, MatchOption, None, true, false};
+ghost use Rattle.stack_shape.specs.TopFirst.{types_on};
 ghost use Rattle.stack_shape.specs.declared.shape.Slot.{Slot};
 ghost use Rattle.stack_lists.specs.declared.lists.Node.{Node};
 ghost use Rattle.stack_lists.specs.Shared.{Grows, read};
-ghost use Rattle.stack_lists.specs.Stacks.{IsNew, IsTop, LiesOn};
+ghost use Rattle.stack_lists.specs.Stacks.{AreTyped, IsNew, IsTop, LiesOn, from_base};
 
 use crate::budget::room;
 use crate::lists::Node;
@@ -23,6 +24,8 @@ pub struct Link {
     pub depth: u32,
     /// A list that lies further down in this one.
     pub jump: u32,
+    /// How many slots the list has from its topmost base on, 0 where it has none.
+    pub based: u32,
 }
 
 /// So many of the topmost slots are the same in both lists.
@@ -134,6 +137,32 @@ impl Stacks {
         }
     }
 
+    /// How many slots a list has from its topmost base on, 0 where it has none.
+    #[tactic(auto, using(crate::proofs::Links::basing))]
+    pub fn based(&self, number: u32) -> u32
+        ensures based { result ≡ from_base (read self.now number) }
+    {
+        match self.link(number) {
+            None => 0,
+            Some(link) => link.based,
+        }
+    }
+
+    /// Whether so many slots are there, and the topmost ones are values: the list's topmost base
+    /// tells, without a look at them.
+    #[tactic(auto, using(crate::proofs::Links::valuing))]
+    pub fn are_values(&self, number: u32, count: usize) -> bool
+        ensures there { result ≡ true → AreTyped count (read self.now number) }
+        ensures none { result ≡ false → types_on count (read self.now number) ≡ None }
+    {
+        let values = self.depth(number).saturating_sub(self.based(number));
+        if count <= values as usize {
+            true
+        } else {
+            false
+        }
+    }
+
     /// The top of a list, and what lies beneath it.
     pub fn pop(&self, number: u32) -> Option<(Slot, u32)>
         ensures top { MatchOption result (read self.now number ≡ [])
@@ -226,14 +255,26 @@ impl Stacks {
     {
         let depth = self.depth(below) + 1;
         let jump = self.jump_from(below);
+        let based = self.based_on(below, slot);
         let number = self.add_link(Link {
             slot,
             below,
             depth,
             jump,
+            based,
         })?;
         self.note(below, number)?;
         Ok(number)
+    }
+
+    /// How many slots the list of a slot on a list has from its topmost base on.
+    fn based_on(&self, below: u32, slot: Slot) -> u32
+        ensures based { result ≡ from_base (slot ∷ read self.now below) }
+    {
+        match slot {
+            Slot::Base => self.depth(below) + 1,
+            Slot::Of(_) => self.based(below),
+        }
     }
 
     /// Adds a link, if there is room for it.

@@ -1,7 +1,10 @@
-ghost use Rattle.std.specs.Prelude.{◌≡◌, ◌++◌, ◌∷◌, [], ℕ, MatchOption, OnOk, true};
+ghost use Rattle.std.specs.Prelude.{◌≡◌, ◌++◌, ◌∷◌, ◌↔◌, [], ℕ, MatchOption, OnOk, IsTrue, get_or};
+ghost use Rattle.stack_lists.specs.Rows.{PutAt};
 ghost use Rattle.stack_lists.specs.Shared.{read};
-ghost use Rattle.stack_lists.specs.Worklist.{CallKept, CallersAdded, SameCalls, calls_of, waiting};
+ghost use Rattle.stack_lists.specs.Worklist.{CallKept, CallersAdded, SameCalls, calls_of, growths};
+ghost use Rattle.stack_lists.specs.Worklist.{waiting};
 
+use crate::budget::room;
 use crate::lists::Lists;
 use crate::places::Places;
 use nwq_value::NoMemory;
@@ -15,6 +18,14 @@ pub struct Spot {
     pub place: u32,
 }
 
+/// The two lists of a trial.
+#[derive(Clone, Copy, PartialEq, Eq)]
+pub enum Side {
+    Cells,
+    /// What lies beneath BP.
+    Under,
+}
+
 /// Where to look next. It only makes the inference quick: a pass over all rows ends it.
 #[derive(Drop)]
 pub struct Todo {
@@ -25,6 +36,13 @@ pub struct Todo {
     calls: Lists<Spot>,
     /// By the place at which a routine begins: the number of the list of its calls.
     called: Places,
+    /// By trial: the place of the call that made its window of the cells grow last, 0 where no call
+    /// did.
+    cells: Places,
+    /// The same for the window beneath BP.
+    under: Places,
+    /// How many windows have grown since it was last asked whether they grow for ever.
+    grown: usize,
 }
 
 impl Model for Todo {
@@ -37,14 +55,19 @@ impl Model for Todo {
       later = t.later.items;
       calls = t.calls;
       called = t.called;
+      cells = t.cells;
+      under = t.under;
     } };
 
-    ghost invariant = { λ t. AreThere t.calls t.called };
+    ghost use Rattle.std.specs.Prelude.{◌≤◌, length};
+    ghost use Rattle.stack_lists.specs.Budget.{most};
+
+    ghost invariant = { λ t. AreThere t.calls t.called × (length t.calls ≤ most) };
 }
 
 /// Whether both are the same.
 fn is_same(a: Spot, b: Spot) -> bool
-    ensures { result ≡ true → a ≡ b }
+    ensures { IsTrue result ↔ (a ≡ b) }
 {
     a == b
 }
@@ -73,6 +96,9 @@ impl Todo {
             later: Vec::new(alloc),
             calls: Lists::new(alloc),
             called: Places::new(alloc),
+            cells: Places::new(alloc),
+            under: Places::new(alloc),
+            grown: 0,
         }
     }
 
@@ -100,6 +126,7 @@ impl Todo {
     }
 
     /// Keeps a call of the routine that begins at `target`. What is to be looked at stays.
+    /// `NoMemory` comes where memory is refused, and past 2^25 calls that were kept.
     #[tactic(auto, using(crate::proofs::Worklists::keeping))]
     pub fn add_call(&mut self, target: u32, spot: Spot) -> Result<(), NoMemory>
         ensures same { waiting self.new ≡ waiting self.old }
@@ -111,6 +138,7 @@ impl Todo {
                 return Ok(());
             }
         }
+        room(self.calls.len())?;
         let number = self.calls.push(below, spot)?;
         self.called.put(target, number)
     }
@@ -123,5 +151,41 @@ impl Todo {
         let number = self.called.get(target);
         self.called.put(target, 0)?;
         put_all(&mut self.later, &self.calls, number)
+    }
+
+    /// The place of the call that made a window of a trial grow last, 0 where no call did.
+    pub fn growth(&self, trial: u32, side: Side) -> u32
+        ensures place { result ≡ get_or (growths self.now side) trial 0 }
+    {
+        match side {
+            Side::Cells => self.cells.get(trial),
+            Side::Under => self.under.get(trial),
+        }
+    }
+
+    /// Keeps the place of the call that made a window of a trial grow, or 0 where no call did.
+    #[tactic(auto, using(crate::proofs::Worklists::handing))]
+    pub fn grew(&mut self, trial: u32, side: Side, place: u32) -> Result<(), NoMemory>
+        ensures same { waiting self.new ≡ waiting self.old }
+        ensures calls { SameCalls self.old self.new }
+        ensures grew { OnOk result (PutAt (growths self.old side) (growths self.new side) trial
+            place) }
+    {
+        match side {
+            Side::Cells => self.cells.put(trial, place),
+            Side::Under => self.under.put(trial, place),
+        }
+    }
+
+    /// Whether as many windows have grown as there are trials, since it was last so.
+    pub fn is_due(&mut self, trials: usize) -> bool
+        ensures same { self.new ≡ self.old }
+    {
+        if self.grown < trials {
+            self.grown += 1;
+            return false;
+        }
+        self.grown = 0;
+        true
     }
 }

@@ -11,6 +11,8 @@ mod cuts;
 #[cfg(test)]
 mod files;
 #[cfg(test)]
+mod language;
+#[cfg(test)]
 mod parts;
 #[cfg(test)]
 mod profile;

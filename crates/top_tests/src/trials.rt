@@ -3,7 +3,7 @@
 ghost use Rattle.std.specs.Prelude.{map};
 ghost use Rattle.world_core.specs.Calls.{AreServing};
 
-use crate::{chains, cuts, files, profile, programs, reads, refusing, scripts, words};
+use crate::{chains, cuts, files, language, profile, programs, reads, refusing, scripts, words};
 use hook_table::Hooks;
 use nwq_value::NoMemory;
 use std::alloc::Global;
@@ -15,9 +15,10 @@ use test_rows::rows::Table;
 use test_rows::samples::Sample;
 
 /// Scripts that are run.
-fn of_runs() -> [Table<'static>; 3] {
+fn of_runs() -> [Table<'static>; 4] {
     [
         Table::Sources(scripts::PLAYED, scripts::PLAYS),
+        Table::Sources(scripts::PLAYED, language::PLAYS),
         Table::Sources(scripts::TRACED, scripts::TRACES),
         Table::Sources(scripts::TRACED, profile::SCRIPTS),
     ]

@@ -1,9 +1,20 @@
-use Rattle.std.proofs.Common.{arith, Some, subst, ap, ◌∙◌}
-use Rattle.ncs_machine.specs.Host.{scripts_of, tables_of}
-use Rattle.ncs_machine.specs.Steps.{Stays, next_of, state}
+use Rattle.std.proofs.Common.{arith, Some, map, slice_get, subst, sym, ap, ◌+◌, ◌∙◌}
+use Rattle.ncs_machine.specs.Host.{engine_view, scripts_of, tables_of}
+use Rattle.ncs_machine.specs.Steps.{Remains, Stays, next_of, state}
 use Rattle.ncs_machine.proofs.Answers.{answers_typed}
-use Rattle.ncs_machine.proofs.Running.{cut_short, divided_run, ended_run, goes_on, run_begins, steps_well, stopped_run}
+use Rattle.ncs_machine.proofs.Running.{cut_short, divided_run, ended_run, goes_on, run_begins, steps_well, still_listed, stopped_run}
+use Rattle.ncs_machine.proofs.entry.run_machine.Goals.{in-Enters, in-Goes}
 use Rattle.ncs_machine.proofs.entry.run_machine.Goals as goal
+
+pub script-script-requires : goal.script-script-requires
+script-script-requires g c = record {
+  listed = still_listed c.args.scripts.now (engine_view c.args.table.now (map (λ h. h.known) c.args.hooks.now.all.items)) (tables_of c.args.scripts.now) c.args.limit (state c.args.machine.now c.args.world.now.world) 0 c.args.machine.now c.args.world.now.world
+      (run_begins (scripts_of c.args.scripts.now) _ (tables_of c.args.scripts.now) c.args.limit c.args.machine.now c.args.world.now.world
+      c.steps_are_safe.ensures.steps c.calls_keep_worlds.ensures.engine c.calls_keep_worlds.ensures.no_script c.calls_keep_worlds.ensures.too_deep
+      c.tables_type_execute_script.ensures.typed c.keeps-2.ensures.table c.keeps.ensures.kept c.requires.meets
+      (answers_typed _ c.answers_have_types.ensures.typed c.keeps-2.ensures.table)
+      c.requires.safe c.requires.alone c.requires.caller);
+}
 
 pub loop-done-init : goal.loop-done-init
 loop-done-init g c = record {
@@ -12,6 +23,7 @@ loop-done-init g c = record {
       c.tables_type_execute_script.ensures.typed c.keeps-2.ensures.table c.keeps.ensures.kept c.requires.meets
       (answers_typed _ c.answers_have_types.ensures.typed c.keeps-2.ensures.table)
       c.requires.safe c.requires.alone c.requires.caller;
+  script = c.script-script.ensures.script;
   room = omega arith;
 }
 
@@ -42,13 +54,34 @@ returns-in-Divides-clause-run g c =
     c.own-own.ensures.own
     (subst (λ n. Stays n c.loop-done.world.world c.step.new.world.world) c.in-Divides.is c.in-Ok.ensures.stays)
 
-pub loop-done-preserved : goal.loop-done-preserved
-loop-done-preserved g c = record {
-  running = goes_on (scripts_of c.args.scripts.now) _ (tables_of c.args.scripts.now) c.args.limit (state c.args.machine.now c.args.world.now.world)
+pub script-script-requires-in-Enters : goal.script-script-requires-in-Enters
+script-script-requires-in-Enters g c = record {
+  listed = still_listed c.args.scripts.now _ (tables_of c.args.scripts.now) c.args.limit (state c.args.machine.now c.args.world.now.world)
+      (c.loop-done.done + 1) c.step.new.self c.step.new.world.world
+      (goes_on (scripts_of c.args.scripts.now) _ (tables_of c.args.scripts.now) c.args.limit (state c.args.machine.now c.args.world.now.world)
       c.loop-done.done (state c.loop-done.machine c.loop-done.world.world) (state c.step.new.self c.step.new.world.world) c.loop-done.invariant.running c.loop-done-test.true
-      (c.in-Ok.ensures.next ∙ ap (λ n. Some (next_of n (state c.step.new.self c.step.new.world.world))) c.in-Goes.is);
-  room = omega (arith, c.loop-done.invariant.room, c.step.ensures.room);
+      (c.in-Ok.ensures.next ∙ ap (λ n. Some (next_of n (state c.step.new.self c.step.new.world.world))) c.in-Enters.is));
 }
+
+pub loop-done-preserved : goal.loop-done-preserved
+loop-done-preserved g c =
+    elim c.match-next.branch [
+      | in-Goes w ↦ record {
+        running = goes_on (scripts_of c.args.scripts.now) _ (tables_of c.args.scripts.now) c.args.limit (state c.args.machine.now c.args.world.now.world)
+            c.loop-done.done (state c.loop-done.machine c.loop-done.world.world) (state c.step.new.self c.step.new.world.world) c.loop-done.invariant.running c.loop-done-test.true
+            (c.in-Ok.ensures.next ∙ ap (λ n. Some (next_of n (state c.step.new.self c.step.new.world.world))) w.in-Goes.is);
+        script = ap (slice_get c.args.scripts.now) (subst (λ n. Remains n c.loop-done.machine.running.script c.step.new.self.running.script) w.in-Goes.is c.in-Ok.ensures.remains)
+            ∙ c.loop-done.invariant.script ∙ sym (ap (λ r. Some r.now) w.script-is);
+        room = omega (arith, c.loop-done.invariant.room, c.step.ensures.room);
+      }
+      | in-Enters w ↦ record {
+        running = goes_on (scripts_of c.args.scripts.now) _ (tables_of c.args.scripts.now) c.args.limit (state c.args.machine.now c.args.world.now.world)
+            c.loop-done.done (state c.loop-done.machine c.loop-done.world.world) (state c.step.new.self c.step.new.world.world) c.loop-done.invariant.running c.loop-done-test.true
+            (c.in-Ok.ensures.next ∙ ap (λ n. Some (next_of n (state c.step.new.self c.step.new.world.world))) w.in-Enters.is);
+        script = w.script-script-in-Enters.ensures.script ∙ sym (ap (λ r. Some r.now) w.script-is);
+        room = omega (arith, c.loop-done.invariant.room, c.step.ensures.room);
+      }
+    ]
 
 pub returns-clause-run : goal.returns-clause-run
 returns-clause-run g c =

@@ -2,9 +2,10 @@ use Rattle.stack_check.proofs.Adding.{trial_left}
 use Rattle.stack_check.proofs.Keeping.{keeps_trial}
 use Rattle.stack_check.proofs.facts.begin.Goals as goal
 
-pub returns : goal.returns
-returns c = record {
-  keeps = keeps_trial _ _ _ c.args.facts.now _ c.args.trial c.requires.keeps c.in_ok-number.ensures.added c.requires.inside (λ e. absurd (c.requires.entry e))
-      c.requires.begins;
-  takes = trial_left c.args.judged.now.table.now c.args.judged.now.code.now c.args.heap.now c.args.facts.now _ c.args.trial c.in_ok-number.ensures.added c.requires.begins;
-}
+pub returns-clause-keeps : goal.returns-clause-keeps
+returns-clause-keeps c =
+    keeps_trial _ _ _ c.args.facts.now _ c.args.trial c.requires.keeps c.in_ok-number.ensures.added c.requires.inside (λ e. absurd (c.requires.entry e))
+    c.requires.begins
+
+pub returns-clause-takes : goal.returns-clause-takes
+returns-clause-takes c = trial_left c.args.judged.now.table.now c.args.judged.now.code.now c.args.heap.now c.args.facts.now _ c.args.trial c.in_ok-number.ensures.added c.requires.begins

@@ -9,6 +9,7 @@ returns-then-same c = record {
       c.args.trial c.in-Some.given c.requires.keeps c.requires.op c.requires.trial c.requires.entry c.in-Some.is (c.same.ensures.0 c.if-same.true)
       c.requires.saved c.requires.pending;
   waits = refl;
+  again = tt;
 }
 
 pub returns-else-same : goal.returns-else-same
@@ -17,4 +18,5 @@ returns-else-same c = record {
       c.args.trial c.in-Some.given c.requires.keeps c.requires.row c.requires.op c.requires.trial c.requires.entry c.in-Some.is
       (iff_false c.same.ensures c.if-same.false);
   waits = tt;
+  again = tt;
 }

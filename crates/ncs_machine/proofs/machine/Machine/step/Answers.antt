@@ -1,5 +1,5 @@
-use Rattle.std.proofs.Common.{◌≡◌, ◌≢◌, Some, None, rules, subst, sym}
-use Rattle.std.specs.Prelude.{slice_get, IfSome}
+use Rattle.std.proofs.Common.{◌≡◌, ◌≢◌, None, subst, sym}
+use Rattle.std.specs.Prelude.{IfSome}
 use Rattle.ncs_code.specs.File.{op_at}
 use Rattle.decoded_code.specs.Steps.{kept, op_of}
 use Rattle.ncs_machine.specs.Steps.{next_of, state}
@@ -9,8 +9,8 @@ use Rattle.ncs_machine.proofs.machine.Machine.step.Goals as goal
 
 pub step_at-decoded-requires : goal.step_at-decoded-requires
 step_at-decoded-requires g c =
-    let l = c.in-Some.script.now in
-    let listed : slice_get c.args.scripts.now c.args.self.now.running.script ≡ Some l = search rules in
+    let l = c.args.script.now in
+    let listed = c.requires.script in
     record {
       begins = subst (λ n. op_at l.code.code n ≢ None) (sym c.place.ensures.place)
           (begins_here c.args.scripts.now _ c.args.self.now c.args.world.now.world l listed c.requires.well);
@@ -18,8 +18,8 @@ step_at-decoded-requires g c =
 
 pub act-requires : goal.act-requires
 act-requires g c =
-    let l = c.in-Some.script.now in
-    let listed : slice_get c.args.scripts.now c.args.self.now.running.script ≡ Some l = search rules in
+    let l = c.args.script.now in
+    let listed = c.requires.script in
     let some = begins_here c.args.scripts.now _ c.args.self.now c.args.world.now.world l listed c.requires.well in
     let there = subst (λ n. IfSome (op_at l.code.code n) (λ op. op_of c.step_at-decoded.result.now ≡ kept op)) c.place.ensures.place c.step_at-decoded.ensures.step in
     let next = next_is l c.args.self.now.running.place c.step_at-decoded.result.now some there in
@@ -35,20 +35,20 @@ act-requires g c =
 
 pub returns-clause-next : goal.returns-clause-next
 returns-clause-next g c =
-    let l = c.in-Some.script.now in
-    let listed : slice_get c.args.scripts.now c.args.self.now.running.script ≡ Some l = search rules in
+    let l = c.args.script.now in
+    let listed = c.requires.script in
     let some = begins_here c.args.scripts.now _ c.args.self.now c.args.world.now.world l listed c.requires.well in
     let there = subst (λ n. IfSome (op_at l.code.code n) (λ op. op_of c.step_at-decoded.result.now ≡ kept op)) c.place.ensures.place c.step_at-decoded.ensures.step in
     let next = next_is l c.args.self.now.running.place c.step_at-decoded.result.now some there in
     decoded_next c.args.scripts.now _ c.args.self.now c.args.world.now.world l c.step_at-decoded.result.now
-    (next_of c.in_ok-next-in-Some.next (state c.act.new.self c.act.new.world.world)) listed next c.requires.well c.in_ok-next-in-Some.ensures.next
+    (next_of c.in_ok-next.next (state c.act.new.self c.act.new.world.world)) listed next c.requires.well c.in_ok-next.ensures.next
 
-pub returns-in_err-next-in-Some-clause-cut : goal.returns-in_err-next-in-Some-clause-cut
-returns-in_err-next-in-Some-clause-cut g c =
-    let l = c.in-Some.script.now in
-    let listed : slice_get c.args.scripts.now c.args.self.now.running.script ≡ Some l = search rules in
+pub returns-in_err-next-clause-cut : goal.returns-in_err-next-clause-cut
+returns-in_err-next-clause-cut g c =
+    let l = c.args.script.now in
+    let listed = c.requires.script in
     let some = begins_here c.args.scripts.now _ c.args.self.now c.args.world.now.world l listed c.requires.well in
     let there = subst (λ n. IfSome (op_at l.code.code n) (λ op. op_of c.step_at-decoded.result.now ≡ kept op)) c.place.ensures.place c.step_at-decoded.ensures.step in
     let next = next_is l c.args.self.now.running.place c.step_at-decoded.result.now some there in
     on_err c.from_residual.result _
-    (decoded_cut c.args.scripts.now _ c.args.self.now c.args.world.now.world c.act.new.world.world l c.step_at-decoded.result.now listed next c.in_err-next-in-Some.ensures.cut)
+    (decoded_cut c.args.scripts.now _ c.args.self.now c.args.world.now.world c.act.new.world.world l c.step_at-decoded.result.now listed next c.in_err-next.ensures.cut)

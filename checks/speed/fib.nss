@@ -1,0 +1,5 @@
+int f(int n) {
+    if (n < 2) return n;
+    return f(n-1) + f(n-2);
+}
+void main() { PrintInteger(f(35)); }

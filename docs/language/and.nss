@@ -1,0 +1,6 @@
+void main()
+{
+    int n;
+    PrintInteger(n && n++);
+    PrintInteger(n);
+}

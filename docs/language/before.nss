@@ -1,0 +1,6 @@
+void main()
+{
+    PrintInteger(-2);
+    PrintInteger(~2);
+    PrintInteger(!2);
+}

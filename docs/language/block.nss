@@ -1,0 +1,6 @@
+void main()
+{
+    int n = 1;
+    { int n = 2; PrintInteger(n); }
+    PrintInteger(n);
+}

@@ -1,0 +1,5 @@
+int StartingConditional()
+{
+    PrintInteger(1);
+    return FALSE;
+}

@@ -1,0 +1,6 @@
+void main()
+{
+    int n = 1;
+    PrintInteger(n++);
+    PrintInteger(--n);
+}

@@ -1,0 +1,6 @@
+void main()
+{
+    SpeakString("hello");
+    PrintInteger(abs(-6));
+    ExecuteScript("other");
+}

@@ -1,0 +1,5 @@
+void main()
+{
+    int n;
+    if (n == 0) PrintInteger(1);
+}

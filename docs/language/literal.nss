@@ -1,0 +1,6 @@
+void main()
+{
+    PrintInteger(7);
+    PrintString("a");
+    PrintObject(OBJECT_SELF);
+}

@@ -1,0 +1,3 @@
+void F() { PrintInteger(1); }
+
+void main() { F(); }

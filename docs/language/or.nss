@@ -1,0 +1,6 @@
+void main()
+{
+    int n = 3;
+    PrintInteger(n || n++);
+    PrintInteger(n);
+}

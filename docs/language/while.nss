@@ -1,0 +1,6 @@
+void main()
+{
+    int n;
+    while (n < 2) n++;
+    PrintInteger(n);
+}
