@@ -1,3 +1,4 @@
+mod KeepLemmas
 mod StepLemmas
 mod InputLemmas
 mod StopLemmas
