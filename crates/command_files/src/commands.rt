@@ -82,7 +82,7 @@ pub fn write_and_put<F: Files, S: Sink>(
 }
 
 /// Writes the text of instructions.
-#[tactic(auto, using(crate::proofs::CommandLemmas::bytes_wanted))]
+#[tactic(auto, using(crate::proofs::CommandLemmas::bytes_wanted, command_work::specs::KeepsLemmas::keeps_all))]
 fn write_listing<F: Files, S: Sink>(
     alloc: Global,
     to: &str,
@@ -115,7 +115,7 @@ fn write_listing<F: Files, S: Sink>(
 }
 
 /// Writes the text of the file of bytecode of this name under another.
-#[tactic(auto, using(crate::proofs::Steps::steps), unfolding(crate::specs::Commands::disassembles))]
+#[tactic(auto, using(crate::proofs::Steps::steps, command_work::specs::KeepsLemmas::keeps_all), unfolding(crate::specs::Commands::disassembles))]
 pub fn disassemble_file<F: Files, S: Sink>(
     alloc: Global,
     file: &str,
@@ -137,7 +137,7 @@ pub fn disassemble_file<F: Files, S: Sink>(
 }
 
 /// Writes the file of the assembler text of this name under another.
-#[tactic(auto, using(crate::proofs::Steps::steps), unfolding(crate::specs::Commands::assembles))]
+#[tactic(auto, using(crate::proofs::Steps::steps, command_work::specs::KeepsLemmas::keeps_all), unfolding(crate::specs::Commands::assembles))]
 pub fn assemble_file<F: Files, S: Sink>(
     alloc: Global,
     file: &str,
