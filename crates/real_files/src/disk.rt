@@ -1,143 +1,123 @@
-//! The write of a whole file, over the calls of a file system: a file is never half written.
+//! The calls that real files make of a disk, and what each means where a disk tells its names.
 
-ghost use Rattle.std.specs.Prelude.{◌≡◌, Bool, IsTrue, OnOk, OnErr, false};
+ghost use Rattle.std.specs.Prelude.{◌≡◌, ◌<◌, ℕ, List, Bool, All, take, None, IsSomeAnd};
+ghost use Rattle.std.specs.Prelude.{Some, IsTrue, OnErr, IfOk, IfErr};
 ghost use Rattle.std.specs.FinMap as map;
-ghost use Rattle.nwq_outside.specs.Outside.{Contents};
-ghost use Rattle.nwq_outside.specs.Disk.{Makes, Renames, Removes, WritesWhole, GivesUp};
+ghost use Rattle.real_files.specs.Disk.{Names, SameOthers, IsThing, Makes, Moves, Removes};
+ghost use Rattle.real_files.specs.Disk.{WritesInto, place_in};
 
-use std::fs::{File, OpenFile, Permissions};
-use std::io::{self, ErrorKind, Write};
-use std::os::unix::fs::PermissionsExt;
-use std::rt::Files as HostFiles;
+use std::alloc::Global;
+use std::io::ErrorKind;
 
-/// What came of the making of a file.
-pub(crate) enum Made {
-    /// It holds all its bytes.
+/// Why a call failed.
+#[derive(Clone, Copy)]
+pub enum Failure {
+    /// Nothing is under the name, and nothing can be.
+    Absent,
+    NoMemory,
+    /// The outside failed so.
+    Kind(ErrorKind),
+}
+
+/// What a name itself is, links not followed.
+#[derive(Drop)]
+pub enum Thing {
+    Nothing,
+    /// A regular file of this mode.
+    File(u32),
+    /// A link, which leads on to this text.
+    Link(Vec<u8>),
+    /// What is written into as it is: a device, a pipe, an open file of a process, a folder.
+    Other,
+}
+
+/// What came of the making of a new file.
+#[derive(Clone, Copy)]
+pub enum Made {
+    /// It has all its bytes.
     Whole,
-    /// Something of this name is there.
+    /// Something of this name is there. Nothing changed.
     Taken,
+    /// No file can be made in this folder. Nothing changed.
+    Closed,
     /// Nothing was made.
-    Refused(ErrorKind),
-    /// It was made, and doesn't hold its bytes.
-    Broken(ErrorKind),
+    Refused(Failure),
+    /// It was made, and hasn't its bytes.
+    Broken(Failure),
 }
 
-/// What came of the write of a whole file.
-pub(crate) enum Wrote {
-    Whole,
-    /// The new name is taken: nothing changed.
-    Taken,
+/// What came of a rename.
+#[derive(Clone, Copy)]
+pub enum Moved {
+    Done,
+    /// What has the second name can't be replaced. Nothing changed.
+    Fixed,
     /// Nothing changed.
-    Refused(ErrorKind),
-    /// The new file is left over, since it could not be removed: nothing else changed.
-    Left(ErrorKind),
+    Refused(Failure),
 }
 
-/// What a write asks of a file system. Kinds that tell what their names hold have every answer
-/// explained by that; of the others nothing is said.
-pub(crate) trait Disk {
+/// What real files ask of a disk. Kinds that tell their names have every answer explained by them;
+/// of the others nothing is said. Names are paths, as the host takes them.
+pub trait Disk {
+    /// Whether this kind of disk tells its names.
     ghost tells: { Bool };
 
-    ghost contents: { Self → Contents };
+    ghost names: { Self → Names };
 
-    /// Makes a file of a name that isn't there, with this mode if there is one, and holds it to its
-    /// bytes.
-    fn make(&mut self, name: &str, like: Option<u32>, bytes: &[u8]) -> Made
+    /// That what is read are bytes, where it is told.
+    fn files_are_bytes(&self)
+        ensures bytes { IsTrue tells → (name bytes : List ℕ) →
+            map.get (names self.now).files name ≡ Some bytes → All (λ b. b < 256) bytes };
+
+    /// The first bytes under a name, at most so many. Links are followed.
+    fn read(&mut self, alloc: Global, name: &str, most: u64) -> Result<Vec<u8>, Failure>
+        ensures bytes { IsTrue tells → IfOk result (λ bytes.
+            IsSomeAnd (map.get (names self.old).files (place_in (names self.old) name.now))
+            (λ whole. bytes.items ≡ take most whole)) }
+        ensures absent { IsTrue tells → IfErr result (λ why. why ≡ Failure.Absent →
+            map.get (names self.old).files (place_in (names self.old) name.now) ≡ None) }
+        ensures same { names self.new ≡ names self.old };
+
+    /// What a name itself is. Links are not followed.
+    fn look(&mut self, alloc: Global, name: &str) -> Result<Thing, Failure>
+        ensures thing { IsTrue tells → IfOk result (IsThing (names self.old) name.now) }
+        ensures same { names self.new ≡ names self.old };
+
+    /// Whether the regular file of this name may be written.
+    fn may_write(&mut self, name: &str) -> Result<(), Failure>
+        ensures same { names self.new ≡ names self.old };
+
+    /// Makes a new file beside a name, of this mode if there is one, and gives it these bytes. Where
+    /// they are to last, it waits until the disk has them.
+    fn make(
+        &mut self,
+        new: &str,
+        name: &str,
+        like: Option<u32>,
+        bytes: &[u8],
+        lasting: bool,
+    ) -> Made
         ensures makes { IsTrue tells →
-            Makes (contents self.old) (contents self.new) name.now bytes.now result };
+            Makes (names self.old) (names self.new) new.now name.now like bytes.now result };
 
     /// Gives a file another name, in place of what has that.
-    fn rename(&mut self, from: &str, to: &str) -> Result<(), ErrorKind>
-        ensures ok { IsTrue tells → OnOk result
-            (Renames (contents self.old) (contents self.new) from.now to.now) }
-        ensures err { IsTrue tells → OnErr result (contents self.new ≡ contents self.old) };
+    fn rename(&mut self, from: &str, to: &str) -> Moved
+        ensures moves { IsTrue tells →
+            Moves (names self.old) (names self.new) from.now to.now result };
 
-    fn remove(&mut self, name: &str) -> Result<(), ErrorKind>
-        ensures ok { IsTrue tells → OnOk result
-            (Removes (contents self.old) (contents self.new) name.now) }
-        ensures err { IsTrue tells → OnErr result (contents self.new ≡ contents self.old) };
-}
+    fn remove(&mut self, name: &str) -> Result<(), Failure>
+        ensures ok { IsTrue tells → IfOk result (λ done.
+            Removes (names self.old) (names self.new) name.now) }
+        ensures err { IsTrue tells → OnErr result (names self.new ≡ names self.old) };
 
-/// Writes a whole file: under a new name, which then takes the place of the old one. What was there
-/// is whole until then, and stays so where a call fails.
-#[tactic(auto, using(crate::proofs::DiskLemmas::writes))]
-pub(crate) fn write_whole<D: Disk>(
-    disk: &mut D,
-    new: &str,
-    name: &str,
-    like: Option<u32>,
-    bytes: &[u8],
-) -> Wrote
-    ensures writes { IsTrue D.tells → WritesWhole
-        (D.contents disk.old) (D.contents disk.new) new.now name.now bytes.now result }
-{
-    match disk.make(new, like, bytes) {
-        Made::Taken => Wrote::Taken,
-        Made::Refused(kind) => Wrote::Refused(kind),
-        Made::Broken(kind) => give_up(disk, new, kind),
-        Made::Whole => match disk.rename(new, name) {
-            Ok(()) => Wrote::Whole,
-            Err(kind) => give_up(disk, new, kind),
-        },
-    }
-}
+    /// Writes into what is there, which is no link.
+    fn write_into(&mut self, name: &str, bytes: &[u8]) -> Result<(), Failure>
+        ensures ok { IsTrue tells → IfOk result (λ done.
+            WritesInto (names self.old) (names self.new) name.now bytes.now) }
+        ensures err { IsTrue tells → OnErr result
+            (SameOthers (names self.old) (names self.new) name.now) };
 
-/// Removes the new file of a write that failed.
-fn give_up<D: Disk>(disk: &mut D, new: &str, kind: ErrorKind) -> Wrote
-    ensures removes { IsTrue D.tells → GivesUp
-        (D.contents disk.old) (D.contents disk.new) new.now result }
-{
-    match disk.remove(new) {
-        Ok(()) => Wrote::Refused(kind),
-        Err(_) => Wrote::Left(kind),
-    }
-}
-
-/// The file system of the host. It tells nothing.
-#[derive(Drop)]
-pub(crate) struct HostDisk<'a, R: HostFiles> {
-    pub host: &'a R,
-}
-
-/// Gives a file that was just made this mode and these bytes, and waits until the disk has them.
-fn fill<F: Write + OpenFile>(file: &mut F, like: Option<u32>, bytes: &[u8]) -> io::Result<()> {
-    if let Some(mode) = like {
-        file.set_permissions(Permissions::from_mode(mode))?;
-    }
-    file.write_all(bytes)?;
-    file.sync_all()
-}
-
-impl<'a, R: HostFiles> Disk for HostDisk<'a, R> {
-    ghost tells = { false };
-
-    ghost contents = { λ _. map.empty };
-
-    /// A name that is taken, also by a link, makes nothing.
-    fn make(&mut self, name: &str, like: Option<u32>, bytes: &[u8]) -> Made {
-        match File::create_new(self.host, name) {
-            Ok(mut file) => match fill(&mut file, like, bytes) {
-                Ok(()) => Made::Whole,
-                Err(error) => Made::Broken(error.kind()),
-            },
-            Err(error) => match error.kind() {
-                ErrorKind::AlreadyExists => Made::Taken,
-                kind => Made::Refused(kind),
-            },
-        }
-    }
-
-    fn rename(&mut self, from: &str, to: &str) -> Result<(), ErrorKind> {
-        match std::fs::rename(self.host, from, to) {
-            Ok(()) => Ok(()),
-            Err(error) => Err(error.kind()),
-        }
-    }
-
-    fn remove(&mut self, name: &str) -> Result<(), ErrorKind> {
-        match std::fs::remove_file(self.host, name) {
-            Ok(()) => Ok(()),
-            Err(error) => Err(error.kind()),
-        }
-    }
+    /// Waits until the disk has what the folder of this name lists.
+    fn sync_folder(&mut self, name: &str) -> Result<(), Failure>
+        ensures same { names self.new ≡ names self.old };
 }
