@@ -41,6 +41,10 @@ module _ (MayWrite : List ℕ → Type 0) (c d e : Contents) where
       (record { place = second.0.place ∙ first.0.place; spare = second.0.spare ∙ first.0.spare },
       λ name outside. second.1 name (moved first.0 name outside) ∙ first.1 name outside)
 
+-- what was only read is kept, and then what the next part keeps
+pub keeps_after : (MayWrite : List ℕ → Type 0) (c d e : Contents) → d ≡ c → KeepsBut MayWrite d e → KeepsBut MayWrite c e
+keeps_after MayWrite c d e same after = keeps_then MayWrite c d e (keeps_all MayWrite c d same) after
+
 -- what leads to no place that may be written has what it had
 pub kept_at : (MayWrite : List ℕ → Type 0) (c c' : Contents) (name : List ℕ) → KeepsBut MayWrite c c' → IsOutside MayWrite c name → content c' name ≡ content c name
 unfolding KeepsBut
