@@ -83,7 +83,7 @@ fn read_source<F: Files, S: Sink>(
 }
 
 /// The code of the script of this name, which is there as a binary or as a source.
-#[tactic(auto, using(crate::proofs::StopLemmas::stops, command_work::specs::KeepsLemmas::keeps_all))]
+#[tactic(auto, using(crate::proofs::StopLemmas::stops, crate::proofs::CodeLemmas::keeps_source, command_work::specs::KeepsLemmas::keeps_all))]
 fn read_by<F: Files, S: Sink>(
     alloc: Global,
     table: &Table,
