@@ -9,7 +9,7 @@ use Rattle.plan_text.specs.declared.plan.Plan.{Plan}
 use Rattle.plan_text.specs.Plans.{AreListed, IsPlan}
 use Rattle.command_work.specs.Calls.{IsName}
 use Rattle.command_work.specs.Counts.{KeepsBut}
-use Rattle.command_work.specs.KeepsLemmas.{keeps_all, keeps_fewer, keeps_then}
+use Rattle.command_work.specs.KeepsLemmas.{keeps_fewer, keeps_then}
 use Rattle.play_inputs.specs.Listings.{IsSourceFile}
 use Rattle.command_play.specs.Tellings.{IsCodeFile, IsGameFile}
 
@@ -18,10 +18,6 @@ code_file : (lines : List ScriptLine) (name : List ℕ) → AreListed lines → 
 code_file [] name all own = absurd own
 code_file (line ∷ lines) name all (inl own) = record { script = line.name; named = all.0; is = own.1 }
 code_file (line ∷ lines) name all (inr more) = code_file lines name all.2 more
-
--- what was only read is kept, and then what the next part keeps
-pub keeps_after : (MayWrite : List ℕ → Type 0) (c c1 c2 : Contents) → c1 ≡ c → KeepsBut MayWrite c1 c2 → KeepsBut MayWrite c c2
-keeps_after MayWrite c c1 c2 same after = keeps_then MayWrite c c1 c2 (keeps_all MayWrite c c1 same) after
 
 module _ (plan : Plan) (kept : IsPlan plan) (to : List ℕ) (c c1 : Contents) where
   pub keeps_listing : (lines : List ScriptLine) → lines ≡ plan.scripts → KeepsBut (IsSourceFile lines) c c1 → KeepsBut (IsGameFile to) c c1

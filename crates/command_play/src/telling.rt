@@ -66,7 +66,7 @@ fn leave_area<F: Files, S: Sink>(
 }
 
 /// Ends as a play did that leaves this area and has this text at its end.
-#[tactic(auto, using(crate::proofs::TellLemmas::endings, crate::proofs::StopLemmas::ends))]
+#[tactic(auto, using(crate::proofs::TellLemmas::endings, crate::proofs::StopLemmas::ends, command_work::specs::KeepsLemmas::keeps_all))]
 fn end_by<F: Files, S: Sink>(
     alloc: Global,
     how: How,
@@ -102,7 +102,7 @@ fn end_by<F: Files, S: Sink>(
 
 /// Writes what a play leaves in its last world, and tells its end. What is remarked of that world
 /// is no part of it.
-#[tactic(auto, using(crate::proofs::TellLemmas::ends))]
+#[tactic(auto, using(crate::proofs::TellLemmas::ends, command_work::specs::KeepsLemmas::keeps_all))]
 pub fn tell_end<F: Files, S: Sink>(
     alloc: Global,
     world: World<Saved>,

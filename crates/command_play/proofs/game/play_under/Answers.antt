@@ -1,5 +1,4 @@
-use Rattle.command_work.specs.KeepsLemmas.{keeps_all}
-use Rattle.command_play.specs.Files.{keeps_after}
+use Rattle.command_work.specs.KeepsLemmas.{keeps_all, keeps_after}
 use Rattle.command_play.specs.Tellings.{IsGameFile}
 use Rattle.command_play.proofs.game.play_under.Goals as goal
 

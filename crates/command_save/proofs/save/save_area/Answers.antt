@@ -1,6 +1,5 @@
 use Rattle.command_work.specs.Calls.{IsName}
-use Rattle.command_work.specs.KeepsLemmas.{keeps_all}
-use Rattle.command_play.specs.Files.{keeps_after}
+use Rattle.command_work.specs.KeepsLemmas.{keeps_all, keeps_after}
 use Rattle.command_save.proofs.save.save_area.Goals as goal
 
 pub returns-in-Err-clause-names : goal.returns-in-Err-clause-names
