@@ -42,3 +42,5 @@ pub leads : (links : ℕ) (held : Held) (name text : List ℕ) → get held name
 leads zero held name text is some = absurd (omega arith)
 leads (suc links) held name text is some =
     ap (λ next. next_of next name (follow links held)) is ∙ ap (λ n. follow n held (beside name text)) {x = links} {y = suc links - 1} (omega arith)
+
+pub ruleset places = (stays, leads)

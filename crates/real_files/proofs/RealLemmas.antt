@@ -44,3 +44,5 @@ pub told_bytes : (t : Bool) (names : Names) → (IsTrue t → (name bytes : List
 unfolding ContentsAreBytes
 told_bytes true names are tells name bytes is = are tt (place_in names name) bytes is
 told_bytes false names are tells = absurd tells
+
+pub ruleset tells = (told_whole, others_whole, others_short)

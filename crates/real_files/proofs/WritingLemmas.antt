@@ -180,3 +180,6 @@ module _ (before mid after : Names) (name bytes : List ℕ) where
     mode = λ mode had modes. ap (λ held. get held name) part.modes ∙ keeps.mode ∙ had;
     others = λ q apart own. part.files q apart ∙ ap (λ held. get held q) keeps.files;
   }
+
+pub ruleset writes = (replaced, broken, unmoved, fixed, unchanged)
+pub ruleset puts = (into, then_into, short_kept, short_same, short_left, short_whole, short_into, short_then_into)
