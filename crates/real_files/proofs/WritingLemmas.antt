@@ -87,12 +87,12 @@ module _ (before mid after : Names) (new name bytes : List ℕ) where
     others = subst (λ names. SameOthers before names new) (sym same) others;
   }
 
-  pub given_up : (then result : Wrote) → is_own_name new ≡ true → name ≢ new → get before.files new ≡ None → SameOthers before mid new
-      → (KeepsAll before after name → WritesWhole before after name bytes then) → GivesUp mid after new then result
+  pub given_up : (outcome result : Wrote) → is_own_name new ≡ true → name ≢ new → get before.files new ≡ None → SameOthers before mid new
+      → (KeepsAll before after name → WritesWhole before after name bytes outcome) → GivesUp mid after new outcome result
       → WritesWhole before after name bytes result
-  given_up then result own apart none others means (inl up) =
+  given_up outcome result own apart none others means (inl up) =
       subst (WritesWhole before after name bytes) (sym up.0) (means (kept apart none others up.1))
-  given_up then result own apart none others means (inr up) =
+  given_up outcome result own apart none others means (inr up) =
       subst (WritesWhole before after name bytes) (sym up.1.0) (left own apart none others up.1.1)
 
 module _ (before mid after : Names) (new name bytes : List ℕ) (like : Option ℕ) where

@@ -106,6 +106,7 @@ impl<D: Disk> Files for RealFiles<D> {
         self.disk.files_are_bytes();
     }
 
+    #[tactic(auto, using(crate::proofs::RealLemmas::reads))]
     fn read(&mut self, alloc: Global, name: &str) -> Read {
         self.reads = self.reads.saturating_add(1);
         match self.disk.read(alloc, name, FILE_BYTES as u64 + 1) {
