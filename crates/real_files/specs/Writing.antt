@@ -50,9 +50,9 @@ WritesWhole before after name bytes (wrote.Refused why) = KeepsAll before after 
 WritesWhole before after name bytes (wrote.Left why) = LeavesOne before after name
 
 -- what came of a write whose new file was to be removed: that one is gone, or else nothing changed
-abbrev pub GivesUp : Names → Names → (new : List ℕ) → (then result : Wrote) → Type 0
-GivesUp before after new then result =
-    ((result ≡ then) × Removes before after new) ⊎ ((why : Failure) × ((result ≡ wrote.Left why) × (after ≡ before)))
+abbrev pub GivesUp : Names → Names → (new : List ℕ) → (outcome result : Wrote) → Type 0
+GivesUp before after new outcome result =
+    ((result ≡ outcome) × Removes before after new) ⊎ ((why : Failure) × ((result ≡ wrote.Left why) × (after ≡ before)))
 
 -- what a write leaves that failed: of the other names only new ones of its own have changed
 pub record FallsShort (before after : Names) (place bytes : List ℕ) : Type 0 where

@@ -53,6 +53,7 @@ pub(crate) fn new_name(alloc: Global, name: &str, number: u32) -> Result<String,
 }
 
 /// Where the bytes of a name are to go, which leads on by so many links at most.
+#[tactic(auto, using(crate::proofs::NameLemmas::places))]
 pub(crate) fn place_of<D: Disk>(
     disk: &mut D,
     alloc: Global,

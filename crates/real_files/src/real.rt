@@ -1,7 +1,10 @@
 //! The files that the program uses, over a disk.
 
-ghost use Rattle.std.specs.Prelude.{◌≡◌};
-ghost use Rattle.nwq_outside.specs.Outside.{no_counts};
+ghost use Rattle.std.specs.Prelude.{◌≡◌, ◌≢◌, IsTrue};
+ghost use Rattle.nwq_outside.specs.declared.counts.CountOf.TheVariants as count_of;
+ghost use Rattle.nwq_outside.specs.Outside.{no_counts, with_next, Leaves, KeepsOthers};
+ghost use Rattle.nwq_outside.specs.Outside.{CountsWrite};
+ghost use Rattle.real_files.specs.Disk.{told, place_in, StaysWhole, KeepsMode};
 
 use crate::disk::{Disk, Failure};
 use crate::whole::{Fault, put_under};
@@ -37,9 +40,6 @@ impl<D: Disk> Model for RealFiles<D> {
 }
 
 impl<D: Disk> RealFiles<D> {
-    ghost use Rattle.nwq_outside.specs.Outside.{with_next};
-    ghost use Rattle.nwq_outside.specs.declared.counts.CountOf.TheVariants as count_of;
-
     /// The files of this disk. There was no read, and no failure.
     pub fn new(alloc: Global, disk: D) -> Self
         ensures made { result ≡ record { names = D.names disk; counts = no_counts; reads = 0 } }
@@ -93,10 +93,6 @@ impl<D: Disk> RealFiles<D> {
 }
 
 impl<D: Disk> Files for RealFiles<D> {
-    ghost use Rattle.std.specs.Prelude.{IsTrue};
-    ghost use Rattle.nwq_outside.specs.Outside.{Leaves, KeepsOthers, CountsWrite};
-    ghost use Rattle.real_files.specs.Disk.{told, place_in, StaysWhole, KeepsMode};
-
     ghost tells = { D.tells };
 
     ghost contents = { λ f. told D.tells f.names };
@@ -105,10 +101,12 @@ impl<D: Disk> Files for RealFiles<D> {
 
     ghost reads = { λ f. f.reads };
 
+    #[tactic(auto, using(crate::proofs::RealLemmas::told_bytes))]
     fn contents_are_bytes(&self) {
         self.disk.files_are_bytes();
     }
 
+    #[tactic(auto, using(crate::proofs::RealLemmas::reads))]
     fn read(&mut self, alloc: Global, name: &str) -> Read {
         self.reads = self.reads.saturating_add(1);
         match self.disk.read(alloc, name, FILE_BYTES as u64 + 1) {
@@ -130,6 +128,7 @@ impl<D: Disk> Files for RealFiles<D> {
     }
 
     /// The old bytes stay whole, or the new ones are there whole, and a file keeps its mode.
+    #[tactic(auto, using(crate::proofs::RealLemmas::tells))]
     fn write(&mut self, name: &str, bytes: &[u8]) -> Done
         ensures left { IsTrue D.tells → Leaves (told D.tells self.old.names)
             (told D.tells self.new.names) name.now bytes.now result }

@@ -61,6 +61,7 @@ fn give_up<D: Disk>(disk: &mut D, new: &str, wrote: Wrote) -> Wrote
 
 /// Writes a whole file: under a new name, which then takes the place of the old one. What was there
 /// is whole until then, and stays so where a call fails.
+#[tactic(auto, using(crate::proofs::WritingLemmas::writes))]
 fn write_whole<D: Disk>(
     disk: &mut D,
     new: &str,
@@ -92,6 +93,7 @@ fn is_lasting(name: &str) -> bool {
 }
 
 /// Writes a whole file under the first new name that nothing has.
+#[tactic(auto, using(crate::proofs::NameLemmas::new_is_own))]
 fn write_over<D: Disk>(
     disk: &mut D,
     alloc: Global,
@@ -127,6 +129,7 @@ fn in_the_way(alloc: Global, name: &str) -> Fault {
 }
 
 /// Puts these bytes in place of a regular file of this mode, or of nothing.
+#[tactic(auto, using(crate::proofs::WritingLemmas::puts))]
 fn put_over<D: Disk>(
     disk: &mut D,
     alloc: Global,
@@ -149,6 +152,7 @@ fn put_over<D: Disk>(
 }
 
 /// Puts these bytes under a name, in place of what was there.
+#[tactic(auto, using(crate::proofs::WritingLemmas::puts))]
 pub(crate) fn put_under<D: Disk>(
     disk: &mut D,
     alloc: Global,
