@@ -84,4 +84,5 @@ told_bytes true names are tells name bytes is = are refl (place_in names name) b
 told_bytes false names are tells name bytes is = untold tells
 
 pub ruleset reads = (told_read, told_long, told_missing)
+
 pub ruleset tells = (told_whole, others_whole, others_short)

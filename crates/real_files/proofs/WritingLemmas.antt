@@ -77,6 +77,7 @@ module _ (before mid after : Names) (new name bytes : List ℕ) where
     where
       both : SameOthers before after new
       both = then_others before mid after new others gone.others
+
       by_name : (q : List ℕ) → (q ≡ new) ⊎ (q ≢ new) → get after.files q ≡ get before.files q
       by_name q (inl same) = subst (λ n. get after.files n ≡ get before.files n) (sym same) (gone.gone ∙ sym none)
       by_name q (inr differs) = both.files q differs
@@ -84,7 +85,10 @@ module _ (before mid after : Names) (new name bytes : List ℕ) where
   -- and else the new file alone is left
   left : is_own_name new ≡ true → name ≢ new → get before.files new ≡ None → SameOthers before mid new → after ≡ mid → LeavesOne before after name
   left own apart none others same = record {
-    new = new; own = own; apart = apart; was_none = none;
+    new = new;
+    own = own;
+    apart = apart;
+    was_none = none;
     others = subst (λ names. SameOthers before names new) (sym same) others;
   }
 
@@ -192,4 +196,5 @@ tried before now after new name bytes like number result same is named apart wri
     (writes (ap is_own_name named ∙ new_is_own number name) apart (subst (λ names. get names.modes name ≡ like) (sym same) is))
 
 pub ruleset writes = (replaced, broken, unmoved, fixed, unchanged)
+
 pub ruleset puts = (into, then_into, short_kept, short_same, short_left, short_whole, short_into, short_then_into)
