@@ -17,7 +17,7 @@ follow_step zero links name some = absurd (omega arith)
 follow_step (suc n) links name some = let back : suc n - 1 ≡ n = omega arith in rw back refl
 
 take_next : (name : List ℕ) (place byte : ℕ) → slice_get name place ≡ Some byte → take (place + 1) name ≡ take place name ++ byte ∷ []
-take_next name place byte is = ?
+take_next name place byte is = grind arith
 
 pub folder_found : (name : List ℕ) (place : ℕ) → rfind_below slash name (length name) ≡ Some place → slice_get name place ≡ Some slash
     → folder_of name ≡ take (place + 1) name
