@@ -5,7 +5,7 @@ use Rattle.std.specs.Cmp.Lexicographic.{slice_cmp}
 use Rattle.std.specs.Ordering.{nat_cmp}
 use Rattle.std.specs.Path.{slash, rsplit_once}
 use Rattle.std.specs.Str.{bytes_eq}
-use Rattle.nwq_outside.specs.Outside.{Held, Contents}
+use Rattle.nwq_outside.specs.Outside.{Held, Contents, plain}
 use Rattle.real_files.specs.declared.disk.Failure.{Failure}
 use Rattle.real_files.specs.declared.disk.Failure.TheVariants.{Absent}
 use Rattle.real_files.specs.declared.disk.Thing.{Thing}
@@ -28,6 +28,10 @@ pub record Names : Type 0 where
   pub links : Held
   pub fixed : List ℕ → Bool
   pub has_modes : Bool
+
+-- the names of a disk that tells none
+abbrev pub no_names : Names
+no_names = record { files = map.empty; modes = map.empty; links = map.empty; fixed = λ name. false; has_modes = false }
 
 -- ---- where a name leads
 
@@ -87,6 +91,11 @@ is_own_name name = ends_in own_ending name
 abbrev pub contents_in : Names → Contents
 contents_in names = record { held = names.files; place = place_in names; spare = is_own_name }
 
+-- what files tell over a disk that tells its names, or over one that doesn't
+abbrev pub told : Bool → Names → Contents
+told true names = contents_in names
+told false names = plain map.empty
+
 -- ---- what the calls answer and leave
 
 -- no call makes or removes a link, nor changes what can be replaced
@@ -108,7 +117,7 @@ HasMode names name (Some mode) = names.has_modes ≡ true → map.get names.mode
 
 -- what a name itself is, links not followed
 abbrev pub IsThing : Names → List ℕ → Thing → Type 0
-IsThing names name thing.Nothing = (map.get names.links name ≡ None) × (map.get names.files name ≡ None)
+IsThing names name thing.Nothing = (map.get names.links name ≡ None) × ((map.get names.files name ≡ None) × (map.get names.modes name ≡ None))
 IsThing names name (thing.File mode) = (map.get names.links name ≡ None) × (map.get names.modes name ≡ Some mode)
 IsThing names name (thing.Link text) = map.get names.links name ≡ Some text.items
 IsThing names name thing.Other = (map.get names.links name ≡ None) × (names.fixed name ≡ true)
@@ -153,6 +162,12 @@ Moves before after from to (moved.Refused why) = after ≡ before
 pub record Removes (before after : Names) (name : List ℕ) : Type 0 where
   pub gone : map.get after.files name ≡ None
   pub others : SameOthers before after name
+
+-- the name may have other bytes, and every name has its mode and every other name what it had
+pub record WritesPart (before after : Names) (name : List ℕ) : Type 0 where
+  pub files : (other : List ℕ) → other ≢ name → map.get after.files other ≡ map.get before.files other
+  pub modes : after.modes ≡ before.modes
+  pub kind : SameKind before after
 
 -- the name has these bytes and its mode, and every other name what it had
 pub record WritesInto (before after : Names) (name bytes : List ℕ) : Type 0 where

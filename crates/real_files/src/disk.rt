@@ -3,10 +3,10 @@
 ghost use Rattle.std.specs.Prelude.{◌≡◌, ◌<◌, ℕ, List, Bool, All, take, None, IsSomeAnd};
 ghost use Rattle.std.specs.Prelude.{Some, IsTrue, OnErr, IfOk, IfErr};
 ghost use Rattle.std.specs.FinMap as map;
-ghost use Rattle.real_files.specs.Disk.{Names, SameOthers, IsThing, Makes, Moves, Removes};
-ghost use Rattle.real_files.specs.Disk.{WritesInto, place_in};
+ghost use Rattle.real_files.specs.Disk.{Names, IsThing, Makes, Moves, Removes};
+ghost use Rattle.real_files.specs.Disk.{WritesInto, WritesPart, place_in};
 
-use std::alloc::Global;
+use std::alloc::{AllocError, Global};
 use std::io::ErrorKind;
 
 /// Why a call failed.
@@ -17,6 +17,14 @@ pub enum Failure {
     NoMemory,
     /// The outside failed so.
     Kind(ErrorKind),
+}
+
+impl From<AllocError> for Failure {
+    ghost from_gives = { λ _ why. why ≡ Failure.NoMemory };
+
+    fn from(_error: AllocError) -> Failure {
+        Failure::NoMemory
+    }
 }
 
 /// What a name itself is, links not followed.
@@ -115,7 +123,7 @@ pub trait Disk {
         ensures ok { IsTrue tells → IfOk result (λ done.
             WritesInto (names self.old) (names self.new) name.now bytes.now) }
         ensures err { IsTrue tells → OnErr result
-            (SameOthers (names self.old) (names self.new) name.now) };
+            (WritesPart (names self.old) (names self.new) name.now) };
 
     /// Waits until the disk has what the folder of this name lists.
     fn sync_folder(&mut self, name: &str) -> Result<(), Failure>

@@ -5,9 +5,16 @@
 //! [`Files`](nwq_outside::Files) is proved of it over any disk that tells, and a write leaves the
 //! old bytes or the new ones, whole, but where what is there can't be replaced. What is trusted is
 //! [`HostDisk`] alone, a few lines a call, which tells nothing. The words of the contracts stand in
-//! `specs/Disk.antt`. See docs/OUTSIDE.md.
+//! `specs/Disk.antt` and `specs/Writing.antt`. See docs/OUTSIDE.md.
 #![tactic(auto)]
 
 pub mod disk;
+pub mod host;
+pub mod links;
+pub mod real;
+pub mod whole;
 
 pub use disk::{Disk, Failure, Made, Moved, Thing};
+pub use host::HostDisk;
+pub use links::beside;
+pub use real::{RealFiles, Trouble};

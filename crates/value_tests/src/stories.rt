@@ -38,8 +38,8 @@ const LINKS: &[Step<'static>] = &[
     Step::Calls(Call::Write("linked/open", b"made", Done::Ok)),
     Step::Has("linked/made.txt", b"made"),
     Step::Calls(Call::Write("linked/loop", b"lost", Done::Failed)),
-    Step::Is("linked/nwq-new-0.tmp", State::Gone),
-    Step::Is("nwq-new-0.tmp", State::Gone),
+    Step::Is("linked/0.nwq-new.tmp", State::Gone),
+    Step::Is("0.nwq-new.tmp", State::Gone),
     Step::Does(Deed::RemoveFile("far")),
     Step::Does(Deed::RemoveAll("linked")),
 ];
@@ -47,15 +47,15 @@ const LINKS: &[Step<'static>] = &[
 /// A write passes over the new names that are taken, one of them by a link to a file.
 const TAKEN: &[Step<'static>] = &[
     Step::Does(Deed::Folder("taken")),
-    Step::Does(Deed::File("taken/nwq-new-0.tmp", b"other")),
+    Step::Does(Deed::File("taken/0.nwq-new.tmp", b"other")),
     Step::Does(Deed::File("taken/victim.txt", b"victim")),
-    Step::Does(Deed::Link("taken/nwq-new-1.tmp", "victim.txt")),
+    Step::Does(Deed::Link("taken/1.nwq-new.tmp", "victim.txt")),
     Step::Calls(Call::Write("taken/a.txt", b"a", Done::Ok)),
     Step::Has("taken/a.txt", b"a"),
-    Step::Has("taken/nwq-new-0.tmp", b"other"),
+    Step::Has("taken/0.nwq-new.tmp", b"other"),
     Step::Has("taken/victim.txt", b"victim"),
-    Step::Is("taken/nwq-new-1.tmp", State::Link),
-    Step::Is("taken/nwq-new-2.tmp", State::Gone),
+    Step::Is("taken/1.nwq-new.tmp", State::Link),
+    Step::Is("taken/2.nwq-new.tmp", State::Gone),
     Step::Does(Deed::RemoveAll("taken")),
 ];
 
@@ -69,6 +69,14 @@ const MODES: &[Step<'static>] = &[
     Step::Is("modes/a.txt", State::Mode(0o640)),
     Step::Has("modes/b.txt", b"old"),
     Step::Does(Deed::RemoveAll("modes")),
+];
+
+/// A write of no bytes is one.
+const EMPTY: &[Step<'static>] = &[
+    Step::Does(Deed::File("empty.txt", b"old")),
+    Step::Calls(Call::Write("empty.txt", b"", Done::Ok)),
+    Step::Has("empty.txt", b""),
+    Step::Does(Deed::RemoveFile("empty.txt")),
 ];
 
 /// A folder is not written.
@@ -118,6 +126,7 @@ const STORIES: &[(&str, &[Step<'static>])] = &[
     ("links", LINKS),
     ("taken", TAKEN),
     ("modes", MODES),
+    ("empty", EMPTY),
     ("folder", FOLDER),
     ("device", DEVICE),
     ("nowhere", NOWHERE),
@@ -177,23 +186,23 @@ struct RefusedWrite {
 const REFUSED: &[RefusedWrite] = &[
     RefusedWrite {
         refused: Refused::Rename,
-        kind: ErrorKind::PermissionDenied,
-        left: Step::Is("nwq-new-0.tmp", State::Gone),
+        kind: ErrorKind::StorageFull,
+        left: Step::Is("0.nwq-new.tmp", State::Gone),
     },
     RefusedWrite {
         refused: Refused::FourthByte,
         kind: ErrorKind::StorageFull,
-        left: Step::Is("nwq-new-0.tmp", State::Gone),
+        left: Step::Is("0.nwq-new.tmp", State::Gone),
     },
     RefusedWrite {
         refused: Refused::Sync,
         kind: ErrorKind::StorageFull,
-        left: Step::Is("nwq-new-0.tmp", State::Gone),
+        left: Step::Is("0.nwq-new.tmp", State::Gone),
     },
     RefusedWrite {
         refused: Refused::RenameAndRemoval,
-        kind: ErrorKind::PermissionDenied,
-        left: Step::Has("nwq-new-0.tmp", b"never seen"),
+        kind: ErrorKind::StorageFull,
+        left: Step::Has("0.nwq-new.tmp", b"never seen"),
     },
 ];
 
@@ -214,5 +223,24 @@ fn refused_writes(rt: HostRuntime) {
         ];
         assert_eq!(rt; first_wrong(&rt, host, &steps), None, "write {place}");
     }
-    assert!(rt; fs::remove_file(&rt, "nwq-new-0.tmp").is_ok());
+    assert!(rt; fs::remove_file(&rt, "0.nwq-new.tmp").is_ok());
+}
+
+/// What can't be replaced, as where another file system is mounted on it, is written into.
+#[test]
+fn fixed_files(rt: HostRuntime) {
+    let host = Refusing {
+        host: &rt,
+        refused: Refused::Mounted,
+    };
+    let steps = [
+        Step::Does(Deed::File("fixed.txt", b"the old one")),
+        Step::Does(Deed::Mode("fixed.txt", 0o640)),
+        Step::Calls(Call::Write("fixed.txt", b"new", Done::Ok)),
+        Step::Has("fixed.txt", b"new"),
+        Step::Is("fixed.txt", State::Mode(0o640)),
+        Step::Is("0.nwq-new.tmp", State::Gone),
+        Step::Does(Deed::RemoveFile("fixed.txt")),
+    ];
+    assert_eq!(rt; first_wrong(&rt, host, &steps), None);
 }
