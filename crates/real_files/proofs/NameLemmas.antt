@@ -1,5 +1,5 @@
 -- Names beside names, and where the links of a name lead.
-use Rattle.std.proofs.Common.{◌≡◌, ◌≢◌, ◌⊎◌, inl, inr, ℕ, zero, suc, ◌-◌, ◌<◌, ◌++◌, Bool, true, false, cond, List, [], ◌∷◌, Option, Some, None, bytes_eq, refl, sym, ap, subst, ◌∙◌, arith, append_assoc}
+use Rattle.std.proofs.Common.{◌≡◌, ◌≢◌, ◌⊎◌, inl, inr, ℕ, zero, suc, ◌-◌, ◌<◌, ◌++◌, Bool, true, false, true≢false, cond, List, [], ◌∷◌, Option, Some, None, bytes_eq, refl, sym, ap, subst, ◌∙◌, arith, append_assoc}
 use Rattle.std.specs.Prelude.{decimal}
 use Rattle.std.specs.FinMap.{get}
 use Rattle.std.proofs.lemmas.Slice.Eq.{bytes_eq-Decides}
@@ -13,7 +13,7 @@ either_true false = refl
 
 true_either : (a b : Bool) → a ≡ true → either a b ≡ true
 true_either true b is = refl
-true_either false b is = is
+true_either false b is = absurd (true≢false (sym is))
 
 ends_whole : (ending : List ℕ) → ends_in ending ending ≡ true
 ends_whole [] = refl
@@ -33,12 +33,14 @@ new_is_own number name = own_either (is_from_root (decimal number ++ own_ending)
 
 -- what is no link leads to itself
 pub stays : (links : ℕ) (held : Held) (name : List ℕ) → get held name ≡ None → follow links held name ≡ name
+unfolding follow
 stays zero held name none = refl
 stays (suc links) held name none = ap (λ text. next_of text name (follow links held)) none
 
 -- and a link leads where what it leads to leads by fewer links
 pub leads : (links : ℕ) (held : Held) (name text : List ℕ) → get held name ≡ Some text → 0 < links
     → follow links held name ≡ follow (links - 1) held (beside name text)
+unfolding follow
 leads zero held name text is some = absurd (omega arith)
 leads (suc links) held name text is some =
     ap (λ next. next_of next name (follow links held)) is ∙ ap (λ n. follow n held (beside name text)) {x = links} {y = suc links - 1} (omega arith)

@@ -81,7 +81,7 @@ pub told_bytes : (t : Bool) (names : Names) → (IsTrue t → (name bytes : List
     → IsTrue t → ContentsAreBytes (told t names)
 unfolding ContentsAreBytes
 told_bytes true names are tells name bytes is = are refl (place_in names name) bytes is
-told_bytes false names are tells = untold tells
+told_bytes false names are tells name bytes is = untold tells
 
 pub ruleset reads = (told_read, told_long, told_missing)
 pub ruleset tells = (told_whole, others_whole, others_short)
