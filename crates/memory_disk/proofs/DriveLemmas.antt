@@ -3,7 +3,7 @@ use Rattle.std.proofs.Common.{◌≡◌, ◌≢◌, ◌∙◌, ℕ, Bool, true, 
 use Rattle.std.specs.FinMap as names
 use Rattle.std.specs.FinMap.{insert, remove}
 use Rattle.std.specs.Option.{option_and_then, unwrap_or}
-use Rattle.real_files.specs.Disk.{Names, SameKind, SameOthers, HasMode, MakesWhole, MakesPart, Renames, Removes, WritesInto}
+use Rattle.real_files.specs.Disk.{Names, SameKind, SameOthers, HasMode, MakesWhole, MakesPart, Renames, Removes, WritesInto, WritesPart}
 use Rattle.memory_disk.proofs.EachLemmas.{bytes_at, mode_at, link_at, put_at, put_apart, put_same, put_inserts, out_at, out_apart, out_same}
 use Rattle.memory_disk.specs.Drive.{Nodes, Drive, bytes_in, mode_in, text_in, files_of, modes_of, links_of, names_of}
 use Rattle.memory_disk.specs.declared.node.Node.{Node}
@@ -139,19 +139,24 @@ module _ (before after : Drive) (name : List ℕ) (mode room : ℕ) (is : names.
 
 -- ---- what is written into
 
-pub others_stay : (before after : Drive) (name : List ℕ) → after ≡ before → SameOthers (names_of before) (names_of after) name
-others_stay before after name same =
-    subst (λ d. SameOthers (names_of before) (names_of d) name) (sym same)
-    (record { kind = stays (names_of before); files = λ other apart. refl; modes = λ other apart. refl })
+pub part_stays : (before after : Drive) (name : List ℕ) → after ≡ before → WritesPart (names_of before) (names_of after) name
+part_stays before after name same =
+    subst (λ d. WritesPart (names_of before) (names_of d) name) (sym same)
+    (record { kind = stays (names_of before); files = λ other apart. refl; modes = refl })
 
 module _ (before after : Drive) (name : List ℕ) (mode : ℕ) (bytes : List ℕ) (room : ℕ) (is : names.get (modes_of before.nodes) name ≡ Some mode)
     (put : after ≡ record before { nodes = insert before.nodes name (File mode bytes); room = room }) where
   no_link_file : None ≡ names.get (links_of before.nodes) name
   no_link_file = no_link_of_mode (names.get before.nodes name) mode (sym (mode_at before.nodes name) ∙ is) ∙ sym (link_at before.nodes name)
 
-  pub file_others : SameOthers (names_of before) (names_of after) name
-  file_others =
-      subst (λ d. SameOthers (names_of before) (names_of d) name) (sym put) (put_others before name (File mode bytes) room refl no_link_file)
+  pub file_part : WritesPart (names_of before) (names_of after) name
+  file_part =
+      subst (λ d. WritesPart (names_of before) (names_of d) name) (sym put)
+      (record {
+        files = λ other apart. put_apart bytes_in [] before.nodes name (File mode bytes) other apart;
+        modes = put_same mode_in 0 before.nodes name (File mode bytes) (sym is);
+        kind = put_kind before name (File mode bytes) room refl no_link_file;
+      })
 
   pub file_written : WritesInto (names_of before) (names_of after) name bytes
   file_written =
@@ -177,6 +182,6 @@ module _ (before after : Drive) (name bytes held : List ℕ) (none : names.get (
       })
 
 pub ruleset renames = (renames_apart, renames_same)
-pub ruleset writes_file = (file_others, file_written, others_stay)
-pub ruleset writes_device = (device_written, others_stay)
-pub ruleset breaks = (file_others, others_stay)
+pub ruleset writes_file = (file_part, file_written, part_stays)
+pub ruleset writes_device = (device_written, part_stays)
+pub ruleset breaks = (file_part, part_stays)

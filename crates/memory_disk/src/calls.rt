@@ -3,7 +3,7 @@
 ghost use Rattle.std.specs.Prelude.{◌≡◌, ℕ, List, Option, None, Some, OnErr, IfOk, IfErr};
 ghost use Rattle.std.specs.Prelude.{IsSomeAnd, take, true};
 ghost use Rattle.std.specs.FinMap as map;
-ghost use Rattle.real_files.specs.Disk.{IsThing, Makes, Moves, Removes, SameOthers, WritesInto};
+ghost use Rattle.real_files.specs.Disk.{IsThing, Makes, Moves, Removes, WritesInto, WritesPart};
 ghost use Rattle.memory_disk.specs.declared.node.Node.TheVariants as node;
 ghost use Rattle.memory_disk.specs.Drive.{files_of, modes_of, names_of};
 
@@ -204,7 +204,7 @@ impl MemoryDisk {
         requires file { map.get (modes_of self.old.nodes) name.now ≡ Some mode }
         ensures ok { IfOk result (λ done.
             WritesInto (names_of self.old) (names_of self.new) name.now bytes.now) }
-        ensures err { OnErr result (SameOthers (names_of self.old) (names_of self.new) name.now) }
+        ensures err { OnErr result (WritesPart (names_of self.old) (names_of self.new) name.now) }
     {
         let free = self.room().saturating_add(self.size(name));
         if free < bytes.len() {
@@ -225,7 +225,7 @@ impl MemoryDisk {
         requires no_mode { map.get (modes_of self.old.nodes) name.now ≡ None }
         ensures ok { IfOk result (λ done.
             WritesInto (names_of self.old) (names_of self.new) name.now bytes.now) }
-        ensures err { OnErr result (SameOthers (names_of self.old) (names_of self.new) name.now) }
+        ensures err { OnErr result (WritesPart (names_of self.old) (names_of self.new) name.now) }
     {
         let Some(_) = self.nodes().bytes(name) else {
             return Err(Failure::Absent);
@@ -239,7 +239,7 @@ impl MemoryDisk {
     fn write_at(&mut self, name: &[u8], bytes: &[u8]) -> Result<(), Failure>
         ensures ok { IfOk result (λ done.
             WritesInto (names_of self.old) (names_of self.new) name.now bytes.now) }
-        ensures err { OnErr result (SameOthers (names_of self.old) (names_of self.new) name.now) }
+        ensures err { OnErr result (WritesPart (names_of self.old) (names_of self.new) name.now) }
     {
         match self.nodes().mode(name) {
             Some(mode) => self.write_file(name, mode, bytes),
@@ -250,7 +250,7 @@ impl MemoryDisk {
     /// Leaves the first half of the bytes in a regular file.
     #[tactic(auto, using(crate::proofs::DriveLemmas::breaks))]
     fn break_write(&mut self, name: &[u8], bytes: &[u8]) -> Failure
-        ensures broken { SameOthers (names_of self.old) (names_of self.new) name.now }
+        ensures broken { WritesPart (names_of self.old) (names_of self.new) name.now }
     {
         let Some(mode) = self.nodes().mode(name) else {
             return FAILED;
