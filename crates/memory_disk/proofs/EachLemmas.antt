@@ -47,14 +47,14 @@ module _ {X : Type 0} (get : Node → Option X) (other : X) where
       ∙ chosen get other (names.get nodes q)
 
   module _ (nodes : Nodes) (name : List ℕ) where
-    each_put : (node : Node) (q : List ℕ) → names.get (each get other (insert nodes name node)) q ≡ cond (bytes_eq q name) (get node) (names.get (each get other nodes) q)
+    pub each_put : (node : Node) (q : List ℕ) → names.get (each get other (insert nodes name node)) q ≡ cond (bytes_eq q name) (get node) (names.get (each get other nodes) q)
     each_put node q =
         get_each (insert nodes name node) q
         ∙ ap (option_and_then get) (get_put nodes name node q)
         ∙ cond_then get (bytes_eq q name) (Some node) (names.get nodes q)
         ∙ ap (cond (bytes_eq q name) (get node)) (sym (get_each nodes q))
 
-    each_out : (q : List ℕ) → names.get (each get other (remove nodes name)) q ≡ cond (bytes_eq q name) None (names.get (each get other nodes) q)
+    pub each_out : (q : List ℕ) → names.get (each get other (remove nodes name)) q ≡ cond (bytes_eq q name) None (names.get (each get other nodes) q)
     each_out q =
         get_each (remove nodes name) q
         ∙ ap (option_and_then get) (get_out nodes name q)
