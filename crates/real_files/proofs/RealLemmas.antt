@@ -33,16 +33,19 @@ module _ (t : Bool) (names : Names) (name : List ℕ) where
   told_content : IsTrue t → content (told t names) name ≡ get names.files (place_in names name)
   told_content tells = ap (λ b. content (told b names) name) tells
 
-  pub told_read : (bytes : List ℕ) (most : ℕ) → IsTrue t → most ≡ file_limit + 1
-      → IsSomeAnd (get names.files (place_in names name)) (λ whole. bytes ≡ take most whole) → length bytes ≤ file_limit
+  pub told_read : (held : Names) (bytes : List ℕ) (most : ℕ) → IsTrue t → held ≡ names
+      → IsSomeAnd (get held.files (place_in held name)) (λ whole. bytes ≡ take most whole) → most ≡ file_limit + 1 → length bytes ≤ file_limit
       → content (told t names) name ≡ Some bytes
-  told_read bytes most tells is front fits = told_content tells ∙ read_whole _ bytes most is front fits
+  told_read held bytes most tells same front is fits =
+      told_content tells
+      ∙ read_whole _ bytes most is (subst (λ n. IsSomeAnd (get n.files (place_in n name)) (λ whole. bytes ≡ take most whole)) same front) fits
 
-  pub told_long : (bytes : List ℕ) (most : ℕ) → IsTrue t
-      → IsSomeAnd (get names.files (place_in names name)) (λ whole. bytes ≡ take most whole) → file_limit < length bytes
+  pub told_long : (held : Names) (bytes : List ℕ) (most : ℕ) → IsTrue t → held ≡ names
+      → IsSomeAnd (get held.files (place_in held name)) (λ whole. bytes ≡ take most whole) → file_limit < length bytes
       → IsSomeAnd (content (told t names) name) (λ whole. file_limit < length whole)
-  told_long bytes most tells front over =
-      subst (λ held. IsSomeAnd held (λ whole. file_limit < length whole)) (sym (told_content tells)) (read_long _ bytes most front over)
+  told_long held bytes most tells same front over =
+      subst (λ o. IsSomeAnd o (λ whole. file_limit < length whole)) (sym (told_content tells))
+      (read_long _ bytes most (subst (λ n. IsSomeAnd (get n.files (place_in n name)) (λ whole. bytes ≡ take most whole)) same front) over)
 
   pub told_missing : IsTrue t → get names.files (place_in names name) ≡ None → content (told t names) name ≡ None
   told_missing tells none = told_content tells ∙ none
@@ -84,4 +87,5 @@ told_bytes true names are tells name bytes is = are refl (place_in names name) b
 told_bytes false names are tells name bytes is = untold tells
 
 pub ruleset reads = (told_read, told_long, told_missing)
+
 pub ruleset tells = (told_whole, others_whole, others_short)
