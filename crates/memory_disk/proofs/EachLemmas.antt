@@ -43,7 +43,7 @@ module _ {X : Type 0} (get : Node → Option X) (other : X) where
       get-retain_keys _ (λ name. is_some (option_and_then get (names.get nodes name))) q
       (λ x tie. ap (λ name. is_some (option_and_then get (names.get nodes name))) (sym (exact_bytes q x tie)))
       ∙ ap (λ o. cond (is_some (option_and_then get (names.get nodes q))) o None)
-        (get-from_entries nat_list_cmp_total _ q ∙ find_each (entries nodes) q ∙ ap (option_map (λ n. unwrap_or (get n) other)) (sym (get-entries nodes q)))
+      (get-from_entries nat_list_cmp_total _ q ∙ find_each (entries nodes) q ∙ ap (option_map (λ n. unwrap_or (get n) other)) (sym (get-entries nodes q)))
       ∙ chosen get other (names.get nodes q)
 
   module _ (nodes : Nodes) (name : List ℕ) where

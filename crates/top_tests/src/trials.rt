@@ -3,8 +3,9 @@
 ghost use Rattle.std.specs.Prelude.{map};
 ghost use Rattle.world_core.specs.Calls.{AreServing};
 
-use crate::{chains, cuts, disk, files, language, profile, programs, reads, refusing, scripts};
-use crate::words;
+use crate::{
+    chains, cuts, disk, files, language, profile, programs, reads, refusing, scripts, words,
+};
 use hook_table::Hooks;
 use nwq_value::NoMemory;
 use std::alloc::Global;
