@@ -182,6 +182,9 @@ module _ (before after : Drive) (name bytes held : List ℕ) (none : names.get (
       })
 
 pub ruleset renames = (renames_apart, renames_same)
+
 pub ruleset writes_file = (file_part, file_written, part_stays)
+
 pub ruleset writes_device = (device_written, part_stays)
+
 pub ruleset breaks = (file_part, part_stays)

@@ -43,18 +43,18 @@ module _ {X : Type 0} (get : Node → Option X) (other : X) where
       get-retain_keys _ (λ name. is_some (option_and_then get (names.get nodes name))) q
       (λ x tie. ap (λ name. is_some (option_and_then get (names.get nodes name))) (sym (exact_bytes q x tie)))
       ∙ ap (λ o. cond (is_some (option_and_then get (names.get nodes q))) o None)
-        (get-from_entries nat_list_cmp_total _ q ∙ find_each (entries nodes) q ∙ ap (option_map (λ n. unwrap_or (get n) other)) (sym (get-entries nodes q)))
+      (get-from_entries nat_list_cmp_total _ q ∙ find_each (entries nodes) q ∙ ap (option_map (λ n. unwrap_or (get n) other)) (sym (get-entries nodes q)))
       ∙ chosen get other (names.get nodes q)
 
   module _ (nodes : Nodes) (name : List ℕ) where
-    each_put : (node : Node) (q : List ℕ) → names.get (each get other (insert nodes name node)) q ≡ cond (bytes_eq q name) (get node) (names.get (each get other nodes) q)
+    pub each_put : (node : Node) (q : List ℕ) → names.get (each get other (insert nodes name node)) q ≡ cond (bytes_eq q name) (get node) (names.get (each get other nodes) q)
     each_put node q =
         get_each (insert nodes name node) q
         ∙ ap (option_and_then get) (get_put nodes name node q)
         ∙ cond_then get (bytes_eq q name) (Some node) (names.get nodes q)
         ∙ ap (cond (bytes_eq q name) (get node)) (sym (get_each nodes q))
 
-    each_out : (q : List ℕ) → names.get (each get other (remove nodes name)) q ≡ cond (bytes_eq q name) None (names.get (each get other nodes) q)
+    pub each_out : (q : List ℕ) → names.get (each get other (remove nodes name)) q ≡ cond (bytes_eq q name) None (names.get (each get other nodes) q)
     each_out q =
         get_each (remove nodes name) q
         ∙ ap (option_and_then get) (get_out nodes name q)

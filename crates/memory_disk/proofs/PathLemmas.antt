@@ -1,5 +1,6 @@
 -- One step of the definitions that tell where a name leads.
 use Rattle.std.proofs.Common.{◌≡◌, ◌∙◌, ℕ, zero, suc, ◌+◌, ◌-◌, ◌<◌, ◌==◌, if◌then◌else◌, List, [], ◌∷◌, ◌++◌, Option, None, Some, length, take, drop, slice_index, slice_get, refl, sym, ap, arith}
+use Rattle.std.proofs.lemmas.Option.{same_Some}
 use Rattle.std.specs.FinMap as names
 use Rattle.std.specs.Option.{option_map}
 use Rattle.std.specs.Path.{slash, rfind_below, rsplit_once}
@@ -17,7 +18,9 @@ follow_step zero links name some = absurd (omega arith)
 follow_step (suc n) links name some = let back : suc n - 1 ≡ n = omega arith in rw back refl
 
 take_next : (name : List ℕ) (place byte : ℕ) → slice_get name place ≡ Some byte → take (place + 1) name ≡ take place name ++ byte ∷ []
-take_next name place byte is = grind arith
+take_next [] place byte is = cc
+take_next (b ∷ bs) zero byte is = ap (λ x. x ∷ []) (same_Some b byte is)
+take_next (b ∷ bs) (suc n) byte is = let later : suc n + 1 ≡ suc (n + 1) = omega arith in rw later (ap (λ xs. b ∷ xs) (take_next bs n byte is))
 
 pub folder_found : (name : List ℕ) (place : ℕ) → rfind_below slash name (length name) ≡ Some place → slice_get name place ≡ Some slash
     → folder_of name ≡ take (place + 1) name

@@ -134,8 +134,8 @@ impl MemoryDisk {
         like: Option<u32>,
         bytes: &[u8],
     ) -> Made
-        ensures makes {
-            Makes (names_of self.old) (names_of self.new) new.now name.now like bytes.now result }
+        ensures makes { Makes (names_of self.old) (names_of self.new)
+            new.now name.now like bytes.now result }
     {
         if self.is_closed(name) {
             return Made::Closed;
