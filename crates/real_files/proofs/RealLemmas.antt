@@ -1,13 +1,11 @@
 -- What files over a disk tell, where the disk tells its names, and where it doesn't.
 use Rattle.std.proofs.Common.{◌≡◌, ◌≢◌, ◌<◌, ◌≤◌, ◌+◌, ℕ, Bool, true, false, List, take, length, All, Option, Some, None, IsSomeAnd, true≢false, refl, sym, ap, subst, ◌∙◌, arith, take_all, length-take}
 use Rattle.std.specs.Prelude.{IsTrue}
-use Rattle.std.specs.FinMap.{get, insert, empty, get-empty}
-use Rattle.std.specs.Cmp.Lexicographic.{slice_cmp}
-use Rattle.std.specs.Ordering.{nat_cmp}
+use Rattle.std.specs.FinMap.{get, empty}
 use Rattle.nwq_value.specs.Limits.{file_limit}
-use Rattle.nwq_outside.specs.Outside.{Held, Contents, ContentsAreBytes, KeepsOthers, content, with_content, plain}
-use Rattle.nwq_outside.specs.ContentLemmas.{write_keeps, same_keeps, put_elsewhere}
-use Rattle.real_files.specs.Disk.{Names, SameKind, StaysWhole, KeepsMode, contents_in, place_in, follow, link_limit, is_own_name, told}
+use Rattle.nwq_outside.specs.Outside.{ContentsAreBytes, KeepsOthers, content, with_content, plain}
+use Rattle.nwq_outside.specs.ContentLemmas.{write_keeps, same_keeps}
+use Rattle.real_files.specs.Disk.{Names, SameKind, contents_in, place_in, follow, link_limit, is_own_name, told}
 use Rattle.real_files.specs.Writing.{Replaces, FallsShort}
 
 untold : {A : Type 0} → IsTrue false → A

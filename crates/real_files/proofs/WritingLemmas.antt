@@ -8,8 +8,8 @@ use Rattle.nwq_outside.specs.Outside.{Held}
 use Rattle.nwq_outside.specs.ContentLemmas.{put_there, put_elsewhere}
 use Rattle.real_files.specs.declared.disk.Failure.{Failure}
 use Rattle.real_files.specs.declared.whole.Wrote.{Wrote}
-use Rattle.real_files.specs.declared.whole.Wrote.TheVariants.{Whole, Taken, Fixed, Refused, Left}
-use Rattle.real_files.specs.Disk.{Names, SameKind, SameOthers, HasMode, MakesWhole, MakesPart, Renames, Removes, WritesInto, WritesPart, StaysWhole, KeepsMode, is_own_name}
+use Rattle.real_files.specs.declared.whole.Wrote.TheVariants.{Fixed, Refused}
+use Rattle.real_files.specs.Disk.{Names, SameKind, SameOthers, HasMode, MakesWhole, MakesPart, Renames, Removes, WritesInto, WritesPart, is_own_name}
 use Rattle.real_files.specs.Writing.{Replaces, KeepsAll, LeavesOne, WritesWhole, GivesUp, FallsShort, new_name}
 use Rattle.real_files.proofs.NameLemmas.{new_is_own}
 

@@ -1,4 +1,4 @@
-use Rattle.std.proofs.Common.{rules, ◌≡◌, IsTrue, subst}
+use Rattle.std.proofs.Common.{rules, ◌≡◌, subst}
 use Rattle.real_files.specs.Disk.{place_in}
 use Rattle.real_files.specs.Writing.{Replaces}
 use Rattle.real_files.proofs.WritingLemmas.{short_whole}
