@@ -24,7 +24,7 @@ no_link_of_bytes (Some (Device other)) bytes is = refl
 
 -- a regular file or a device that is put where no link is
 module _ (before : Drive) (name : List ℕ) (node : Node) (room : ℕ) where
-  put_into : Drive
+  abbrev put_into : Drive
   put_into = record before { nodes = insert before.nodes name node; room = room }
 
   put_kind : text_in node ≡ None → None ≡ names.get (links_of before.nodes) name → SameKind (names_of before) (names_of put_into)
@@ -72,7 +72,7 @@ module _ (before mid after : Drive) (from to : List ℕ) (mode : ℕ) (bytes : L
     (is : names.get before.nodes from ≡ Some (File mode bytes)) (no_link_there : names.get (links_of before.nodes) to ≡ None) (apart : from ≢ to)
     (put : mid ≡ record before { nodes = insert before.nodes to (File mode bytes); room = room })
     (out : after ≡ record mid { nodes = remove mid.nodes from; room = less }) where
-  put_nodes : Nodes
+  abbrev put_nodes : Nodes
   put_nodes = insert before.nodes to (File mode bytes)
 
   back : to ≢ from
@@ -84,7 +84,7 @@ module _ (before mid after : Drive) (from to : List ℕ) (mode : ℕ) (bytes : L
   no_link_here : None ≡ names.get (links_of put_nodes) from
   no_link_here = sym (ap (λ l. names.get l from) links_put ∙ link_at before.nodes from ∙ ap (option_and_then text_in) is)
 
-  renamed : Drive
+  abbrev renamed : Drive
   renamed = record before { nodes = remove put_nodes from; room = less }
 
   same : after ≡ renamed

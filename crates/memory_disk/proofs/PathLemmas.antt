@@ -14,8 +14,15 @@ rfind_step c text (suc n) some = let back : suc n - 1 ≡ n = omega arith in rw 
 
 pub follow_step : (n : ℕ) (links : Held) (name : List ℕ) → 0 < n
     → follow n links name ≡ next_of (names.get links name) name (follow (n - 1) links)
+unfolding follow
 follow_step zero links name some = absurd (omega arith)
 follow_step (suc n) links name some = let back : suc n - 1 ≡ n = omega arith in rw back refl
+
+pub follow_none : (links : Held) (name : List ℕ) → follow 0 links name ≡ name
+unfolding follow
+follow_none links name = refl
+
+pub ruleset follows = (follow_step, follow_none)
 
 take_next : (name : List ℕ) (place byte : ℕ) → slice_get name place ≡ Some byte → take (place + 1) name ≡ take place name ++ byte ∷ []
 take_next [] place byte is = cc

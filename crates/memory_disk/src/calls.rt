@@ -96,9 +96,9 @@ impl MemoryDisk {
         ensures part { (name bytes : List ℕ) (like : Option ℕ) →
             Makes (names_of self.old) (names_of self.new) new.now name like bytes result }
     {
-        if self.nodes().get(new).is_some() {
+        let None = self.nodes().get(new) else {
             return Made::Taken;
-        }
+        };
         let room = self.room().saturating_sub(part.len());
         match self.put_file(new, 0o600, part, room) {
             Ok(()) => Made::Broken(why),
@@ -116,9 +116,9 @@ impl MemoryDisk {
         if room < bytes.len() {
             return self.make_part(new, &bytes[..room], FULL);
         }
-        if self.nodes().get(new).is_some() {
+        let None = self.nodes().get(new) else {
             return Made::Taken;
-        }
+        };
         match self.put_file(new, like.unwrap_or(0o644), bytes, room - bytes.len()) {
             Ok(()) => Made::Whole,
             Err(NoMemory) => Made::Refused(Failure::NoMemory),
@@ -155,9 +155,9 @@ impl MemoryDisk {
         if from == to {
             return Moved::Done;
         }
-        if self.nodes().link(to).is_some() {
+        let None = self.nodes().link(to) else {
             return Moved::Refused(FAILED);
-        }
+        };
         let room = self.room().saturating_add(self.size(to));
         match self.put_file(to, mode, bytes, room) {
             Ok(()) => {

@@ -59,7 +59,7 @@ pub fn beside(alloc: Global, name: &[u8], text: &[u8]) -> Result<Vec<u8>, NoMemo
 }
 
 /// The name that at most so many links of a name lead to.
-#[tactic(auto, using(crate::proofs::PathLemmas::follow_step))]
+#[tactic(auto, using(crate::proofs::PathLemmas::follows))]
 fn follow_most(
     nodes: &NodeTable,
     alloc: Global,
