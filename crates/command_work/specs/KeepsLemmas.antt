@@ -37,9 +37,10 @@ module _ (MayWrite : List ℕ → Type 0) (c d e : Contents) where
   -- one part after another
   pub keeps_then : KeepsBut MayWrite c d → KeepsBut MayWrite d e → KeepsBut MayWrite c e
   unfolding KeepsBut
-  keeps_then first second =
-      (record { place = second.0.place ∙ first.0.place; spare = second.0.spare ∙ first.0.spare },
-      λ name outside. second.1 name (moved first.0 name outside) ∙ first.1 name outside)
+  keeps_then first second = (
+    record { place = second.0.place ∙ first.0.place; spare = second.0.spare ∙ first.0.spare },
+    λ name outside. second.1 name (moved first.0 name outside) ∙ first.1 name outside,
+  )
 
 -- what was only read is kept, and then what the next part keeps
 pub keeps_after : (MayWrite : List ℕ → Type 0) (c d e : Contents) → d ≡ c → KeepsBut MayWrite d e → KeepsBut MayWrite c e

@@ -69,8 +69,7 @@ pub fn read_file<F: Files, S: Sink>(
 }
 
 /// Writes these bytes under the name.
-#[tactic(auto, using(crate::proofs::FileLemmas::wrote, crate::proofs::FileLemmas::write_cut,
-    crate::specs::KeepsLemmas::keeps_write))]
+#[tactic(auto, using(crate::proofs::FileLemmas::wrote, crate::proofs::FileLemmas::write_cut, crate::specs::KeepsLemmas::keeps_write))]
 pub fn write_file<F: Files>(name: &str, bytes: &[u8], files: &mut F) -> Result<(), Status>
     ensures does { IsTrue F.tells → (t : List ℕ) →
         Does (writes name.now bytes.now) (F.contents files.old) t result (F.contents files.new) t }
