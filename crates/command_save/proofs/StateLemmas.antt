@@ -1,5 +1,5 @@
 -- The state that is taken of a play is the one in which it stands.
-use Rattle.std.proofs.Common.{◌≡◌, ◌≢◌, ℕ, List, [], ◌∷◌, map, inr, Option, None, Result, Err, refl, sym, ap, ◌∙◌, subst}
+use Rattle.std.proofs.Common.{◌≡◌, ◌≢◌, ℕ, List, [], ◌∷◌, map, ◌⊎◌, inl, inr, Option, None, Result, Err, refl, sym, ap, ◌∙◌, subst}
 use Rattle.std.specs.List.{AllByRecursion}
 use Rattle.nwq_outside.specs.Outside.{Contents}
 use Rattle.ncs_code.specs.File.{IsCode, file_bytes}
@@ -32,7 +32,7 @@ use Rattle.command_work.specs.Parts.{cut_here, finds_one}
 use Rattle.command_plays.specs.Tellings.{cut_of}
 use Rattle.command_save.specs.declared.inputs.HeaderFile.{HeaderFile}
 use Rattle.command_save.specs.Saves.{file_of, AreSpelled, IsStateAt, state_written, saves_at, saves_by}
-use Rattle.command_save.specs.Tellings.{IsProgress}
+use Rattle.command_save.specs.Tellings.{IsProgress, WhereBroken}
 
 -- ---- scripts
 
@@ -104,6 +104,12 @@ module _ (header : HeaderFile) (file : List ℕ) (plan : Plan) (scripts : List S
   pub stopped_does : (ending : PlayEnd) → EndsAs InstrStop ending → Does {A = Finished} (Puts (code_end_text scripts p) (Ends status.Limit)) c t r c' t'
       → Does (saves_by ending header file plan scripts name p) c t r c' t'
   stopped_does ending is does = subst (λ (e : PlayEnd). Does (saves_by e header file plan scripts name p) c t r c' t') (sym is) does
+
+-- what is known of every play that isn't inside an entry is known of these
+pub between_entries : (how : How) (Fact : Type 0) → (how ≡ Done) ⊎ ((how ≡ EntryStop) ⊎ (how ≡ Pause)) → WhereBroken how Fact → Fact
+between_entries how Fact (inl is) broken = subst (λ (h : How). WhereBroken h Fact) is broken
+between_entries how Fact (inr (inl is)) broken = subst (λ (h : How). WhereBroken h Fact) is broken
+between_entries how Fact (inr (inr is)) broken = subst (λ (h : How). WhereBroken h Fact) is broken
 
 pub ruleset endings = (broken_does, stopped_does, progress_is)
 

@@ -1,13 +1,11 @@
 -- What files over a disk tell, where the disk tells its names, and where it doesn't.
 use Rattle.std.proofs.Common.{◌≡◌, ◌≢◌, ◌<◌, ◌≤◌, ◌+◌, ℕ, Bool, true, false, List, take, length, All, Option, Some, None, IsSomeAnd, true≢false, refl, sym, ap, subst, ◌∙◌, arith, take_all, length-take}
 use Rattle.std.specs.Prelude.{IsTrue}
-use Rattle.std.specs.FinMap.{get, insert, empty, get-empty}
-use Rattle.std.specs.Cmp.Lexicographic.{slice_cmp}
-use Rattle.std.specs.Ordering.{nat_cmp}
+use Rattle.std.specs.FinMap.{get, empty}
 use Rattle.nwq_value.specs.Limits.{file_limit}
-use Rattle.nwq_outside.specs.Outside.{Held, Contents, ContentsAreBytes, KeepsOthers, content, with_content, plain}
-use Rattle.nwq_outside.specs.ContentLemmas.{write_keeps, same_keeps, put_elsewhere}
-use Rattle.real_files.specs.Disk.{Names, SameKind, StaysWhole, KeepsMode, contents_in, place_in, follow, link_limit, is_own_name, told}
+use Rattle.nwq_outside.specs.Outside.{ContentsAreBytes, KeepsOthers, content, with_content, plain}
+use Rattle.nwq_outside.specs.ContentLemmas.{write_keeps, same_keeps}
+use Rattle.real_files.specs.Disk.{Names, SameKind, contents_in, place_in, follow, link_limit, is_own_name, told}
 use Rattle.real_files.specs.Writing.{Replaces, FallsShort}
 
 untold : {A : Type 0} → IsTrue false → A
@@ -33,16 +31,19 @@ module _ (t : Bool) (names : Names) (name : List ℕ) where
   told_content : IsTrue t → content (told t names) name ≡ get names.files (place_in names name)
   told_content tells = ap (λ b. content (told b names) name) tells
 
-  pub told_read : (bytes : List ℕ) (most : ℕ) → IsTrue t → most ≡ file_limit + 1
-      → IsSomeAnd (get names.files (place_in names name)) (λ whole. bytes ≡ take most whole) → length bytes ≤ file_limit
+  pub told_read : (held : Names) (bytes : List ℕ) (most : ℕ) → IsTrue t → held ≡ names
+      → IsSomeAnd (get held.files (place_in held name)) (λ whole. bytes ≡ take most whole) → most ≡ file_limit + 1 → length bytes ≤ file_limit
       → content (told t names) name ≡ Some bytes
-  told_read bytes most tells is front fits = told_content tells ∙ read_whole _ bytes most is front fits
+  told_read held bytes most tells same front is fits =
+      told_content tells
+      ∙ read_whole _ bytes most is (subst (λ n. IsSomeAnd (get n.files (place_in n name)) (λ whole. bytes ≡ take most whole)) same front) fits
 
-  pub told_long : (bytes : List ℕ) (most : ℕ) → IsTrue t
-      → IsSomeAnd (get names.files (place_in names name)) (λ whole. bytes ≡ take most whole) → file_limit < length bytes
+  pub told_long : (held : Names) (bytes : List ℕ) (most : ℕ) → IsTrue t → held ≡ names
+      → IsSomeAnd (get held.files (place_in held name)) (λ whole. bytes ≡ take most whole) → file_limit < length bytes
       → IsSomeAnd (content (told t names) name) (λ whole. file_limit < length whole)
-  told_long bytes most tells front over =
-      subst (λ held. IsSomeAnd held (λ whole. file_limit < length whole)) (sym (told_content tells)) (read_long _ bytes most front over)
+  told_long held bytes most tells same front over =
+      subst (λ o. IsSomeAnd o (λ whole. file_limit < length whole)) (sym (told_content tells))
+      (read_long _ bytes most (subst (λ n. IsSomeAnd (get n.files (place_in n name)) (λ whole. bytes ≡ take most whole)) same front) over)
 
   pub told_missing : IsTrue t → get names.files (place_in names name) ≡ None → content (told t names) name ≡ None
   told_missing tells none = told_content tells ∙ none
@@ -81,7 +82,8 @@ pub told_bytes : (t : Bool) (names : Names) → (IsTrue t → (name bytes : List
     → IsTrue t → ContentsAreBytes (told t names)
 unfolding ContentsAreBytes
 told_bytes true names are tells name bytes is = are refl (place_in names name) bytes is
-told_bytes false names are tells = untold tells
+told_bytes false names are tells name bytes is = untold tells
 
 pub ruleset reads = (told_read, told_long, told_missing)
+
 pub ruleset tells = (told_whole, others_whole, others_short)

@@ -8,9 +8,10 @@ use Rattle.nwq_outside.specs.Outside.{Held}
 use Rattle.nwq_outside.specs.ContentLemmas.{put_there, put_elsewhere}
 use Rattle.real_files.specs.declared.disk.Failure.{Failure}
 use Rattle.real_files.specs.declared.whole.Wrote.{Wrote}
-use Rattle.real_files.specs.declared.whole.Wrote.TheVariants.{Whole, Taken, Fixed, Refused, Left}
-use Rattle.real_files.specs.Disk.{Names, SameKind, SameOthers, HasMode, MakesWhole, MakesPart, Renames, Removes, WritesInto, WritesPart, StaysWhole, KeepsMode, is_own_name}
-use Rattle.real_files.specs.Writing.{Replaces, KeepsAll, LeavesOne, WritesWhole, GivesUp, FallsShort}
+use Rattle.real_files.specs.declared.whole.Wrote.TheVariants.{Fixed, Refused}
+use Rattle.real_files.specs.Disk.{Names, SameKind, SameOthers, HasMode, MakesWhole, MakesPart, Renames, Removes, WritesInto, WritesPart, is_own_name}
+use Rattle.real_files.specs.Writing.{Replaces, KeepsAll, LeavesOne, WritesWhole, GivesUp, FallsShort, new_name}
+use Rattle.real_files.proofs.NameLemmas.{new_is_own}
 
 pub same_or_apart : (a b : List ℕ) → (a ≡ b) ⊎ (a ≢ b)
 same_or_apart a b = by_test (bytes_eq a b) refl
@@ -76,6 +77,7 @@ module _ (before mid after : Names) (new name bytes : List ℕ) where
     where
       both : SameOthers before after new
       both = then_others before mid after new others gone.others
+
       by_name : (q : List ℕ) → (q ≡ new) ⊎ (q ≢ new) → get after.files q ≡ get before.files q
       by_name q (inl same) = subst (λ n. get after.files n ≡ get before.files n) (sym same) (gone.gone ∙ sym none)
       by_name q (inr differs) = both.files q differs
@@ -83,7 +85,10 @@ module _ (before mid after : Names) (new name bytes : List ℕ) where
   -- and else the new file alone is left
   left : is_own_name new ≡ true → name ≢ new → get before.files new ≡ None → SameOthers before mid new → after ≡ mid → LeavesOne before after name
   left own apart none others same = record {
-    new = new; own = own; apart = apart; was_none = none;
+    new = new;
+    own = own;
+    apart = apart;
+    was_none = none;
     others = subst (λ names. SameOthers before names new) (sym same) others;
   }
 
@@ -181,5 +186,15 @@ module _ (before mid after : Names) (name bytes : List ℕ) where
     others = λ q apart own. part.files q apart ∙ ap (λ held. get held q) keeps.files;
   }
 
+-- what is written under a new name of this number, where nothing has changed before
+pub tried : (before now after : Names) (new name bytes : List ℕ) (like : Option ℕ) (number : ℕ) (result : Wrote) → now ≡ before
+    → get before.modes name ≡ like → new ≡ new_name number name → name ≢ new
+    → (is_own_name new ≡ true → name ≢ new → get now.modes name ≡ like → WritesWhole now after name bytes result)
+    → WritesWhole before after name bytes result
+tried before now after new name bytes like number result same is named apart writes =
+    subst (λ names. WritesWhole names after name bytes result) same
+    (writes (ap is_own_name named ∙ new_is_own number name) apart (subst (λ names. get names.modes name ≡ like) (sym same) is))
+
 pub ruleset writes = (replaced, broken, unmoved, fixed, unchanged)
+
 pub ruleset puts = (into, then_into, short_kept, short_same, short_left, short_whole, short_into, short_then_into)

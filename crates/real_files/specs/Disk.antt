@@ -57,7 +57,7 @@ next_of None name goes = name
 next_of (Some text) name goes = goes (beside name text)
 
 -- the name that at most so many links of a name lead to
-abbrev pub follow : ℕ → Held → List ℕ → List ℕ
+unfoldable pub follow : ℕ → Held → List ℕ → List ℕ
 follow zero links name = name
 follow (suc more) links name = next_of (map.get links name) name (follow more links)
 

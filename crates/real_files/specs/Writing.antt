@@ -1,5 +1,5 @@
 -- What the write of a whole file leaves of the names of a disk.
-use Rattle.std.specs.Prelude.{◌≡◌, ◌≢◌, ◌⊎◌, ℕ, Bool, true, false, List, ◌++◌, Option, Some, None, decimal}
+use Rattle.std.specs.Prelude.{◌≡◌, ◌≢◌, ◌⊎◌, ℕ, true, false, List, ◌++◌, None, decimal}
 use Rattle.std.specs.FinMap as map
 use Rattle.std.specs.String.{string_bytes}
 use Rattle.real_files.specs.Disk.{Names, SameKind, SameOthers, Removes, StaysWhole, KeepsMode, beside, own_ending, is_own_name}

@@ -20,7 +20,10 @@ pub enum Failure {
 }
 
 impl From<AllocError> for Failure {
-    ghost from_gives = { λ _ why. why ≡ Failure.NoMemory };
+    ghost use Rattle.std.specs.Prelude.{◌≡◌};
+    ghost use Rattle.real_files.specs.declared.disk.Failure.TheVariants.{NoMemory};
+
+    ghost from_gives = { λ _ why. why ≡ NoMemory };
 
     fn from(_error: AllocError) -> Failure {
         Failure::NoMemory

@@ -218,9 +218,8 @@ impl<R: HostFiles> Disk for HostDisk<R> {
         match std::fs::rename(&self.host, from, to) {
             Ok(()) => Moved::Done,
             Err(error) => match error.kind() {
-                ErrorKind::PermissionDenied
-                | ErrorKind::ResourceBusy
-                | ErrorKind::CrossesDevices => Moved::Fixed,
+                ErrorKind::PermissionDenied | ErrorKind::ResourceBusy | ErrorKind::CrossesDevices =>
+                    Moved::Fixed,
                 _ => Moved::Refused(failure(&error)),
             },
         }

@@ -34,15 +34,15 @@ pub struct RealFiles<D: Disk> {
 impl<D: Disk> Model for RealFiles<D> {
     ghost use Rattle.real_files.specs.Real.{Filed};
 
-    ghost Value = { Filed };
+    ghost Value = { Filed D };
 
-    ghost view = { λ f. record { names = D.names f.disk; counts = f.counts; reads = f.reads } };
+    ghost view = { λ f. record { disk = f.disk; counts = f.counts; reads = f.reads } };
 }
 
 impl<D: Disk> RealFiles<D> {
     /// The files of this disk. There was no read, and no failure.
     pub fn new(alloc: Global, disk: D) -> Self
-        ensures made { result ≡ record { names = D.names disk; counts = no_counts; reads = 0 } }
+        ensures made { result ≡ record { disk = disk; counts = no_counts; reads = 0 } }
     {
         RealFiles {
             disk,
@@ -54,7 +54,7 @@ impl<D: Disk> RealFiles<D> {
     }
 
     pub fn disk(&self) -> &D
-        ensures names { D.names result.now ≡ self.now.names }
+        ensures disk { result.now ≡ self.now.disk }
     {
         &self.disk
     }
@@ -95,7 +95,7 @@ impl<D: Disk> RealFiles<D> {
 impl<D: Disk> Files for RealFiles<D> {
     ghost tells = { D.tells };
 
-    ghost contents = { λ f. told D.tells f.names };
+    ghost contents = { λ f. told D.tells (D.names f.disk) };
 
     ghost counts = { λ f. f.counts };
 
@@ -130,16 +130,18 @@ impl<D: Disk> Files for RealFiles<D> {
     /// The old bytes stay whole, or the new ones are there whole, and a file keeps its mode.
     #[tactic(auto, using(crate::proofs::RealLemmas::tells))]
     fn write(&mut self, name: &str, bytes: &[u8]) -> Done
-        ensures left { IsTrue D.tells → Leaves (told D.tells self.old.names)
-            (told D.tells self.new.names) name.now bytes.now result }
-        ensures others { KeepsOthers name.now (told D.tells self.old.names)
-            (told D.tells self.new.names) }
+        ensures left { IsTrue D.tells → Leaves (told D.tells (D.names self.old.disk))
+            (told D.tells (D.names self.new.disk)) name.now bytes.now result }
+        ensures others { KeepsOthers name.now (told D.tells (D.names self.old.disk))
+            (told D.tells (D.names self.new.disk)) }
         ensures unread { self.new.reads ≡ self.old.reads }
         ensures counts { CountsWrite result self.old.counts self.new.counts }
-        ensures whole { IsTrue D.tells → StaysWhole self.old.names self.new.names
-            (place_in self.old.names name.now) bytes.now }
-        ensures mode { IsTrue D.tells → KeepsMode self.old.names self.new.names
-            (place_in self.old.names name.now) }
+        ensures whole { IsTrue D.tells → StaysWhole
+            (D.names self.old.disk) (D.names self.new.disk)
+            (place_in (D.names self.old.disk) name.now) bytes.now }
+        ensures mode { IsTrue D.tells → KeepsMode
+            (D.names self.old.disk) (D.names self.new.disk)
+            (place_in (D.names self.old.disk) name.now) }
     {
         match put_under(&mut self.disk, self.alloc, name, bytes) {
             Ok(()) => Done::Ok,

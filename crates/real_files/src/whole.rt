@@ -38,7 +38,10 @@ pub(crate) enum Fault {
 }
 
 impl From<Failure> for Fault {
-    ghost from_gives = { λ why fault. fault ≡ Fault.Failed why };
+    ghost use Rattle.std.specs.Prelude.{◌≡◌};
+    ghost use Rattle.real_files.specs.declared.whole.Fault.TheVariants.{Failed};
+
+    ghost from_gives = { λ why fault. fault ≡ Failed why };
 
     fn from(why: Failure) -> Fault {
         Fault::Failed(why)

@@ -94,7 +94,7 @@ fn writes<F: Files>(alloc: Global, files: &mut F, bytes: &[u8], read: Answer<'_>
 }
 
 /// The same as in memory, where the bytes are written.
-fn writes_most<F: Files>(
+pub(crate) fn writes_most<F: Files>(
     alloc: Global,
     files: &mut F,
     bytes: &mut Vec<u8>,

@@ -5,9 +5,10 @@ use crate::host::{Deed, State, Step, first_wrong};
 use crate::refusing::{Refused, Refusing};
 use nwq_outside::Done;
 use std::alloc::{AllocError, Global};
-use std::fs;
+use std::fs::{self, File};
 use std::io::{self, ErrorKind, Read as _};
 use std::os::fd::AsRawFd;
+use std::os::unix::fs::symlink;
 use std::test::Fail;
 
 /// What is written is read, and read no more once it is removed. A folder is neither.
@@ -243,4 +244,50 @@ fn fixed_files(rt: HostRuntime) {
         Step::Does(Deed::RemoveFile("fixed.txt")),
     ];
     assert_eq!(rt; first_wrong(&rt, host, &steps), None);
+}
+
+/// What is open already takes its bytes at its end, however many slashes its name has.
+#[test]
+fn an_open_file_is_written_at_its_end(rt: HostRuntime) -> Result<(), Fail> {
+    fs::write(&rt, "open.txt", b"text\n")?;
+    let open = File::open(&rt, "open.txt")?;
+    let number = open.as_raw_fd();
+    let name = format!(in rt.alloc(); "//dev//fd/{number}")?;
+    let steps = [
+        Step::Calls(Call::Write(name.as_str(), b"line\n", Done::Ok)),
+        Step::Has("open.txt", b"text\nline\n"),
+        Step::Does(Deed::RemoveFile("open.txt")),
+    ];
+    assert_eq!(rt; first_wrong(&rt, &rt, &steps), None);
+    Ok(())
+}
+
+/// Makes so many links in a chain, in a folder of their own.
+fn chain(rt: &HostRuntime, links: u32) -> Result<(), Fail> {
+    fs::create_dir(rt, "chain")?;
+    for number in 0..links {
+        let next = number + 1;
+        let name = format!(in rt.alloc(); "chain/{number}")?;
+        let to = format!(in rt.alloc(); "{next}")?;
+        symlink(rt, to.as_str(), name.as_str())?;
+    }
+    Ok(())
+}
+
+/// As many links are followed as the system follows.
+#[test]
+fn forty_links_are_followed(rt: HostRuntime) -> Result<(), Fail> {
+    chain(&rt, 41)?;
+    let steps = [
+        Step::Calls(Call::Write("chain/1", b"far", Done::Ok)),
+        Step::Has("chain/41", b"far"),
+        Step::Calls(Call::Read("chain/1", Answer::Bytes(b"far"))),
+        Step::Calls(Call::Write("chain/0", b"lost", Done::Failed)),
+        Step::Failed("chain/0", ErrorKind::FilesystemLoop),
+        Step::Calls(Call::Read("chain/0", Answer::Failed)),
+        Step::Has("chain/41", b"far"),
+        Step::Does(Deed::RemoveAll("chain")),
+    ];
+    assert_eq!(rt; first_wrong(&rt, &rt, &steps), None);
+    Ok(())
 }

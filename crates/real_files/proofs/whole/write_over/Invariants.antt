@@ -6,4 +6,4 @@ use Rattle.real_files.proofs.whole.write_over.Given as goal
 -- a name that is taken changes nothing
 abbrev pub invariant-loop-number : goal.invariant-loop-number
 invariant-loop-number g l =
-    IsTrue g.D.Disk.tells → get (g.D.Disk.names l.fn.disk).modes l.fn.name.now ≡ l.fn.like → g.D.Disk.names l.disk ≡ g.D.Disk.names l.fn.disk
+    IsTrue g.D.Disk.tells → get (g.D.Disk.names l.fn.disk).modes l.fn.name ≡ l.fn.like → g.D.Disk.names l.disk ≡ g.D.Disk.names l.fn.disk
