@@ -31,10 +31,7 @@ fn all_words(rt: &HostRuntime) -> Words {
 /// The files of the host, unless there is no memory for them.
 fn host_files(rt: &HostRuntime) -> Option<RealFiles<HostDisk<HostRuntime>>> {
     match rt.clone() {
-        Ok(own) => Some(RealFiles::new(
-            rt.alloc(),
-            HostDisk::new(own, rt.stdout(), rt.stderr()),
-        )),
+        Ok(own) => Some(RealFiles::new(rt.alloc(), HostDisk::new(own, rt.stdout(), rt.stderr()))),
         Err(_) => None,
     }
 }
