@@ -321,7 +321,12 @@ fn answer_of(alloc: Global, broken: Broken<'_>) -> Result<Option<Done>, NoMemory
 
 /// Whether a write leaves the old bytes or the new ones whichever call fails, and goes well from
 /// the call on that it doesn't come to.
-fn is_whole(alloc: Global, name: &str, place: &str, calls: u64) -> Result<bool, NoMemory> {
+fn is_whole<'a>(
+    alloc: Global,
+    name: &'a str,
+    place: &'a str,
+    calls: u64,
+) -> Result<bool, NoMemory> {
     for call in 0..8u64 {
         for wrong in [Thing::FailAt(call), Thing::BreakAt(call)] {
             let answer = answer_of(alloc, Broken { name, place, wrong })?;
