@@ -115,7 +115,7 @@ pub fn code_name(alloc: Global, script: &str) -> Result<String, NoMemory>
 }
 
 /// Writes the file of a script, and puts the line that tells its size.
-#[tactic(auto, using(crate::proofs::FileLemmas::name_wanted))]
+#[tactic(auto, using(crate::proofs::FileLemmas::name_wanted, command_work::specs::KeepsLemmas::keeps_all))]
 fn write_code<F: Files, S: Sink>(
     alloc: Global,
     script: &str,
@@ -140,7 +140,7 @@ fn write_code<F: Files, S: Sink>(
 }
 
 /// Compiles a script under a header, and writes its file.
-#[tactic(auto, using(crate::proofs::Steps::steps), unfolding(crate::specs::Files::compiles_under))]
+#[tactic(auto, using(crate::proofs::Steps::steps, command_work::specs::KeepsLemmas::keeps_all), unfolding(crate::specs::Files::compiles_under))]
 fn compile_under<F: Files, S: Sink>(
     alloc: Global,
     table: &Table,
@@ -162,7 +162,7 @@ fn compile_under<F: Files, S: Sink>(
 }
 
 /// Compiles the script of this name under the header that a word names, and writes its file.
-#[tactic(auto, using(crate::proofs::Steps::steps), unfolding(crate::specs::Files::compiles))]
+#[tactic(auto, using(crate::proofs::Steps::steps, command_work::specs::KeepsLemmas::keeps_all), unfolding(crate::specs::Files::compiles))]
 pub fn compile_file<F: Files, S: Sink>(
     alloc: Global,
     header: &str,

@@ -1,5 +1,6 @@
 ghost use Rattle.std.specs.Prelude.{◌≡◌, ◌++◌, ℕ, length, codes, decimal, IsTrue, IfOk, IfErr};
 ghost use Rattle.stack_rules.specs.Rules.{WellStacked};
+ghost use Rattle.nwq_outside.specs.Outside.{next};
 ghost use Rattle.command_work.specs.Work.{CutsShort};
 ghost use Rattle.command_work.specs.Counts.{Refusing, StopsCode};
 ghost use Rattle.command_work.specs.Calls.{DoesOn, TalliesOn, TalliesPuts, DoesPuts};
@@ -55,6 +56,7 @@ pub fn read_checked<F: Files, S: Sink>(
         files.old out.old (plain_checked_answer result) files.new out.new }
     ensures counts { TalliesOn F.counts S.faults result files.old out.old files.new out.new }
     ensures same { F.contents files.new ≡ F.contents files.old }
+    ensures once { F.reads files.new ≡ next (F.reads files.old) }
     // The code is well stacked by the table that is kept.
     ensures kept { IfOk result (KeepsTable table.now) }
     ensures only { IfErr result StopsCode }

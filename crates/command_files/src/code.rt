@@ -2,6 +2,7 @@ ghost use Rattle.std.specs.Prelude.{◌≡◌, ◌≤◌, ℕ, List, length, IsT
 ghost use Rattle.nwq_value.specs.Limits.{file_limit};
 ghost use Rattle.ncs_code.specs.Plain.{PlainOp};
 ghost use Rattle.ncs_code.specs.File.{IsCode, file_bytes};
+ghost use Rattle.nwq_outside.specs.Outside.{next};
 ghost use Rattle.command_work.specs.Work.{CutsShort};
 ghost use Rattle.command_work.specs.Counts.{Refusing, StopsCode};
 ghost use Rattle.command_work.specs.Calls.{DoesOn, TalliesOn, TalliesPuts, DoesPuts};
@@ -68,6 +69,7 @@ pub fn read_code<F: Files, S: Sink>(
         files.old out.old result files.new out.new }
     ensures counts { TalliesOn F.counts S.faults result files.old out.old files.new out.new }
     ensures same { F.contents files.new ≡ F.contents files.old }
+    ensures once { F.reads files.new ≡ next (F.reads files.old) }
     ensures only { IfErr result StopsCode }
 {
     match read_file(alloc, name, files, out) {

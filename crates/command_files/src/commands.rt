@@ -2,6 +2,7 @@
 
 ghost use Rattle.std.specs.Prelude.{◌≡◌, ℕ, length, codes, IsTrue, IfErr};
 ghost use Rattle.gff_tree.specs.Whole.{plain_gff};
+ghost use Rattle.nwq_outside.specs.Outside.{next};
 ghost use Rattle.command_work.specs.Work.{CutsShort};
 ghost use Rattle.command_work.specs.Counts.{KeepsBut, StopsArea, StopsCode};
 ghost use Rattle.command_work.specs.Calls.{DoesOn, TalliesOn, TalliesPuts, IsName, DoesPuts};
@@ -46,6 +47,7 @@ pub fn show_tree<F: Files, S: Sink>(
         files.old out.old result files.new out.new }
     ensures counts { TalliesOn F.counts S.faults result files.old out.old files.new out.new }
     ensures same { F.contents files.new ≡ F.contents files.old }
+    ensures once { F.reads files.new ≡ next (F.reads files.old) }
     ensures only { IfErr result StopsArea }
 {
     match read_tree(alloc, file, files, out) {
@@ -70,6 +72,7 @@ pub fn write_and_put<F: Files, S: Sink>(
         files.old out.old result files.new out.new }
     ensures counts { TalliesOn F.counts S.faults result files.old out.old files.new out.new }
     ensures names { KeepsBut (IsName to.now) (F.contents files.old) (F.contents files.new) }
+    ensures unread { F.reads files.new ≡ F.reads files.old }
     ensures only { IfErr result CutsShort }
 {
     match write_file(to, bytes, files) {
@@ -79,7 +82,7 @@ pub fn write_and_put<F: Files, S: Sink>(
 }
 
 /// Writes the text of instructions.
-#[tactic(auto, using(crate::proofs::CommandLemmas::bytes_wanted))]
+#[tactic(auto, using(crate::proofs::CommandLemmas::bytes_wanted, command_work::specs::KeepsLemmas::keeps_all))]
 fn write_listing<F: Files, S: Sink>(
     alloc: Global,
     to: &str,
@@ -91,6 +94,7 @@ fn write_listing<F: Files, S: Sink>(
         (writes_listing to.now code.now) files.old out.old result files.new out.new }
     ensures counts { TalliesOn F.counts S.faults result files.old out.old files.new out.new }
     ensures names { KeepsBut (IsName to.now) (F.contents files.old) (F.contents files.new) }
+    ensures unread { F.reads files.new ≡ F.reads files.old }
     ensures only { IfErr result CutsShort }
 {
     match disassemble(alloc, code) {
@@ -111,7 +115,7 @@ fn write_listing<F: Files, S: Sink>(
 }
 
 /// Writes the text of the file of bytecode of this name under another.
-#[tactic(auto, using(crate::proofs::Steps::steps), unfolding(crate::specs::Commands::disassembles))]
+#[tactic(auto, using(crate::proofs::Steps::steps, command_work::specs::KeepsLemmas::keeps_all), unfolding(crate::specs::Commands::disassembles))]
 pub fn disassemble_file<F: Files, S: Sink>(
     alloc: Global,
     file: &str,
@@ -123,6 +127,7 @@ pub fn disassemble_file<F: Files, S: Sink>(
         (disassembles file.now to.now) files.old out.old result files.new out.new }
     ensures counts { TalliesOn F.counts S.faults result files.old out.old files.new out.new }
     ensures names { KeepsBut (IsName to.now) (F.contents files.old) (F.contents files.new) }
+    ensures once { F.reads files.new ≡ next (F.reads files.old) }
     ensures only { IfErr result StopsCode }
 {
     match read_code(alloc, file, files, out) {
@@ -132,7 +137,7 @@ pub fn disassemble_file<F: Files, S: Sink>(
 }
 
 /// Writes the file of the assembler text of this name under another.
-#[tactic(auto, using(crate::proofs::Steps::steps), unfolding(crate::specs::Commands::assembles))]
+#[tactic(auto, using(crate::proofs::Steps::steps, command_work::specs::KeepsLemmas::keeps_all), unfolding(crate::specs::Commands::assembles))]
 pub fn assemble_file<F: Files, S: Sink>(
     alloc: Global,
     file: &str,
@@ -144,6 +149,7 @@ pub fn assemble_file<F: Files, S: Sink>(
         (assembles file.now to.now) files.old out.old result files.new out.new }
     ensures counts { TalliesOn F.counts S.faults result files.old out.old files.new out.new }
     ensures names { KeepsBut (IsName to.now) (F.contents files.old) (F.contents files.new) }
+    ensures once { F.reads files.new ≡ next (F.reads files.old) }
     ensures only { IfErr result StopsCode }
 {
     match read_assembly(alloc, file, files, out) {

@@ -4,6 +4,7 @@ ghost use Rattle.gff_bytes.specs.File.{open_fault};
 ghost use Rattle.gff_tree.specs.Whole.{plain_gff};
 ghost use Rattle.gff_tree.specs.Count.{node_count};
 ghost use Rattle.gff_read.specs.Stands.{Stands};
+ghost use Rattle.nwq_outside.specs.Outside.{next};
 ghost use Rattle.command_work.specs.Counts.{Refusing, StopsArea};
 ghost use Rattle.command_work.specs.Calls.{DoesOn, TalliesOn, TalliesPuts, DoesPuts};
 ghost use Rattle.command_files.specs.Trees.{open_flaw, tree_flaw, tree_in, tree_named};
@@ -103,6 +104,7 @@ pub fn read_tree<F: Files, S: Sink>(
         files.old out.old (plain_tree_answer result) files.new out.new }
     ensures counts { TalliesOn F.counts S.faults result files.old out.old files.new out.new }
     ensures same { F.contents files.new ≡ F.contents files.old }
+    ensures once { F.reads files.new ≡ next (F.reads files.old) }
     // The structs of the tree can be numbered by 32 bits.
     ensures few { IfOk result (λ tree. node_count (plain_gff tree).top < 4294967296) }
     ensures only { IfErr result StopsArea }

@@ -8,7 +8,7 @@ use Rattle.nwq_value.specs.Engine.{EngineTable}
 use Rattle.nwq_value.specs.HeaderTable.{header_table}
 use Rattle.nwq_value.specs.Limits.{file_limit}
 use Rattle.nwq_outside.specs.declared.counts.FileCounts.{FileCounts}
-use Rattle.nwq_outside.specs.Outside.{Contents}
+use Rattle.nwq_outside.specs.Outside.{Contents, content}
 use Rattle.nss_include.specs.declared.file.Source.{Source}
 use Rattle.emission_rules.specs.Units.{unit_file}
 use Rattle.command_work.specs.declared.status.Status.{Status}
@@ -45,7 +45,7 @@ module _ (c : Contents) (h : BeatCompiles c) where
       })
 
 -- the file is there
-held : (source : List ℕ) → fin_map.get (files_with source) (codes "beat.nss") ≡ Some source
+held : (source : List ℕ) → content (files_with source) (codes "beat.nss") ≡ Some source
 held source = fin_map.get-insert nat_list_cmp_total fin_map.empty (codes "beat.nss") source (codes "beat.nss")
 
 made_does : SourcesCompile → (source : List ℕ) → IsMadeSource source → (file : List ℕ) × Compiles source (Ok file) []

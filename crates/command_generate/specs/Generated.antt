@@ -5,7 +5,7 @@ use Rattle.std.specs.FinMap as map
 use Rattle.std.specs.Fmt.{decimal}
 use Rattle.nwq_value.specs.HeaderTable.{header_table}
 use Rattle.nwq_outside.specs.declared.counts.FileCounts.{FileCounts}
-use Rattle.nwq_outside.specs.Outside.{Contents}
+use Rattle.nwq_outside.specs.Outside.{Contents, plain}
 use Rattle.area_rules.specs.Area.{PlainArea, area_of}
 use Rattle.ncs_code.specs.Plain.{PlainOp}
 use Rattle.saved_state.specs.declared.saved.Saved.{Saved}
@@ -29,7 +29,7 @@ use Rattle.command_plays.specs.Scripts.{listed}
 
 -- the files in which a source is compiled: it alone is there
 abbrev pub files_with : List ℕ → Contents
-files_with source = map.insert map.empty (codes "beat.nss") source
+files_with source = plain (map.insert map.empty (codes "beat.nss") source)
 
 -- the counts of files of which no call failed
 abbrev pub faultless : (absences longs : ℕ) → FileCounts

@@ -1,5 +1,6 @@
 //! Files and a sink in memory that don't fail: a call may only find no memory.
 ghost use Rattle.std.specs.Prelude.{◌≡◌, [], true, IfOk};
+ghost use Rattle.nwq_outside.specs.Outside.{plain};
 ghost use Rattle.command_generate.specs.Generated.{files_with, faultless};
 
 use nwq_outside::{Done, Files, MemFiles, Read, Sink};
@@ -10,6 +11,7 @@ use std::alloc::Global;
 #[derive(Drop)]
 pub(crate) struct Shelf {
     held: MemFiles,
+    reads: u64,
     absences: u64,
     longs: u64,
 }
@@ -17,7 +19,7 @@ pub(crate) struct Shelf {
 impl Shelf {
     /// The files in which a source is compiled: it alone is there.
     pub(crate) fn with(alloc: Global, source: &[u8]) -> Result<Shelf, NoMemory>
-        ensures files { IfOk result (λ shelf. shelf.held.contents ≡ files_with source.now) }
+        ensures files { IfOk result (λ shelf. plain shelf.held.contents ≡ files_with source.now) }
     {
         let mut held = MemFiles::new(alloc);
         match held.add("beat.nss", source) {
@@ -27,6 +29,7 @@ impl Shelf {
             }
             Ok(()) => Ok(Shelf {
                 held,
+                reads: 0,
                 absences: 0,
                 longs: 0,
             }),
@@ -37,15 +40,18 @@ impl Shelf {
 impl Files for Shelf {
     ghost tells = { true };
 
-    ghost contents = { λ shelf. shelf.held.contents };
+    ghost contents = { λ shelf. plain shelf.held.contents };
 
     ghost counts = { λ shelf. faultless shelf.absences shelf.longs };
+
+    ghost reads = { λ shelf. shelf.reads };
 
     fn contents_are_bytes(&self) {
         self.held.contents_are_bytes();
     }
 
     fn read(&mut self, alloc: Global, name: &str) -> Read {
+        self.reads = self.reads.saturating_add(1);
         match self.held.get(name) {
             None => {
                 self.absences = self.absences.saturating_add(1);
@@ -63,6 +69,7 @@ impl Files for Shelf {
     }
 
     /// There is room for nothing.
+    #[tactic(auto, using(nwq_outside::specs::ContentLemmas::same_keeps))]
     fn write(&mut self, _name: &str, _bytes: &[u8]) -> Done {
         Done::NoMemory
     }

@@ -1,10 +1,9 @@
 -- A script that is compiled has a typed unit, of which its file is.
 use Rattle.std.proofs.Common.{◌≡◌, ◌≤◌, ◌⊎◌, inl, inr, ℕ, List, length, Bool, true, false, nat_lt, Result, Ok, None, subst, ap, ◌∙◌, refl, arith}
 use Rattle.std.proofs.lemmas.Bool.Decides.{nat_tests}
-use Rattle.std.specs.FinMap as fin_map
 use Rattle.nwq_value.specs.Limits.{file_limit}
 use Rattle.nwq_value.specs.Engine.{EngineTable, IsTable}
-use Rattle.nwq_outside.specs.Outside.{Contents}
+use Rattle.nwq_outside.specs.Outside.{Contents, content}
 use Rattle.nss_lexer.specs.Strings.{ValuesAreBytes}
 use Rattle.typing_rules.specs.Typed.{TypedUnit}
 use Rattle.typing_rules.specs.Meaning.{TypesUnit}
@@ -26,9 +25,9 @@ use Rattle.command_meaning.proofs.Gathered.{unit_known}
 -- ---- the unit of a script
 
 gathered : ValuesAreBytes → (header : EngineTable) (c : Contents) (name : List ℕ) (u : TypedUnit) → HoldBytes c → (script : PlainScript)
-    → TypesUnit header script.tree u → IsUnitFate (fin_map.get c) name (Whole script) → IsUnitOf header u
+    → TypesUnit header script.tree u → IsUnitFate (content c) name (Whole script) → IsUnitOf header u
 gathered values header c name u held script types (whole _ unit nest parses) =
-    let known = unit_known values (fin_map.get c) held name script.tokens script.files None unit in
+    let known = unit_known values (content c) held name script.tokens script.files None unit in
     record { tokens = _; tree = script.tree; few = known.0; literals = known.1; parses = parses; types = types }
 
 pub scripts_have_units : ValuesAreBytes → ScriptsHaveUnits
@@ -46,7 +45,7 @@ module _ (header : EngineTable) (c : Contents) (name bytes : List ℕ) (t : List
   abbrev Makes : Type 0
   Makes = Compiled header c name bytes × Stays c c' t t'
 
-  made_small : (files : List Source) (u : TypedUnit) (script : PlainScript) → IsUnitFate (fin_map.get c) name (Whole script) → TypesUnit header script.tree u
+  made_small : (files : List Source) (u : TypedUnit) (script : PlainScript) → IsUnitFate (content c) name (Whole script) → TypesUnit header script.tree u
       → (b : Bool) → nat_lt file_limit (length (unit_file u)) ≡ b → Does (file_by files b (unit_file u)) c t (Ok bytes) c' t' → Makes
   made_small files u script is types true large (inl refused, s) = absurd cc
   made_small files u script is types true large (inr cut, s) = absurd cut.0
@@ -61,23 +60,23 @@ module _ (header : EngineTable) (c : Contents) (name bytes : List ℕ) (t : List
     h.goes.1,
   )
 
-  made_file : (files : List Source) (u : TypedUnit) (script : PlainScript) → IsUnitFate (fin_map.get c) name (Whole script) → TypesUnit header script.tree u
+  made_file : (files : List Source) (u : TypedUnit) (script : PlainScript) → IsUnitFate (content c) name (Whole script) → TypesUnit header script.tree u
       → Does (file_in files u) c t (Ok bytes) c' t' → Makes
   unfolding file_in
   made_file files u script is types does = made_small files u script is types (nat_lt file_limit (length (unit_file u))) refl does
 
-  made_typed : (script : PlainScript) → IsUnitFate (fin_map.get c) name (Whole script) → (fate : TypingFate) → IsTypingFate header script.tree fate
+  made_typed : (script : PlainScript) → IsUnitFate (content c) name (Whole script) → (fate : TypingFate) → IsTypingFate header script.tree fate
       → Does (then (typing_by script fate) (file_in script.files)) c t (Ok bytes) c' t' → Makes
   made_typed script is (IsTyped u) (typed _ types) does = made_file script.files u script is types does
   made_typed script is (Misfits fault) fits (inl refused, s) = absurd cc
   made_typed script is (Misfits fault) fits (inr cut, s) = absurd cut.0
 
-  made_whole : (script : PlainScript) → IsUnitFate (fin_map.get c) name (Whole script) → Does (compiled_in header script) c t (Ok bytes) c' t' → Makes
+  made_whole : (script : PlainScript) → IsUnitFate (content c) name (Whole script) → Does (compiled_in header script) c t (Ok bytes) c' t' → Makes
   unfolding compiled_in typed_in
   made_whole script is (inl cut) = absurd cut.0
   made_whole script is (inr h) = made_typed script is h.found h.is h.goes
 
-  made_by : (fate : UnitFate) → IsUnitFate (fin_map.get c) name fate → Does (then (unit_by fate) (compiled_in header)) c t (Ok bytes) c' t' → Makes
+  made_by : (fate : UnitFate) → IsUnitFate (content c) name fate → Does (then (unit_by fate) (compiled_in header)) c t (Ok bytes) c' t' → Makes
   made_by (Whole script) is does = made_whole script is does
   made_by (Lacks file) is (inl refused, s) = absurd cc
   made_by (Lacks file) is (inr cut, s) = absurd cut.0

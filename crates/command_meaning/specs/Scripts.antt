@@ -1,8 +1,7 @@
 -- The typed unit of a script, by what the files hold.
 use Rattle.std.specs.Prelude.{◌≡◌, ◌<◌, ℕ, ◌⊎◌, All, List, Some, Result, Err}
-use Rattle.std.specs.FinMap as fin_map
 use Rattle.nwq_value.specs.Engine.{EngineTable, IsTable}
-use Rattle.nwq_outside.specs.Outside.{Contents}
+use Rattle.nwq_outside.specs.Outside.{Contents, content}
 use Rattle.nss_include.specs.Names.{file_name}
 use Rattle.typing_rules.specs.Typed.{TypedUnit}
 use Rattle.typing_rules.specs.Meaning.{TypesUnit}
@@ -17,13 +16,13 @@ use Rattle.command_meaning.specs.Files.{PlaysFile}
 
 -- what stands under the name of a source text are bytes
 abbrev pub HoldBytes : Contents → Type 0
-HoldBytes c = (name bytes : List ℕ) → fin_map.get c (file_name name) ≡ Some bytes → All (λ b. b < 256) bytes
+HoldBytes c = (name bytes : List ℕ) → content c (file_name name) ≡ Some bytes → All (λ b. b < 256) bytes
 
 -- The script of this name has this unit under a header: its tokens, with those of its includes,
 -- have a tree that is typed so.
 pub record IsScript (header : EngineTable) (c : Contents) (name : List ℕ) (u : TypedUnit) : Type 0 where
   pub script : PlainScript
-  pub is : IsUnitFate (fin_map.get c) name (Whole script)
+  pub is : IsUnitFate (content c) name (Whole script)
   pub types : TypesUnit header script.tree u
 
 -- Such a unit is one of at most 100,000 tokens, each literal of which has a value.

@@ -16,9 +16,10 @@ use message_sentences::{
 };
 use message_types::{given_at, put_parameters};
 use nss_lexer::TokenKind;
-use nwq_outside::{Files, Sink, Trouble};
+use nwq_outside::{Files, Sink};
 use nwq_text::put_text;
 use nwq_value::{NoMemory, Table, Text};
+use real_files::Trouble;
 use std::alloc::Global;
 
 /// How the program ended: its number, the last line on standard output, the last name at which the

@@ -1,7 +1,6 @@
 mod FileLemmas
 mod OneGame
 mod PlayLemmas
-mod RemarkLemmas
 mod Steps
 mod StopLemmas
 mod TellLemmas

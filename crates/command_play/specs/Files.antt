@@ -1,13 +1,15 @@
 -- What the play of a plan writes, by what its parts write. No contract speaks of these lemmas; they
 -- serve the proofs of commands that play.
-use mathlib.Core.Path.{◌∙◌, subst}
+use mathlib.Core.Path.{subst}
 use mathlib.Core.Logic.{inl, inr}
 use Rattle.std.specs.Prelude.{◌≡◌, ℕ, List, [], ◌∷◌}
 use Rattle.nwq_outside.specs.Outside.{Contents}
 use Rattle.plan_text.specs.declared.plan.Script.{Script as ScriptLine}
 use Rattle.plan_text.specs.declared.plan.Plan.{Plan}
 use Rattle.plan_text.specs.Plans.{AreListed, IsPlan}
+use Rattle.command_work.specs.Calls.{IsName}
 use Rattle.command_work.specs.Counts.{KeepsBut}
+use Rattle.command_work.specs.KeepsLemmas.{keeps_fewer, keeps_then}
 use Rattle.play_inputs.specs.Listings.{IsSourceFile}
 use Rattle.command_play.specs.Tellings.{IsCodeFile, IsGameFile}
 
@@ -19,9 +21,11 @@ code_file (line ∷ lines) name all (inr more) = code_file lines name all.2 more
 
 module _ (plan : Plan) (kept : IsPlan plan) (to : List ℕ) (c c1 : Contents) where
   pub keeps_listing : (lines : List ScriptLine) → lines ≡ plan.scripts → KeepsBut (IsSourceFile lines) c c1 → KeepsBut (IsGameFile to) c c1
-  keeps_listing lines same before name may_not =
-      before name (λ source. may_not (inl (code_file plan.scripts name kept.scripts (subst (λ ls. IsSourceFile ls name) same source))))
+  keeps_listing lines same before =
+      keeps_fewer (IsSourceFile lines) (IsGameFile to) c c1
+      (λ name source. inl (code_file plan.scripts name kept.scripts (subst (λ ls. IsSourceFile ls name) same source))) before
 
-  pub keeps_game : (c2 : Contents) (lines : List ScriptLine) → lines ≡ plan.scripts → KeepsBut (IsSourceFile lines) c c1 → KeepsBut (λ other. other ≡ to) c1 c2
+  pub keeps_game : (c2 : Contents) (lines : List ScriptLine) → lines ≡ plan.scripts → KeepsBut (IsSourceFile lines) c c1 → KeepsBut (IsName to) c1 c2
       → KeepsBut (IsGameFile to) c c2
-  keeps_game c2 lines same before after name may_not = after name (λ is. may_not (inr is)) ∙ keeps_listing lines same before name may_not
+  keeps_game c2 lines same before after =
+      keeps_then (IsGameFile to) c c1 c2 (keeps_listing lines same before) (keeps_fewer (IsName to) (IsGameFile to) c1 c2 (λ name is. inr is) after)

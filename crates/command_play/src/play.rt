@@ -20,7 +20,7 @@ use plan_text::Plan;
 use std::alloc::Global;
 
 /// Plays a plan over an area.
-#[tactic(auto, using(crate::proofs::PlayLemmas::plays_in, crate::proofs::StopLemmas::stops))]
+#[tactic(auto, using(crate::proofs::PlayLemmas::plays_in, crate::proofs::StopLemmas::stops, command_work::specs::KeepsLemmas::keeps_all))]
 pub(crate) fn play_plan<F: Files, S: Sink>(
     alloc: Global,
     setting: PlaySetting<'_>,

@@ -1,13 +1,11 @@
 //! What is remarked of a play, for notes after it.
-ghost use Rattle.std.specs.Prelude.{◌≡◌, [], false, pos, IfOk};
+ghost use Rattle.std.specs.Prelude.{◌≡◌, ◌↔◌, [], false, IsTrue};
 
-use nwq_value::NoMemory;
 use saved_state::Saved;
-use std::alloc::Global;
 use world_core::World;
 
-/// What a play shows beside what it tells and leaves. No clause speaks of it, so that nothing which
-/// is told, written or answered can depend on it.
+/// What a play shows beside what it tells and leaves. Nothing that is told, written or answered
+/// depends on it.
 #[derive(Clone, Copy)]
 pub struct Remarks {
     /// Whether the play's last world has no random numbers left.
@@ -25,23 +23,9 @@ impl Remarks {
     }
 }
 
-/// Remarks of a play's last world, which is at rest, whether it has random numbers left. They are
-/// seen in its parts alone: the world is taken apart and put together again, which copies the
-/// numbers that are left. After `NoMemory` it is dropped.
-pub(crate) fn remark(
-    alloc: Global,
-    world: World<Saved>,
-    remarks: &mut Remarks,
-) -> Result<World<Saved>, NoMemory>
-    ensures rests { IfOk result
-        (λ rested. rested.world ≡ record world.world { trace = []; user = pos 0 }) }
+/// Remarks of a play's last world whether it has random numbers left.
+pub(crate) fn remark(world: &World<Saved>, remarks: &mut Remarks)
+    ensures used_up { IsTrue remarks.new.random_used_up ↔ (world.now.world.random ≡ []) }
 {
-    world.keeps();
-    match world.into_parts() {
-        Err(NoMemory) => Err(NoMemory),
-        Ok((area, parts)) => {
-            remarks.random_used_up = parts.random.as_slice().is_empty();
-            Ok(World::from_parts(alloc, area, parts))
-        }
-    }
+    remarks.random_used_up = world.random_left() == 0;
 }

@@ -1,5 +1,5 @@
 //! What a play leaves: its area in a file, and the text of its end.
-ghost use Rattle.std.specs.Prelude.{ℕ, List, IsTrue, IfErr};
+ghost use Rattle.std.specs.Prelude.{◌≡◌, ◌↔◌, ℕ, List, [], IsTrue, IfErr};
 ghost use Rattle.area_back.specs.Back.{tree_back};
 ghost use Rattle.saved_state.specs.declared.saved.Saved.{Saved as SavedView};
 ghost use Rattle.world_rules.specs.Plays.{PlayEnd, Played as PlayedView};
@@ -66,7 +66,7 @@ fn leave_area<F: Files, S: Sink>(
 }
 
 /// Ends as a play did that leaves this area and has this text at its end.
-#[tactic(auto, using(crate::proofs::TellLemmas::endings, crate::proofs::StopLemmas::ends))]
+#[tactic(auto, using(crate::proofs::TellLemmas::endings, crate::proofs::StopLemmas::ends, command_work::specs::KeepsLemmas::keeps_all))]
 fn end_by<F: Files, S: Sink>(
     alloc: Global,
     how: How,
@@ -102,7 +102,7 @@ fn end_by<F: Files, S: Sink>(
 
 /// Writes what a play leaves in its last world, and tells its end. What is remarked of that world
 /// is no part of it.
-#[tactic(auto, using(crate::proofs::TellLemmas::ends))]
+#[tactic(auto, using(crate::proofs::TellLemmas::ends, command_work::specs::KeepsLemmas::keeps_all))]
 pub fn tell_end<F: Files, S: Sink>(
     alloc: Global,
     world: World<Saved>,
@@ -122,12 +122,11 @@ pub fn tell_end<F: Files, S: Sink>(
     ensures counts { TalliesOn F.counts S.faults result files.old out.old files.new out.new }
     ensures names { KeepsBut (IsName to.now) (F.contents files.old) (F.contents files.new) }
     ensures only { IfErr result StopsEnd }
+    ensures used_up { IsTrue remarks.new.random_used_up ↔ (world.world.random ≡ []) }
 {
-    match remark(alloc, world, remarks) {
+    remark(&world, remarks);
+    match end_text(alloc, world, scripts, played) {
         Err(NoMemory) => Err(Status::Memory),
-        Ok(world) => match end_text(alloc, world, scripts, played) {
-            Err(NoMemory) => Err(Status::Memory),
-            Ok((area, text)) => end_by(alloc, played.how, to, area, text, files, out),
-        },
+        Ok((area, text)) => end_by(alloc, played.how, to, area, text, files, out),
     }
 }

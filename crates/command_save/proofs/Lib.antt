@@ -1,4 +1,3 @@
-mod KeepLemmas
 mod StepLemmas
 mod InputLemmas
 mod StopLemmas

@@ -1,15 +1,11 @@
 -- What a play that is saved found of its header and its area, a play finds too.
 use Rattle.std.proofs.Common.{◌≡◌, ℕ, Bool, true, false, inl, inr, List, Some, Ok, refl, ap, sym, subst, ◌∙◌}
 use Rattle.std.specs.Prelude.{codes, bytes_eq, cond}
-use Rattle.std.specs.FinMap as map
-use Rattle.std.specs.FinMap.{get-insert}
-use Rattle.std.proofs.lemmas.Cmp.{nat_list_cmp_total}
-use Rattle.std.proofs.lemmas.Slice.Eq.{bytes_eq-Decides}
-use Rattle.std.proofs.lemmas.Map.Text.{is_eq-slice_cmp}
 use Rattle.nwq_value.specs.Engine.{EngineTable}
 use Rattle.nwq_value.specs.HeaderTable.{header_table}
 use Rattle.nwq_text.specs.Line.{line_number}
-use Rattle.nwq_outside.specs.Outside.{Contents}
+use Rattle.nwq_outside.specs.Outside.{Contents, content, with_content}
+use Rattle.nwq_outside.specs.ContentLemmas.{written_under}
 use Rattle.engine_table.specs.Headers.{HasTable}
 use Rattle.play_save.specs.Rules.{IsHeaderOf}
 use Rattle.command_work.specs.declared.cause.Cause.TheVariants as cause
@@ -63,13 +59,8 @@ was_read c c' t t' name bytes does = by_came (file_comes c t name (Ok bytes) c' 
 
 -- ---- what is written is there
 
-insert_here : (c : Contents) (name bytes : List ℕ) → map.get (map.insert c name bytes) name ≡ Some bytes
-insert_here c name bytes =
-    get-insert nat_list_cmp_total c name bytes name
-    ∙ ap (λ (b : Bool). cond b (Some bytes) (map.get c name)) (is_eq-slice_cmp name name ∙ (bytes_eq-Decides name name).1 refl)
-
-pub held_here : (c d : Contents) (name bytes : List ℕ) → d ≡ map.insert c name bytes → map.get d name ≡ Some bytes
-held_here c d name bytes is = ap (λ (x : Contents). map.get x name) is ∙ insert_here c name bytes
+pub held_here : (c d : Contents) (name bytes : List ℕ) → d ≡ with_content c name bytes → content d name ≡ Some bytes
+held_here c d name bytes is = ap (λ (x : Contents). content x name) is ∙ written_under c name bytes name refl
 
 -- ---- the header
 

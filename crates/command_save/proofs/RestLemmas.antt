@@ -1,10 +1,9 @@
 -- A play that was saved and resumed tells what the unbroken one tells.
 use Rattle.std.proofs.Common.{arith, ◌≡◌, ◌≢◌, ◌+◌, ◌-◌, ℕ, true, false, inl, inr, List, [], ◌∷◌, ◌++◌, map, Option, Some, None, Result, Ok, Err, refl, ap, sym, subst, ◌∙◌}
 use Rattle.std.specs.Prelude.{min, fold, IsOk}
-use Rattle.std.specs.FinMap as map
 use Rattle.std.proofs.Math.Nat.{min-le_right}
 use Rattle.std.proofs.lemmas.Grind.{flat_map-append}
-use Rattle.nwq_outside.specs.Outside.{Contents}
+use Rattle.nwq_outside.specs.Outside.{Contents, content}
 use Rattle.gff_write.specs.declared.fault.WriteFault.{WriteFault}
 use Rattle.gff_write.specs.declared.fault.WriteFault.TheVariants as write_fault
 use Rattle.gff_write.specs.File.{written, outcome_of}
@@ -100,21 +99,21 @@ module _ (runner : Runner Saved) (bounds : Bounds) (scripts : List Script) (to :
 -- ---- the same end from two contents
 
 -- what a work answered that puts this last, and what it left under a name where it was done
-pub record Ended (to : List ℕ) (answer : Result Finished Status) (put : List ℕ) (content : Option (List ℕ)) (t : List ℕ) (r : Result Finished Status) (c' : Contents) (t' : List ℕ) : Type 0 where
+pub record Ended (to : List ℕ) (answer : Result Finished Status) (put : List ℕ) (found : Option (List ℕ)) (t : List ℕ) (r : Result Finished Status) (c' : Contents) (t' : List ℕ) : Type 0 where
   pub is : r ≡ answer
   pub taken : t' ≡ t ++ put
-  pub left : IsOk answer → map.get c' to ≡ content
+  pub left : IsOk answer → content c' to ≡ found
 
 pub record EndAlike (to : List ℕ) (c2 c3 : Contents) (t t2 u u3 : List ℕ) (r s : Result Finished Status) : Type 0 where
   pub put : List ℕ
   pub first : t2 ≡ t ++ put
   pub second : u3 ≡ u ++ put
   pub answer : r ≡ s
-  pub area : IsOk s → map.get c2 to ≡ map.get c3 to
+  pub area : IsOk s → content c2 to ≡ content c3 to
 
-both : (to : List ℕ) (answer : Result Finished Status) (put : List ℕ) (content : Option (List ℕ)) (c2 c3 : Contents) (t t2 u u3 : List ℕ) (r s : Result Finished Status)
-    → Ended to answer put content t r c2 t2 → Ended to answer put content u s c3 u3 → EndAlike to c2 c3 t t2 u u3 r s
-both to answer put content c2 c3 t t2 u u3 r s a b = record {
+both : (to : List ℕ) (answer : Result Finished Status) (put : List ℕ) (found : Option (List ℕ)) (c2 c3 : Contents) (t t2 u u3 : List ℕ) (r s : Result Finished Status)
+    → Ended to answer put found t r c2 t2 → Ended to answer put found u s c3 u3 → EndAlike to c2 c3 t t2 u u3 r s
+both to answer put found c2 c3 t t2 u u3 r s a b = record {
   put = put;
   first = a.taken;
   second = b.taken;

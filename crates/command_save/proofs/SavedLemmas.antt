@@ -3,9 +3,8 @@
 use Rattle.std.proofs.Common.{◌≡◌, ◌≢◌, ◌≤◌, ◌+◌, ℕ, Bool, true, false, inl, inr, List, ◌++◌, length, Option, Some, Result, Ok, refl, ap, sym, subst, ◌∙◌, ltb-false}
 use mathlib.Core.List.{append_assoc}
 use Rattle.std.specs.Prelude.{nat_lt}
-use Rattle.std.specs.FinMap as fin_map
 use Rattle.nwq_value.specs.Limits.{file_limit}
-use Rattle.nwq_outside.specs.Outside.{Contents}
+use Rattle.nwq_outside.specs.Outside.{Contents, content, with_content}
 use Rattle.plan_text.specs.declared.plan.Plan.{Plan}
 use Rattle.saved_state.specs.declared.saved.Saved.{Saved}
 use Rattle.world_rules.specs.Pure.{CellLookup}
@@ -54,7 +53,7 @@ pub record WasSaved (header : HeaderFile) (file : List ℕ) (plan : Plan) (scrip
   pub state : Parts
   pub is : IsStateAt header file plan scripts p state
   pub small : length (parts_bytes state) ≤ file_limit
-  pub contents : c' ≡ fin_map.insert c name (parts_bytes state)
+  pub contents : c' ≡ with_content c name (parts_bytes state)
   pub taken : t' ≡ t ++ saved_line name state.taken
 
 module _ (header : HeaderFile) (file : List ℕ) (plan : Plan) (scripts : List Script) (name : List ℕ) (c c' : Contents) (t t' : List ℕ) (done : Finished) where
@@ -84,7 +83,7 @@ module _ (header : HeaderFile) (file : List ℕ) (plan : Plan) (scripts : List S
 -- ---- what is resumed from it
 
 -- the bytes that were written are those of the state
-state_does : (name : List ℕ) (s : Parts) (c : Contents) (t : List ℕ) → fin_map.get c name ≡ Some (parts_bytes s) → length (parts_bytes s) ≤ file_limit
+state_does : (name : List ℕ) (s : Parts) (c : Contents) (t : List ℕ) → content c name ≡ Some (parts_bytes s) → length (parts_bytes s) ≤ file_limit
     → IsStateFate (parts_bytes s) (Whole s) → Does (state_named name) c t (Ok s) c t
 unfolding state_named state_in
 state_does name s c t held small fate =
@@ -123,7 +122,7 @@ module _ (laws : OneLaws) (cell : CellLookup) (header : HeaderFile) (file : List
       subst (λ (q : Played Saved). Does (tells to scripts q) c t r c' t') played_same
       (subst (λ (g : Going). Does (tells to g.scripts (played_rest cell s g)) c t r c' t') (one_going laws s h.found going h.is goes_from) h.goes)
 
-  pub resumed : (name to : List ℕ) (c c' : Contents) (t t' : List ℕ) (r : Result Finished Status) → fin_map.get c name ≡ Some (parts_bytes s)
+  pub resumed : (name to : List ℕ) (c c' : Contents) (t t' : List ℕ) (r : Result Finished Status) → content c name ≡ Some (parts_bytes s)
       → length (parts_bytes s) ≤ file_limit → (IsCut r → ⊥) → Does (resumes cell name to) c t r c' t' → Does (tells to scripts played_on) c t r c' t'
   unfolding resumes
   resumed name to c c' t t' r held small uncut does =

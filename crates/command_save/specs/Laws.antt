@@ -1,8 +1,7 @@
 -- Statements about saved plays. Each stands on the contract of a function of `laws`.
 use Rattle.std.specs.Prelude.{◌≡◌, ℕ, List, ◌++◌, Result, Ok, ◌+◌, ◌-◌, min}
 use Rattle.std.specs.Result.{IsOk}
-use Rattle.std.specs.FinMap as map
-use Rattle.nwq_outside.specs.Outside.{Contents}
+use Rattle.nwq_outside.specs.Outside.{Contents, content}
 use Rattle.world_rules.specs.Pure.{CellLookup}
 use Rattle.command_work.specs.declared.status.Status.{Status}
 use Rattle.command_work.specs.Work.{Finished, IsCut, Does}
@@ -46,7 +45,7 @@ pub record GoOn (name to : List ℕ) (c2 c3 : Contents) (t t1 t2 t3 t4 : List �
   pub resumed : t3 ≡ t2 ++ rest
   pub unbroken : t4 ≡ t ++ front ++ rest
   pub answer : r2 ≡ r3
-  pub area : IsOk r3 → map.get c2 to ≡ map.get c3 to
+  pub area : IsOk r3 → content c2 to ≡ content c3 to
 
 -- A play was saved after some entries, and resumed from the files as they stood then. Neither it
 -- nor the unbroken play from the same files was cut.

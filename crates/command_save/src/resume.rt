@@ -68,7 +68,7 @@ fn read_state_file<F: Files, S: Sink>(
 }
 
 /// Plays on from what a state tells, and tells and leaves the end as every play does.
-#[tactic(auto, using(crate::proofs::RestOfLemmas::rests, crate::proofs::StopLemmas::stops))]
+#[tactic(auto, using(crate::proofs::RestOfLemmas::rests, crate::proofs::StopLemmas::stops, command_work::specs::KeepsLemmas::keeps_all))]
 fn play_rest<F: Files, S: Sink>(
     alloc: Global,
     opened: Opened,
@@ -118,7 +118,7 @@ fn play_rest<F: Files, S: Sink>(
 }
 
 /// Plays on from a state.
-#[tactic(auto, using(crate::proofs::RestOfLemmas::states))]
+#[tactic(auto, using(crate::proofs::RestOfLemmas::states, command_work::specs::KeepsLemmas::keeps_all))]
 fn resume_state<F: Files, S: Sink>(
     alloc: Global,
     state: State,

@@ -37,7 +37,7 @@ pub struct SaveWords<'a> {
 }
 
 /// Plays so many entries of a plan over an area, and saves the play.
-#[tactic(auto, using(crate::proofs::PartLemmas::parts))]
+#[tactic(auto, using(crate::proofs::PartLemmas::parts, command_work::specs::KeepsLemmas::keeps_all))]
 fn save_plan<F: Files, S: Sink>(
     alloc: Global,
     header: HeaderFile,

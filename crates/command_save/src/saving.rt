@@ -95,7 +95,7 @@ fn take_state(
 }
 
 /// Saves a play that isn't inside an entry in the file of this name.
-#[tactic(auto, using(crate::proofs::StateLemmas::saves))]
+#[tactic(auto, using(crate::proofs::StateLemmas::saves, command_work::specs::KeepsLemmas::keeps_all))]
 fn save_state<F: Files, S: Sink>(
     alloc: Global,
     header: HeaderFile,
@@ -153,7 +153,7 @@ fn tell_stopped<S: Sink>(
 }
 
 /// Saves a play as it was broken off, unless that was inside an entry.
-#[tactic(auto, using(crate::proofs::StateLemmas::endings))]
+#[tactic(auto, using(crate::proofs::StateLemmas::endings, command_work::specs::KeepsLemmas::keeps_all))]
 pub(crate) fn save_broken<F: Files, S: Sink>(
     alloc: Global,
     header: HeaderFile,

@@ -50,7 +50,7 @@ fn write_bytes<F: Files, S: Sink>(
 }
 
 /// Writes a state, unless it has more bytes than a file may have, and then tells so.
-#[tactic(auto, using(crate::proofs::WriteLemmas::writes))]
+#[tactic(auto, using(crate::proofs::WriteLemmas::writes, command_work::specs::KeepsLemmas::keeps_all))]
 pub(crate) fn write_state<F: Files, S: Sink>(
     alloc: Global,
     name: &str,

@@ -1,6 +1,6 @@
 -- One thing comes of a script.
 use Rattle.std.proofs.Common.{◌≡◌, ◌≢◌, ℕ, List, [], Some, None, sym, ap, ◌∙◌, subst}
-use Rattle.std.specs.FinMap as fin_map
+use Rattle.nwq_outside.specs.Outside.{content}
 use Rattle.nss_lexer.specs.Splitting.{Lexeme}
 use Rattle.nss_tree.specs.Source.{SourceTree}
 use Rattle.nss_symbols.specs.Nest.{IsWithinNest}
@@ -104,4 +104,4 @@ pub sure_units : OneUnit → OneTree → OneRefusal → NoRefusalOfTrees → Sur
 unfolding unit_of
 sure_units unit tree refusal none name =
     let laws : Laws = record { unit = unit; tree = tree; refusal = refusal; refuses_none = none } in
-    (λ c a b p q. one_comes (fin_map.get c) name laws (comes (fin_map.get c) name p) (comes (fin_map.get c) name q), sure_by)
+    (λ c a b p q. one_comes (content c) name laws (comes (content c) name p) (comes (content c) name q), sure_by)

@@ -1,6 +1,5 @@
 -- The unit of the script that a command names, with its tree, and where its tokens stand.
 use Rattle.std.specs.Prelude.{ℕ, List, [], length, map, get_or, slice_get, Option, Some, None}
-use Rattle.std.specs.FinMap as fin_map
 use Rattle.nwq_outside.specs.Outside as outside
 use Rattle.nss_lexer.specs.Splitting.{Lexeme}
 use Rattle.nss_tree.specs.Source.{SourceTree}
@@ -90,4 +89,4 @@ unit_by (Faulty why spot) = Refused (at_spot why spot)
 
 -- the unit of the script of this name, with its tree
 unfoldable pub unit_of : List ℕ → Work PlainScript
-unit_of name = Finds (λ (c : outside.Contents) fate. IsUnitFate (fin_map.get c) name fate) unit_by
+unit_of name = Finds (λ (c : outside.Contents) fate. IsUnitFate (outside.content c) name fate) unit_by

@@ -1,8 +1,7 @@
 ghost use Rattle.std.specs.Prelude.{◌≡◌, ◌<◌, ◌≤◌, ℕ, List, length, map, slice_get, IsTrue, IfErr};
 ghost use Rattle.std.specs.Prelude.{IfOk};
 ghost use Rattle.std.specs.Prelude.{Err, Some, None};
-ghost use Rattle.std.specs.FinMap as fin_map;
-ghost use Rattle.nwq_outside.specs.Outside.{Contents};
+ghost use Rattle.nwq_outside.specs.Outside.{Contents, content};
 ghost use Rattle.nss_include.specs.Units.{IsUnit};
 ghost use Rattle.nwq_value.specs.Limits.{token_limit};
 ghost use Rattle.nss_tree.specs.Reading.{plain_tree};
@@ -96,7 +95,7 @@ pub fn refuse_end<S: Sink>(alloc: Global, unit: &Unit, cause: Cause, out: &mut S
 #[tactic(auto)]
 fn refuse_gather<S: Sink>(alloc: Global, fault: GatherFault, out: &mut S) -> Status
     ensures does { IsTrue S.tells → (c : Contents) (name : List ℕ) →
-        Gathers (fin_map.get c) name (Err fault) →
+        Gathers (content c) name (Err fault) →
         Does (unit_of name) c (S.taken out.old) (Err result) c (S.taken out.new) }
     // The counts before and now, where the fault came with them.
     ensures counts { (before now : FileCounts) → IsCounted fault before now → TalliesEnd result
@@ -135,7 +134,7 @@ fn refuse_parse<S: Sink>(alloc: Global, unit: &Unit, fault: ParseFault, out: &mu
     requires script { 0 < length unit.now.files }
     requires fault { HasFault unit.now fault }
     ensures does { IsTrue S.tells → (c : Contents) (name : List ℕ) →
-        IsUnit (fin_map.get c) name unit.now.tokens unit.now.files None →
+        IsUnit (content c) name unit.now.tokens unit.now.files None →
         Does (unit_of name) c (S.taken out.old) (Err result) c (S.taken out.new) }
     ensures counts { TalliesStop S.faults result out.old out.new }
     ensures only { Refusing Status.Script result }
@@ -152,7 +151,7 @@ fn refuse_parse<S: Sink>(alloc: Global, unit: &Unit, fault: ParseFault, out: &mu
 fn parsed<S: Sink>(alloc: Global, unit: Unit, out: &mut S) -> Result<Script, Status>
     requires { 0 < length unit.files }
     ensures does { IsTrue S.tells → (c : Contents) (name : List ℕ) →
-        IsUnit (fin_map.get c) name unit.tokens unit.files None →
+        IsUnit (content c) name unit.tokens unit.files None →
         Does (unit_of name) c (S.taken out.old) (plain_script_answer result) c (S.taken out.new) }
     ensures tree { IfOk result (λ script. HasTree script.unit (plain_tree script.tree)) }
     ensures counts { TalliesPuts S.faults result out.old out.new }

@@ -4,10 +4,9 @@
 use mathlib.Core.Path.{sym, refl, ap, subst, ◌∙◌}
 use mathlib.Core.Logic.{inl, inr}
 use Rattle.std.specs.Prelude.{◌≡◌, ℕ, nat_lt, Bool, true, false, List, ◌++◌, length, Option, Some, None, Result, Ok, Err}
-use Rattle.std.specs.FinMap as map
 use Rattle.std.proofs.Common.{ltb-true, ltb-false, lt-ltb, le-ltb}
 use Rattle.nwq_value.specs.Limits.{file_limit}
-use Rattle.nwq_outside.specs.Outside.{Contents}
+use Rattle.nwq_outside.specs.Outside.{Contents, content}
 use Rattle.command_work.specs.declared.status.Status.{Status}
 use Rattle.command_work.specs.Refusal.{Refusal, NoForm, Absent, TooLong, At, BadCode, BadArea, line_of, status_of}
 use Rattle.command_work.specs.Work.{Work, Gives, Refused, then, CutsShort, IsCut, Does, by_size, bytes_of, file_named, makes}
@@ -123,13 +122,13 @@ module _ (c : Contents) (t : List ℕ) (name : List ℕ) where
     abbrev FileComes : Type 0
     FileComes = Came (IsRead c name) (IsUnread c name) c t r c' t'
 
-    size_comes : (bytes : List ℕ) → map.get c name ≡ Some bytes → (b : Bool) → nat_lt file_limit (length bytes) ≡ b → Does (by_size b name bytes) c t r c' t' → FileComes
+    size_comes : (bytes : List ℕ) → content c name ≡ Some bytes → (b : Bool) → nat_lt file_limit (length bytes) ≡ b → Does (by_size b name bytes) c t r c' t' → FileComes
     size_comes bytes held true e does =
         refusal_comes (IsRead c name) (IsUnread c name) c t r c' t' (TooLong name) (long bytes held (ltb-true file_limit (length bytes) e)) does
     size_comes bytes held false e does =
         given_comes (IsRead c name) (IsUnread c name) c t r c' t' bytes (record { held = held; small = ltb-false file_limit (length bytes) e }) does
 
-    content_comes : (content : Option (List ℕ)) → content ≡ map.get c name → Does (bytes_of name content) c t r c' t' → FileComes
+    content_comes : (found : Option (List ℕ)) → found ≡ content c name → Does (bytes_of name found) c t r c' t' → FileComes
     content_comes None is does = refusal_comes (IsRead c name) (IsUnread c name) c t r c' t' (Absent name) (absent (sym is)) does
     content_comes (Some bytes) is does = size_comes bytes (sym is) (nat_lt file_limit (length bytes)) refl does
 

@@ -1,10 +1,9 @@
 -- How the counts of files and sink stand after a part of a command, by its answer.
-use Rattle.std.specs.Prelude.{◌≡◌, ℕ, ◌⊎◌, List, Result, Ok, Err}
-use Rattle.std.specs.FinMap as map
+use Rattle.std.specs.Prelude.{◌≡◌, ◌≢◌, ℕ, false, ◌⊎◌, List, Result, Ok, Err}
 use Rattle.nwq_outside.specs.declared.counts.CountOf.{CountOf}
 use Rattle.nwq_outside.specs.declared.counts.CountOf.TheVariants.{Faults, Absences, Longs}
 use Rattle.nwq_outside.specs.declared.counts.FileCounts.{FileCounts}
-use Rattle.nwq_outside.specs.Outside.{Contents, Rises, NoneRose, Rose}
+use Rattle.nwq_outside.specs.Outside.{Contents, content, SameWays, Rises, NoneRose, Rose}
 use Rattle.command_work.specs.Work.{CutsShort}
 use Rattle.command_work.specs.declared.status.Status.{Status}
 use Rattle.command_work.specs.declared.status.Status.TheVariants.{Done, Words, Script, Code, Area, Limit, Missing, Fault, Memory, Long}
@@ -59,9 +58,16 @@ abbrev pub CountsPut : {A : Type 0} → Result A Status → ℕ → ℕ → Type
 CountsPut (Ok a) puts puts' = puts' ≡ puts
 CountsPut (Err status) puts puts' = CutsPut status puts puts'
 
--- every name that may not be written has what it had
-abbrev pub KeepsBut : (List ℕ → Type 0) → Contents → Contents → Type 0
-KeepsBut MayWrite before after = (name : List ℕ) → (MayWrite name → ⊥) → map.get after name ≡ map.get before name
+-- a name leads to no place of a name that may be written, and not to one at which a write may leave
+-- a new file of its own
+pub record IsOutside (MayWrite : List ℕ → Type 0) (c : Contents) (name : List ℕ) : Type 0 where
+  pub apart : (other : List ℕ) → MayWrite other → c.place name ≢ c.place other
+  pub own : c.spare (c.place name) ≡ false
+
+-- each name leads where it led, and what leads to no place that may be written has what it had
+unfoldable pub KeepsBut : (List ℕ → Type 0) → Contents → Contents → Type 0
+KeepsBut MayWrite before after =
+    SameWays before after × ((name : List ℕ) → IsOutside MayWrite before name → content after name ≡ content before name)
 
 -- what stops a read: the file isn't there or is too long, or the work is cut
 abbrev pub StopsRead : Status → Type 0

@@ -8,3 +8,6 @@ pub mod Sequences
 pub mod Reading
 pub mod Comes
 pub mod Calls
+pub mod KeepsLemmas
+pub mod Amounts
+pub mod AmountLemmas

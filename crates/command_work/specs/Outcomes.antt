@@ -5,8 +5,7 @@ use mathlib.Core.Path.{sym, ap, ◌∙◌, subst}
 use mathlib.Core.Logic.{inl, inr}
 use mathlib.Core.List.{append_assoc, append-nil}
 use Rattle.std.specs.Prelude.{◌≡◌, ℕ, Bool, true, false, List, [], ◌++◌, Result, Ok, Err, Option, Some, None}
-use Rattle.std.specs.FinMap as map
-use Rattle.nwq_outside.specs.Outside.{Contents, TookPrefix}
+use Rattle.nwq_outside.specs.Outside.{Contents, TookPrefix, with_content, content}
 use Rattle.command_work.specs.declared.status.Status.{Status}
 use Rattle.command_work.specs.Refusal.{line_of}
 use Rattle.command_work.specs.Work.{Work, Gives, Refused, Ends, Writes, Puts, Finds, then, IsCut, Does, by_size, bytes_of, file_named, makes, puts, writes}
@@ -48,7 +47,7 @@ agree (Ends status) sure r s c d e t u v whole whole_too x y = stays_agree (Err 
 agree (Writes name bytes rest) sure r s c d e t u v whole whole_too (inl cut) y = absurd (whole cut.0)
 agree (Writes name bytes rest) sure r s c d e t u v whole whole_too (inr x) (inl cut) = absurd (whole_too cut.0)
 agree (Writes name bytes rest) sure r s c d e t u v whole whole_too (inr x) (inr y) =
-    agree rest sure r s (map.insert c name bytes) d e t u v whole whole_too x y
+    agree rest sure r s (with_content c name bytes) d e t u v whole whole_too x y
 agree (Puts text rest) sure r s c d e t u v whole whole_too (inl cut) y = absurd (whole cut.0)
 agree (Puts text rest) sure r s c d e t u v whole whole_too (inr x) (inl cut) = absurd (whole_too cut.0)
 agree (Puts text rest) sure r s c d e t u v whole whole_too (inr x) (inr y) = agree rest sure r s c d e (t ++ text) u v whole whole_too x y
@@ -70,7 +69,7 @@ grows (Refused refusal) r c d t u (inl i, p) = (line_of refusal, i.1)
 grows (Refused refusal) r c d t u (inr cut, p) = (cut.1.prefix, cut.1.taken)
 grows (Ends status) r c d t u h = ([], h.1.1 ∙ sym (append-nil t))
 grows (Writes name bytes rest) r c d t u (inl cut) = ([], cut.2 ∙ sym (append-nil t))
-grows (Writes name bytes rest) r c d t u (inr x) = grows rest r (map.insert c name bytes) d t u x
+grows (Writes name bytes rest) r c d t u (inr x) = grows rest r (with_content c name bytes) d t u x
 grows (Puts text rest) r c d t u (inl cut) = (cut.2.prefix, cut.2.taken)
 grows (Puts text rest) r c d t u (inr x) =
     let more : IsPrefix (t ++ text) u = grows rest r c d (t ++ text) u x in
@@ -104,8 +103,8 @@ prefixes (Refused refusal) sure r s c d e t u v whole (inr cut, p) (inl j, k) =
 prefixes (Ends status) sure r s c d e t u v whole x y = same_prefix u v (y.1.1 ∙ sym x.1.1)
 prefixes (Writes name bytes rest) sure r s c d e t u v whole x (inl cut) = absurd (whole cut.0)
 prefixes (Writes name bytes rest) sure r s c d e t u v whole (inl cut) (inr y) =
-    from_start t u v cut.2 (grows rest s (map.insert c name bytes) e t v y)
-prefixes (Writes name bytes rest) sure r s c d e t u v whole (inr x) (inr y) = prefixes rest sure r s (map.insert c name bytes) d e t u v whole x y
+    from_start t u v cut.2 (grows rest s (with_content c name bytes) e t v y)
+prefixes (Writes name bytes rest) sure r s c d e t u v whole (inr x) (inr y) = prefixes rest sure r s (with_content c name bytes) d e t u v whole x y
 prefixes (Puts text rest) sure r s c d e t u v whole x (inl cut) = absurd (whole cut.0)
 prefixes (Puts text rest) sure r s c d e t u v whole (inl cut) (inr y) =
     let more : IsPrefix (t ++ text) v = grows rest s c e (t ++ text) v y in

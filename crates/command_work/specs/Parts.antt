@@ -4,8 +4,8 @@ use mathlib.Core.Path.{sym, refl, ap, ◌∙◌, subst}
 use mathlib.Core.Logic.{inl, inr}
 use mathlib.Core.List.{append-nil}
 use Rattle.std.specs.Prelude.{◌≡◌, ℕ, ◌⊎◌, List, [], ◌++◌, Result, Ok, Err}
-use Rattle.std.specs.FinMap as map
-use Rattle.nwq_outside.specs.Outside.{Contents, KeepsOthers, TookPrefix}
+use Rattle.nwq_outside.specs.Outside.{Contents, TookPrefix, with_content}
+use Rattle.nwq_outside.specs.ContentLemmas.{same_keeps}
 use Rattle.command_work.specs.declared.status.Status.{Status}
 use Rattle.command_work.specs.Refusal.{Refusal, line_of, status_of}
 use Rattle.command_work.specs.Work.{Work, Gives, Refused, Ends, Writes, Puts, Finds, then, CutsShort, Does, MayBeCut, makes, Finished, puts, writes, file_named}
@@ -59,16 +59,13 @@ err_not_ok a e p = subst GaveValue (sym p) tt
 pub took_nothing : (text t t' : List ℕ) → t' ≡ t → TookPrefix text t t'
 took_nothing text t t' same = record { prefix = []; rest = text; parts = refl; taken = same ∙ sym (append-nil t) }
 
-keeps_same : (name : List ℕ) (c c' : Contents) → c' ≡ c → KeepsOthers name c c'
-keeps_same name c c' same other differs = ap (λ d. map.get d other) same
-
 -- a work that still has something to do may be cut as it begins
 pub cut_here : {A : Type 0} (w : Work A) (e : Status) (c c' : Contents) (t t' : List ℕ) → MayBeCut w → CutsShort e → c' ≡ c → t' ≡ t
     → Does w c t (Err e) c' t'
 cut_here (Gives a) e c c' t t' may cut p q = absurd may
 cut_here (Refused refusal) e c c' t t' may cut p q = (inr (cut, took_nothing (line_of refusal) t t' q), p)
 cut_here (Ends status) e c c' t t' may cut p q = absurd may
-cut_here (Writes name bytes rest) e c c' t t' may cut p q = inl (cut, keeps_same name c c' p, q)
+cut_here (Writes name bytes rest) e c c' t t' may cut p q = inl (cut, same_keeps name c c' p, q)
 cut_here (Puts text rest) e c c' t t' may cut p q = inl (cut, p, took_nothing text t t' q)
 cut_here (Finds P next) e c c' t t' may cut p q = inl (cut, (p, q))
 
@@ -92,7 +89,7 @@ then_ok (Refused refusal) f a c c1 c2 t t1 t2 r (inr cut, s) goes = absurd cut.0
 then_ok (Ends status) f a c c1 c2 t t1 t2 r (e, s) goes = absurd (ok_not_err a status e)
 then_ok (Writes name bytes rest) f a c c1 c2 t t1 t2 r (inl cut) goes = absurd cut.0
 then_ok (Writes name bytes rest) f a c c1 c2 t t1 t2 r (inr does) goes =
-    inr (then_ok rest f a (map.insert c name bytes) c1 c2 t t1 t2 r does goes)
+    inr (then_ok rest f a (with_content c name bytes) c1 c2 t t1 t2 r does goes)
 then_ok (Puts text rest) f a c c1 c2 t t1 t2 r (inl cut) goes = absurd cut.0
 then_ok (Puts text rest) f a c c1 c2 t t1 t2 r (inr does) goes = inr (then_ok rest f a c c1 c2 (t ++ text) t1 t2 r does goes)
 then_ok (Finds P next) f a c c1 c2 t t1 t2 r (inl cut) goes = absurd cut.0
@@ -107,7 +104,7 @@ then_err (Refused refusal) f e c c1 t t1 (inl p, s) = (inl (ap Err (err_same e (
 then_err (Refused refusal) f e c c1 t t1 (inr cut, s) = (inr cut, s)
 then_err (Ends status) f e c c1 t t1 (p, s) = (ap Err (err_same e status p), s)
 then_err (Writes name bytes rest) f e c c1 t t1 (inl cut) = inl cut
-then_err (Writes name bytes rest) f e c c1 t t1 (inr does) = inr (then_err rest f e (map.insert c name bytes) c1 t t1 does)
+then_err (Writes name bytes rest) f e c c1 t t1 (inr does) = inr (then_err rest f e (with_content c name bytes) c1 t t1 does)
 then_err (Puts text rest) f e c c1 t t1 (inl cut) = inl cut
 then_err (Puts text rest) f e c c1 t t1 (inr does) = inr (then_err rest f e c c1 (t ++ text) t1 does)
 then_err (Finds P next) f e c c1 t t1 (inl cut) = inl cut

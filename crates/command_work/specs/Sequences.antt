@@ -3,8 +3,7 @@
 use mathlib.Core.Path.{sym, refl, ap, subst}
 use mathlib.Core.Logic.{inl, inr}
 use Rattle.std.specs.Prelude.{◌≡◌, ℕ, List, ◌++◌, Result, Ok, Err}
-use Rattle.std.specs.FinMap as map
-use Rattle.nwq_outside.specs.Outside.{Contents}
+use Rattle.nwq_outside.specs.Outside.{Contents, with_content, content}
 use Rattle.command_work.specs.declared.status.Status.{Status}
 use Rattle.command_work.specs.Refusal.{status_of}
 use Rattle.command_work.specs.Work.{Work, Gives, Refused, Ends, Writes, Puts, Finds, then, CutsShort, IsCut, Does, makes}
@@ -36,9 +35,9 @@ parts (Refused refusal) f c c' t t' (Err e) (inr cut, s) = ends_first (record { 
 parts (Ends status) f c c' t t' r (i, s) = ends_first (record { status = status; is = i; does = (refl, s) })
 parts (Writes name bytes rest) f c c' t t' (Ok b) (inl cut) = absurd cut.0
 parts (Writes name bytes rest) f c c' t t' (Err e) (inl cut) = ends_first (record { status = e; is = refl; does = inl cut })
-parts (Writes name bytes rest) f c c' t t' r (inr does) = written (parts rest f (map.insert c name bytes) c' t t' r does)
+parts (Writes name bytes rest) f c c' t t' r (inr does) = written (parts rest f (with_content c name bytes) c' t t' r does)
   where
-    written : Parts rest f (map.insert c name bytes) t r c' t' → Parts (Writes name bytes rest) f c t r c' t'
+    written : Parts rest f (with_content c name bytes) t r c' t' → Parts (Writes name bytes rest) f c t r c' t'
     written (ends_first h) = ends_first (record { status = h.status; is = h.is; does = inr h.does })
     written (goes_on h) = goes_on (record { value = h.value; between = h.between; taken = h.taken; first = inr h.first; second = h.second })
 parts (Puts text rest) f c c' t t' (Ok b) (inl cut) = absurd cut.0

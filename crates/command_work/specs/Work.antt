@@ -1,8 +1,7 @@
 -- The work of a command in order, and what it is to do it.
 use Rattle.std.specs.Prelude.{◌≡◌, ℕ, nat_lt, Bool, true, false, ◌⊎◌, List, ◌++◌, length, Option, Some, None, Result, Ok, Err}
-use Rattle.std.specs.FinMap as map
 use Rattle.nwq_value.specs.Limits.{file_limit}
-use Rattle.nwq_outside.specs.Outside.{Contents, KeepsOthers, TookPrefix}
+use Rattle.nwq_outside.specs.Outside.{Contents, KeepsOthers, TookPrefix, with_content, content}
 use Rattle.command_work.specs.declared.status.Status.{Status}
 use Rattle.command_work.specs.declared.status.Status.TheVariants.{Done, Fault, Memory}
 use Rattle.command_work.specs.Refusal.{Refusal, Absent, TooLong, line_of, status_of}
@@ -55,7 +54,7 @@ Does (Refused refusal) c t r c' t' =
     (((r ≡ Err (status_of refusal)) × (t' ≡ t ++ line_of refusal)) ⊎ (IsCut r × TookPrefix (line_of refusal) t t')) × (c' ≡ c)
 Does (Ends status) c t r c' t' = (r ≡ Err status) × Stays c c' t t'
 Does (Writes name bytes rest) c t r c' t' =
-    (IsCut r × KeepsOthers name c c' × (t' ≡ t)) ⊎ Does rest (map.insert c name bytes) t r c' t'
+    (IsCut r × KeepsOthers name c c' × (t' ≡ t)) ⊎ Does rest (with_content c name bytes) t r c' t'
 Does (Puts text rest) c t r c' t' = (IsCut r × (c' ≡ c) × TookPrefix text t t') ⊎ Does rest c (t ++ text) r c' t'
 Does (Finds P next) c t r c' t' = (IsCut r × Stays c c' t t') ⊎ Found (P c) (λ b. Does (next b) c t r c' t')
 
@@ -99,4 +98,4 @@ bytes_of name (Some bytes) = by_size (nat_lt file_limit (length bytes)) name byt
 
 -- the file of this name is read
 unfoldable pub file_named : List ℕ → Work (List ℕ)
-file_named name = Finds (λ c content. content ≡ map.get c name) (bytes_of name)
+file_named name = Finds (λ c found. found ≡ content c name) (bytes_of name)

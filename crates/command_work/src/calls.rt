@@ -1,5 +1,6 @@
 ghost use Rattle.std.specs.Prelude.{◌≡◌, ◌≤◌, ℕ, List, length, IsTrue, IfOk, IfErr};
 ghost use Rattle.nwq_value.specs.Limits.{file_limit};
+ghost use Rattle.nwq_outside.specs.Outside.{next};
 ghost use Rattle.command_work.specs.Work.{Does, CutsShort, file_named, writes};
 ghost use Rattle.command_work.specs.Parts.{PutsWhole};
 ghost use Rattle.command_work.specs.Counts.{Counted, Tallies, CountsPut, KeepsBut, StopsRead};
@@ -54,6 +55,7 @@ pub fn read_file<F: Files, S: Sink>(
         files.old out.old result files.new out.new }
     ensures counts { TalliesOn F.counts S.faults result files.old out.old files.new out.new }
     ensures same { F.contents files.new ≡ F.contents files.old }
+    ensures once { F.reads files.new ≡ next (F.reads files.old) }
     ensures size { IfOk result (λ bytes. length bytes ≤ file_limit) }
     ensures only { IfErr result StopsRead }
 {
@@ -67,13 +69,14 @@ pub fn read_file<F: Files, S: Sink>(
 }
 
 /// Writes these bytes under the name.
-#[tactic(auto, using(crate::proofs::FileLemmas::wrote, crate::proofs::FileLemmas::write_cut))]
+#[tactic(auto, using(crate::proofs::FileLemmas::wrote, crate::proofs::FileLemmas::write_cut, crate::specs::KeepsLemmas::keeps_write))]
 pub fn write_file<F: Files>(name: &str, bytes: &[u8], files: &mut F) -> Result<(), Status>
     ensures does { IsTrue F.tells → (t : List ℕ) →
         Does (writes name.now bytes.now) (F.contents files.old) t result (F.contents files.new) t }
     ensures counts { (puts : ℕ) → Tallies result (Counted (F.counts files.old) puts)
         (Counted (F.counts files.new) puts) }
     ensures names { KeepsBut (IsName name.now) (F.contents files.old) (F.contents files.new) }
+    ensures unread { F.reads files.new ≡ F.reads files.old }
     ensures only { IfErr result CutsShort }
 {
     match files.write(name, bytes) {

@@ -3,10 +3,9 @@ use Rattle.std.proofs.Common.{◌≡◌, ℕ, ◌%◌, ◌^◌, ◌<◌, ◌≤�
 use Rattle.std.proofs.Math.Nat.{mod-lt}
 use Rattle.std.proofs.lemmas.Fmt.{length-decimal-le_succ}
 use Rattle.std.specs.Fmt.{decimal}
-use Rattle.std.specs.FinMap as fin_map
 use Rattle.nwq_value.specs.HeaderTable.{header_table}
 use Rattle.nwq_value.specs.Limits.{file_limit}
-use Rattle.nwq_outside.specs.Outside.{Contents}
+use Rattle.nwq_outside.specs.Outside.{Contents, content}
 use Rattle.ncs_code.specs.Laws.{SizeLaws}
 use Rattle.nss_lexer.specs.Computed.{ComputedAreTokens}
 use Rattle.nss_symbols.specs.Nest.{IsWithinNest}
@@ -43,7 +42,7 @@ short_source n creatures few small =
     omega (arith, all, a, b, c, d, first, second, few, small)
 
 module _ (computed : ComputedAreTokens) (gives : ReadingGivesTree) (right : VerdictsAreRight) (sizes : SizeLaws) (n creatures : ℕ) (few : n ≤ number_limit) (small : creatures ≤ 1000) (c : Contents)
-    (found : fin_map.get c (codes "beat.nss") ≡ Some (source_text n creatures)) where
+    (found : content c (codes "beat.nss") ≡ Some (source_text n creatures)) where
   fits : n < 2 ^ 32
   fits = omega (arith, few)
 
@@ -62,7 +61,7 @@ module _ (computed : ComputedAreTokens) (gives : ReadingGivesTree) (right : Verd
     script = beat;
     is =
         whole beat
-        (one_file (fin_map.get c) (codes "beat") (source_text n creatures) beat.tokens (ap (fin_map.get c) beat_file ∙ found) (short_source n creatures few small)
+        (one_file (content c) (codes "beat") (source_text n creatures) beat.tokens (ap (content c) beat_file ∙ found) (short_source n creatures few small)
         (made_are_tokens n creatures fits counts computed) (made_plain n creatures fits counts)
         (let count = made_length n creatures fits counts in omega (arith, count)))
         (subst IsWithinNest (sym (made_seen n creatures fits counts)) (made_nest n creatures))

@@ -1,9 +1,10 @@
 //! Messages on what the system or memory refused.
 
 use crate::form::{put_kind, put_words};
-use nwq_outside::{Done, Sink, Trouble};
+use nwq_outside::{Done, Sink};
 use nwq_text::put_text;
 use nwq_value::NoMemory;
+use real_files::Trouble;
 use std::io::ErrorKind;
 
 /// What the system's error is called.

@@ -1,8 +1,9 @@
 //! Ends that no file explains: usage, the system's errors, a sink that fails.
 
 use command_messages::{End, LastLine, tell_end};
-use nwq_outside::{Done, MemFiles, MemSink, Sink, Trouble};
+use nwq_outside::{Done, MemFiles, MemSink, Sink};
 use nwq_value::NoMemory;
+use real_files::Trouble;
 use std::alloc::Global;
 use std::io::ErrorKind;
 

@@ -1,5 +1,5 @@
 ghost use Rattle.std.specs.Prelude.{◌≡◌, ◌<◌, ◌≤◌, ◌+◌, Bool, length, OnOk, IfOk, IfErr, IsTrue};
-ghost use Rattle.std.specs.FinMap as map;
+ghost use Rattle.nwq_outside.specs.Outside.{content};
 ghost use Rattle.std.specs.String.{string_bytes};
 ghost use Rattle.std.specs.Str.{IsUtf8};
 ghost use Rattle.nwq_value.specs.Limits.{token_limit};
@@ -44,9 +44,9 @@ fn read_into<F: Files>(
 ) -> Result<(), GatherFault>
     requires { length unit.old.files < file_count_limit }
     ensures reads { OnOk result (Reads F.tells
-        (map.get (F.contents files.old)) unit.old unit.new name.now) }
+        (content (F.contents files.old)) unit.old unit.new name.now) }
     ensures fails { IfErr result (ReadFails F.tells
-        (map.get (F.contents files.old)) name.now) }
+        (content (F.contents files.old)) name.now) }
     ensures same { F.contents files.new ≡ F.contents files.old }
     ensures counts { CountsGathered result (F.counts files.old) (F.counts files.new) }
 {
@@ -133,9 +133,9 @@ impl Gatherer {
         requires ready { IsOrderly (reopened here self.old) }
         requires room { self.old.count + 3 ≤ token_limit }
         ensures includes { OnOk result (Includes F.tells
-            (map.get (F.contents files.old)) self.old self.new here name.now after) }
+            (content (F.contents files.old)) self.old self.new here name.now after) }
         ensures fails { IfErr result (ReadFails F.tells
-            (map.get (F.contents files.old)) name.now) }
+            (content (F.contents files.old)) name.now) }
         ensures same { F.contents files.new ≡ F.contents files.old }
         ensures counts { CountsGathered result (F.counts files.old) (F.counts files.new) }
     {
@@ -162,9 +162,9 @@ impl Gatherer {
         requires ready { IsOrderly (reopened here self.old) }
         requires step { HasStep self.old here (step.Mentions hash name.now after) }
         ensures advances { OnOk result (Advances F.tells
-            (map.get (F.contents files.old)) (reopened here self.old) self.new) }
+            (content (F.contents files.old)) (reopened here self.old) self.new) }
         ensures halts { IfErr result (Halts F.tells
-            (map.get (F.contents files.old)) (reopened here self.old)) }
+            (content (F.contents files.old)) (reopened here self.old)) }
         ensures same { F.contents files.new ≡ F.contents files.old }
         ensures counts { CountsGathered result (F.counts files.old) (F.counts files.new) }
     {
@@ -202,9 +202,9 @@ impl Gatherer {
     ) -> Result<(), GatherFault>
         requires { IsOrderly (reopened here self.old) }
         ensures advances { OnOk result (Advances F.tells
-            (map.get (F.contents files.old)) (reopened here self.old) self.new) }
+            (content (F.contents files.old)) (reopened here self.old) self.new) }
         ensures halts { IfErr result (Halts F.tells
-            (map.get (F.contents files.old)) (reopened here self.old)) }
+            (content (F.contents files.old)) (reopened here self.old)) }
         ensures same { F.contents files.new ≡ F.contents files.old }
         ensures counts { CountsGathered result (F.counts files.old) (F.counts files.new) }
     {
@@ -238,11 +238,11 @@ impl Gatherer {
         ensures grows { OnOk result (Extends self.old.unit.files self.new.unit.files) }
         ensures distinct { OnOk result (HaveDistinctNames self.new.unit.files) }
         ensures holds { IsTrue F.tells → HoldsFiles
-            (map.get (F.contents files.old)) self.old.unit.files → OnOk result (HoldsFiles
-            (map.get (F.contents files.old)) self.new.unit.files) }
+            (content (F.contents files.old)) self.old.unit.files → OnOk result (HoldsFiles
+            (content (F.contents files.old)) self.new.unit.files) }
         ensures stops { IsTrue F.tells → HoldsFiles
-            (map.get (F.contents files.old)) self.old.unit.files → IfErr result
-            (λ fault. Claims fault (ComesTo (map.get (F.contents files.old)) self.old fault)) }
+            (content (F.contents files.old)) self.old.unit.files → IfErr result
+            (λ fault. Claims fault (ComesTo (content (F.contents files.old)) self.old fault)) }
         ensures same { F.contents files.new ≡ F.contents files.old }
         ensures counts { CountsGathered result (F.counts files.old) (F.counts files.new) }
     {
@@ -259,9 +259,9 @@ impl Gatherer {
 /// Begins to gather the unit of a script with its file.
 fn begin<F: Files>(alloc: Global, files: &mut F, script: &str) -> Result<Gatherer, GatherFault>
     ensures begins { IfOk result (λ gatherer. BeginsWithScript F.tells
-        (map.get (F.contents files.old)) gatherer script.now) }
+        (content (F.contents files.old)) gatherer script.now) }
     ensures fails { IfErr result (ReadFails F.tells
-        (map.get (F.contents files.old)) (file_name script.now)) }
+        (content (F.contents files.old)) (file_name script.now)) }
     ensures same { F.contents files.new ≡ F.contents files.old }
     ensures counts { CountsGathered result (F.counts files.old) (F.counts files.new) }
 {
@@ -288,7 +288,7 @@ pub fn gather<F: Files>(alloc: Global, files: &mut F, name: &str) -> Result<Unit
         → IsUnit lookup name.now unit.tokens unit.files None) }
     ensures script { IfOk result (λ unit. HasScript unit.files name.now) }
     ensures distinct { IfOk result (λ unit. HaveDistinctNames unit.files) }
-    ensures told { IsTrue F.tells → Gathers (map.get (F.contents files.old)) name.now result }
+    ensures told { IsTrue F.tells → Gathers (content (F.contents files.old)) name.now result }
     ensures same { F.contents files.new ≡ F.contents files.old }
     ensures counts { CountsGathered result (F.counts files.old) (F.counts files.new) }
 {

@@ -14,12 +14,12 @@ ghost use Rattle.nwq.specs.Ending.{EndsWanting, form_in};
 
 use crate::whole::run_all;
 use command_messages::{End, LastLine, tell_end};
-use nwq_outside::{Files, RealFiles, Sink, Trouble};
+use nwq_outside::{Files, Sink};
 use nwq_top::Remarks;
 use nwq_top::laws::one_outcome;
-use std::alloc::{AllocGlobal, Global};
+use real_files::{Disk, RealFiles, Trouble};
+use std::alloc::Global;
 use std::process::ExitCode;
-use std::rt::Files as HostFiles;
 
 /// The number of the status for want of memory.
 const WANT_OF_MEMORY: u8 = 8;
@@ -38,7 +38,7 @@ pub(crate) trait Troubled {
     fn trouble(&self) -> Option<&Trouble>;
 }
 
-impl<R: HostFiles + AllocGlobal> Troubled for RealFiles<R> {
+impl<D: Disk> Troubled for RealFiles<D> {
     fn trouble(&self) -> Option<&Trouble> {
         RealFiles::trouble(self)
     }

@@ -10,7 +10,8 @@ mod whole;
 
 use crate::end::{Words, end_of};
 use command_messages::LastLine;
-use nwq_outside::{RealFiles, RealSink};
+use nwq_outside::RealSink;
+use real_files::{HostDisk, RealFiles};
 use std::env;
 use std::io::ErrorKind;
 use std::process::ExitCode;
@@ -27,15 +28,23 @@ fn all_words(rt: &HostRuntime) -> Words {
     }
 }
 
+/// The files of the host, unless there is no memory for them.
+fn host_files(rt: &HostRuntime) -> Option<RealFiles<HostDisk<HostRuntime>>> {
+    match rt.clone() {
+        Ok(own) => Some(RealFiles::new(rt.alloc(), HostDisk::new(own, rt.stdout(), rt.stderr()))),
+        Err(_) => None,
+    }
+}
+
 fn main(rt: HostRuntime) -> ExitCode {
     let words = all_words(&rt);
-    let mut files = match rt.clone() {
-        Ok(own) => RealFiles::new(own),
-        Err(_) => return ExitCode::from(8),
+    let mut files = match host_files(&rt) {
+        Some(files) => files,
+        None => return ExitCode::from(8),
     };
-    let mut again = match rt.clone() {
-        Ok(own) => RealFiles::new(own),
-        Err(_) => return ExitCode::from(8),
+    let mut again = match host_files(&rt) {
+        Some(files) => files,
+        None => return ExitCode::from(8),
     };
     let mut out = LastLine::new(rt.alloc(), RealSink::new(rt.stdout()));
     let mut err = RealSink::new(rt.stderr());

@@ -3,8 +3,9 @@
 
 use crate::end::{Troubled, Words, end_of};
 use command_messages::LastLine;
-use nwq_outside::{MemFiles, MemSink, Trouble};
+use nwq_outside::{MemFiles, MemSink};
 use nwq_value::NoMemory;
+use real_files::Trouble;
 use std::alloc::Global;
 use std::process::ExitCode;
 use std::test::Fail;

@@ -1,2 +1,1 @@
 mod MemoryLemmas
-mod DiskLemmas

@@ -12,8 +12,9 @@ use Rattle.std.specs.Ordering.{nat_cmp, is_eq}
 use Rattle.std.specs.Prelude.{String}
 use Rattle.std.specs.Str.{bytes_eq}
 use Rattle.std.specs.String.{string_bytes, string_cmp}
-use Rattle.nwq_outside.specs.Memory.{contents_of}
-use Rattle.nwq_outside.specs.Outside.{Contents, ContentsAreBytes}
+use Rattle.nwq_outside.specs.Memory.{Memory, contents_of, counted}
+use Rattle.nwq_outside.specs.Outside.{Held, ContentsAreBytes, KeepsOthers, plain}
+use Rattle.nwq_outside.specs.ContentLemmas.{write_keeps, same_keeps}
 
 find_held : {A : Type 0} (es : List (String A × List ℕ)) (name : List ℕ)
     → find (slice_cmp nat_cmp) name (map (λ (e : String A × List ℕ). (string_bytes e.0, e.1)) es) ≡ lookup (is_at (λ k. slice_cmp nat_cmp name (string_bytes k))) es
@@ -41,15 +42,25 @@ pub insert_held : {A : Type 0} (before after : BTreeMap (String A) (List ℕ)) (
 insert_held before after key name bytes is put =
     same_map nat_list_cmp_total exact_bytes (contents_of after) (insert (contents_of before) name bytes) (λ q. same_at before after key name bytes is put q)
 
-not_taken : {A : Type 0} (b : Bool) (x y : A) → b ≢ true → cond b x y ≡ y
-not_taken true x y apart = absurd (apart refl)
-not_taken false x y apart = refl
-
 -- what is put under a name leaves every other name what it held
-pub insert_keeps : (before : Contents) (name bytes other : List ℕ) → other ≢ name → get (insert before name bytes) other ≡ get before other
-insert_keeps before name bytes other apart =
-    get-insert nat_list_cmp_total before name bytes other
-    ∙ not_taken (is_eq (slice_cmp nat_cmp other name)) _ _ (λ same. apart ((bytes_eq-Decides other name).0 (sym (is_eq-slice_cmp other name) ∙ same)))
+pub insert_keeps : (before after : Held) (name bytes : List ℕ) → after ≡ insert before name bytes → KeepsOthers name (plain before) (plain after)
+insert_keeps before after name bytes put = subst (λ h. KeepsOthers name (plain before) (plain h)) (sym put) (write_keeps (plain before) name bytes)
+
+pub stay_keeps : (before after : Held) (name : List ℕ) → after ≡ before → KeepsOthers name (plain before) (plain after)
+stay_keeps before after name same = same_keeps name (plain before) (plain after) (ap plain same)
+
+-- a call changes nothing of what is held
+counted_held : (m : Memory) (fails : Bool) → (counted m fails).contents ≡ m.contents
+counted_held m true = refl
+counted_held m false = refl
+
+pub added_keeps : (before mid after : Memory) (fails : Bool) (name bytes : List ℕ) → mid ≡ counted before fails
+    → after ≡ record mid { contents = insert mid.contents name bytes } → KeepsOthers name (plain before.contents) (plain after.contents)
+added_keeps before mid after fails name bytes call added =
+    insert_keeps before.contents after.contents name bytes
+    (ap (λ (m : Memory). m.contents) added ∙ ap (λ h. insert h name bytes) (ap (λ (m : Memory). m.contents) call ∙ counted_held before fails))
+
+pub ruleset keeps = (added_keeps, stay_keeps)
 
 -- ---- what is held are bytes
 
@@ -58,19 +69,20 @@ either_bytes : (b : Bool) (bytes other : List ℕ) (content : Option (List ℕ))
 either_bytes true bytes other content all else is = subst (All (λ x. x < 256)) (same_Some bytes other is) all
 either_bytes false bytes other content all else is = else is
 
-pub bytes_put : (before after : Contents) (name bytes : List ℕ) → after ≡ insert before name bytes → ContentsAreBytes before → All (λ x. x < 256) bytes → ContentsAreBytes after
+pub bytes_put : (before after : Held) (name bytes : List ℕ) → after ≡ insert before name bytes → ContentsAreBytes (plain before) → All (λ x. x < 256) bytes
+    → ContentsAreBytes (plain after)
 unfolding ContentsAreBytes
 bytes_put before after name bytes put held all other content is =
     either_bytes (is_eq (slice_cmp nat_cmp other name)) bytes content (get before other) all (held other content)
     (sym (get-insert nat_list_cmp_total before name bytes other) ∙ ap (λ c. get c other) (sym put) ∙ is)
 
-pub bytes_stay : (before after : Contents) → after ≡ before → ContentsAreBytes before → ContentsAreBytes after
-bytes_stay before after same held = subst ContentsAreBytes (sym same) held
+pub bytes_stay : (before after : Held) → after ≡ before → ContentsAreBytes (plain before) → ContentsAreBytes (plain after)
+bytes_stay before after same held = subst (λ h. ContentsAreBytes (plain h)) (sym same) held
 
-nothing_there : (none : Contents) (name : List ℕ) → none ≡ empty → get none name ≡ None
-nothing_there none name is = subst (λ (c : Contents). get c name ≡ None) (sym is) (get-empty (slice_cmp nat_cmp) name)
+nothing_there : (none : Held) (name : List ℕ) → none ≡ empty → get none name ≡ None
+nothing_there none name is = subst (λ (c : Held). get c name ≡ None) (sym is) (get-empty (slice_cmp nat_cmp) name)
 
-pub no_bytes : (none : Contents) → none ≡ empty → ContentsAreBytes none
+pub no_bytes : (none : Held) → none ≡ empty → ContentsAreBytes (plain none)
 unfolding ContentsAreBytes
 no_bytes none is name bytes held = let nothing = nothing_there none name is in cc
 

@@ -1,5 +1,5 @@
 -- What the answers of files and of a sink say of their contents and of their counts.
-use Rattle.std.specs.Prelude.{◌≡◌, ◌≢◌, ℕ, ◌+◌, ◌-◌, ◌^◌, ◌<◌, ◌≤◌, min, max, All, List, ◌++◌, length, Option, Some, None, IsSomeAnd}
+use Rattle.std.specs.Prelude.{◌≡◌, ◌≢◌, ℕ, ◌+◌, ◌-◌, ◌^◌, ◌<◌, ◌≤◌, min, max, Bool, true, false, All, List, ◌++◌, length, Option, Some, None, IsSomeAnd}
 use Rattle.std.specs.Ordering.{nat_cmp}
 use Rattle.std.specs.Cmp.Lexicographic.{slice_cmp}
 use Rattle.std.specs.FinMap as map
@@ -12,9 +12,28 @@ use Rattle.nwq_outside.specs.declared.answer.Read.TheVariants.{Bytes, Missing, F
 use Rattle.nwq_outside.specs.declared.answer.Done.{Done}
 use Rattle.nwq_outside.specs.declared.answer.Done.TheVariants as done
 
--- what files hold: bytes under names, a name being the bytes of its text
-abbrev pub Contents : Type 0
-Contents = map.FinMap (slice_cmp nat_cmp) (List ℕ)
+-- bytes at places, a place being the bytes of a name that is no link
+abbrev pub Held : Type 0
+Held = map.FinMap (slice_cmp nat_cmp) (List ℕ)
+
+-- What files hold: bytes at places, the place that each name leads to, which is another one where
+-- the name is a link, and at which places a write that fails may leave a new file of its own.
+pub record Contents : Type 0 where
+  pub held : Held
+  pub place : List ℕ → List ℕ
+  pub spare : List ℕ → Bool
+
+-- files of which each name is its own place, and that leave no new file of their own
+abbrev pub plain : Held → Contents
+plain held = record { held = held; place = λ name. name; spare = λ place. false }
+
+-- what is under a name, if anything is
+abbrev pub content : Contents → List ℕ → Option (List ℕ)
+content c name = map.get c.held (c.place name)
+
+-- the contents where these bytes are under a name
+abbrev pub with_content : Contents → (name bytes : List ℕ) → Contents
+with_content c name bytes = record c { held = map.insert c.held (c.place name) bytes }
 
 -- the number after a count, which stays where it is from the greatest `u64` on
 abbrev pub next : ℕ → ℕ
@@ -64,15 +83,15 @@ CountsDone done.NoMemory before now = now ≡ before
 
 -- what stands under each name are bytes
 unfoldable pub ContentsAreBytes : Contents → Type 0
-ContentsAreBytes contents = (name bytes : List ℕ) → map.get contents name ≡ Some bytes → All (λ b. b < 256) bytes
+ContentsAreBytes c = (name bytes : List ℕ) → content c name ≡ Some bytes → All (λ b. b < 256) bytes
 
 -- an answer to a read of a name with this content, or with none
 abbrev pub ReadsContent : Option (List ℕ) → Read → Type 0
-ReadsContent content (Bytes bytes) = content ≡ Some bytes.items
-ReadsContent content Missing = content ≡ None
-ReadsContent content Failed = Unit {0}
-ReadsContent content Long = IsSomeAnd content (λ bytes. file_limit < length bytes)
-ReadsContent content NoMemory = Unit {0}
+ReadsContent held (Bytes bytes) = held ≡ Some bytes.items
+ReadsContent held Missing = held ≡ None
+ReadsContent held Failed = Unit {0}
+ReadsContent held Long = IsSomeAnd held (λ bytes. file_limit < length bytes)
+ReadsContent held NoMemory = Unit {0}
 
 -- what is read is no longer than a file can be
 abbrev pub IsFileSize : Read → Type 0
@@ -82,13 +101,24 @@ IsFileSize Failed = Unit {0}
 IsFileSize Long = Unit {0}
 IsFileSize NoMemory = Unit {0}
 
--- every other name holds what it held
-abbrev pub KeepsOthers : List ℕ → Contents → Contents → Type 0
-KeepsOthers name before after = (other : List ℕ) → other ≢ name → map.get after other ≡ map.get before other
+-- each name leads where it led, and new files of a write's own are left where they were
+pub record SameWays (before after : Contents) : Type 0 where
+  pub place : after.place ≡ before.place
+  pub spare : after.spare ≡ before.spare
+
+-- a name leads to another place than this one, and not to one at which a new file may be left
+pub record IsApart (c : Contents) (name other : List ℕ) : Type 0 where
+  pub place : c.place other ≢ c.place name
+  pub own : c.spare (c.place other) ≡ false
+
+-- every name that leads to another place than this one has what it had
+pub record KeepsOthers (name : List ℕ) (before after : Contents) : Type 0 where
+  pub ways : SameWays before after
+  pub others : (other : List ℕ) → IsApart before name other → content after other ≡ content before other
 
 -- what a write leaves: the bytes under the name, or under it something that is not told
 abbrev pub Leaves : Contents → Contents → List ℕ → List ℕ → Done → Type 0
-Leaves before after name bytes done.Ok = after ≡ map.insert before name bytes
+Leaves before after name bytes done.Ok = after ≡ with_content before name bytes
 Leaves before after name bytes done.Failed = Unit {0}
 Leaves before after name bytes done.NoMemory = Unit {0}
 

@@ -2,7 +2,8 @@ ghost use Rattle.std.specs.Prelude.{◌≡◌, ◌<◌, ◌≤◌, ◌↔◌, []
 ghost use Rattle.std.specs.Prelude.{OnErr, All, Contains};
 ghost use Rattle.std.specs.Option.{option_map, option_copied};
 ghost use Rattle.std.specs.FinMap as map;
-ghost use Rattle.nwq_outside.specs.Outside.{ReadsContent, IsFileSize, KeepsOthers, no_counts};
+ghost use Rattle.nwq_outside.specs.Outside.{ReadsContent, IsFileSize, KeepsOthers, plain};
+ghost use Rattle.nwq_outside.specs.Outside.{no_counts};
 ghost use Rattle.nwq_outside.specs.Memory.{contents_of};
 
 use crate::answer::{Done, Read};
@@ -53,12 +54,13 @@ pub struct MemFiles {
     held: BTreeMap<String, Items<u8>>,
     failing: Items<u64>,
     calls: u64,
+    reads: u64,
     counts: FileCounts,
 }
 
 impl Model for MemFiles {
     ghost use Rattle.nwq_outside.specs.Memory.{Memory, memory_code, contents_of};
-    ghost use Rattle.nwq_outside.specs.Outside.{ContentsAreBytes};
+    ghost use Rattle.nwq_outside.specs.Outside.{ContentsAreBytes, plain};
 
     ghost Value = { Memory };
 
@@ -68,10 +70,11 @@ impl Model for MemFiles {
       contents = contents_of m.held;
       failing = m.failing;
       calls = m.calls;
+      reads = m.reads;
       counts = m.counts;
     } };
 
-    ghost invariant = { λ m. ContentsAreBytes (contents_of m.held) };
+    ghost invariant = { λ m. ContentsAreBytes (plain (contents_of m.held)) };
 }
 
 impl MemFiles {
@@ -84,6 +87,7 @@ impl MemFiles {
           contents = map.empty;
           failing = [];
           calls = 0;
+          reads = 0;
           counts = no_counts;
         } }
     {
@@ -92,6 +96,7 @@ impl MemFiles {
             held: BTreeMap::new(alloc),
             failing: Items::new(alloc),
             calls: 0,
+            reads: 0,
             counts: FileCounts::new(),
         }
     }
@@ -146,9 +151,11 @@ impl Files for MemFiles {
 
     ghost tells = { true };
 
-    ghost contents = { λ m. m.contents };
+    ghost contents = { λ m. plain m.contents };
 
     ghost counts = { λ m. m.counts };
+
+    ghost reads = { λ m. m.reads };
 
     fn contents_are_bytes(&self) {
         let _calls = self.calls;
@@ -160,6 +167,7 @@ impl Files for MemFiles {
         ensures fails { (result ≡ Read.Failed) ↔ Contains self.old.failing self.old.calls }
         ensures after { self.new ≡ after_read self.old result }
     {
+        self.reads = self.reads.saturating_add(1);
         if self.begins_call() {
             return Read::Failed;
         }
@@ -179,11 +187,11 @@ impl Files for MemFiles {
         }
     }
 
-    #[tactic(auto, using(crate::proofs::MemoryLemmas::insert_keeps))]
+    #[tactic(auto, using(crate::proofs::MemoryLemmas::keeps))]
     fn write(&mut self, name: &str, bytes: &[u8]) -> Done
         ensures fails { (result ≡ Done.Failed) ↔ Contains self.old.failing self.old.calls }
         ensures after { self.new ≡ after_write self.old name.now bytes.now result }
-        ensures others { KeepsOthers name.now self.old.contents self.new.contents }
+        ensures others { KeepsOthers name.now (plain self.old.contents) (plain self.new.contents) }
     {
         if self.begins_call() {
             return Done::Failed;

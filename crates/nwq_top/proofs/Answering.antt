@@ -113,7 +113,7 @@ module _ (header : OneHeader) (some : SomeSplit) (trees : TreeOrPlace) (right : 
   form_goes cell cells (Disassemble file to) small c held = surely (plain_goes cell (Disassemble file to) tt tt c held)
   form_goes cell cells (Assemble file to) small c held = surely (plain_goes cell (Assemble file to) tt tt c held)
   form_goes cell cells (Play word area plan to list) small c held =
-      play_goes header some trees right settled pass have reads own sizes places laws cell word area to c held plan
+      play_goes header some trees right settled pass have reads own sizes places code laws cell word area to c held plan
   form_goes cell cells (Generate number) small c held = surely (plain_goes cell (Generate number) small tt c held)
   form_goes cell cells (Save word area plan entries state list) small c held =
       save_goes header some trees right settled pass have reads own sizes places laws code states plans cell cells word area plan entries state c held

@@ -1,8 +1,7 @@
 -- What a command changes.
 use Rattle.std.proofs.Common.{◌≡◌, ◌⊎◌, inl, inr, Bool, true, false, ℕ, List, [], ◌∷◌, ◌++◌, Option, Some, None, Result, Ok, Err, codes, bytes_eq, refl, sym, subst, ap, ◌∙◌}
-use Rattle.std.specs.FinMap as map
 use Rattle.nwq_value.specs.Engine.{EngineTable}
-use Rattle.nwq_outside.specs.Outside.{Contents}
+use Rattle.nwq_outside.specs.Outside.{Contents, with_content}
 use Rattle.gff_write.specs.declared.fault.WriteFault.{WriteFault}
 use Rattle.gff_write.specs.declared.fault.WriteFault.TheVariants as fault
 use Rattle.gff_write.specs.File.{written, outcome_of}
@@ -27,7 +26,9 @@ use Rattle.state_format.specs.Fields.{parts_bytes}
 use Rattle.world_rules.specs.Plays.{PlayEnd, Done, OutOfEntries, StoppedInside, Paused, Progress, Played}
 use Rattle.command_work.specs.declared.status.Status.{Status}
 use Rattle.command_work.specs.Work.{Work, Gives, Refused, Ends, Writes, Puts, Finds, then, makes, IsCut, Does, Finished, by_size, bytes_of, file_named, puts, writes}
+use Rattle.command_work.specs.Calls.{IsName}
 use Rattle.command_work.specs.Counts.{KeepsBut}
+use Rattle.command_work.specs.KeepsLemmas.{keeps_all, keeps_write, keeps_with, keeps_fewer, keeps_then}
 use Rattle.command_work.specs.Parts.{value_or}
 use Rattle.command_work.specs.Sequences.{Parts, ends_first, goes_on, parts}
 use Rattle.command_work.specs.Comes.{Came, gave, stopped, cut}
@@ -69,7 +70,6 @@ use Rattle.nwq_top.specs.Changes.{IsListedFile, MayLeave, MayChange}
 use Rattle.nwq_top.specs.Command.{MayWrite, work_with, whole_work}
 use Rattle.nwq_top.specs.Laws.{NamesChange, WholeNamesChange}
 use Rattle.nwq_top.proofs.PlansAndAreas.{plan_comes}
-use Rattle.nwq_top.proofs.Listing.{insert_keeps}
 
 -- ---- works whose writes are of certain names
 
@@ -82,22 +82,21 @@ Within P (Puts text rest) = Within P rest
 Within P (Finds {B} Q next) = (b : B) → Within P (next b)
 
 module _ (P : List ℕ → Type 0) where
-  same_keeps : (c c' : Contents) → c' ≡ c → KeepsBut P c c'
-  same_keeps c c' same = λ name other. ap (λ (x : Contents). map.get x name) same
-
-  then_keeps : (c d e : Contents) → KeepsBut P c d → KeepsBut P d e → KeepsBut P c e
-  then_keeps c d e first second = λ name other. second name other ∙ first name other
+  -- what is left of a write of such a name, whole or cut
+  of_name : (name : List ℕ) (c c' : Contents) → P name → KeepsBut (IsName name) c c' → KeepsBut P c c'
+  of_name name c c' may keeps = keeps_fewer (IsName name) P c c' (λ other same. subst P (sym same) may) keeps
 
   within_keeps : {A : Type 0} (w : Work A) → Within P w → (r : Result A Status) (c c' : Contents) (t t' : List ℕ) → Does w c t r c' t' → KeepsBut P c c'
-  within_keeps (Gives a) inside r c c' t t' h = same_keeps c c' h.1.0
-  within_keeps (Refused why) inside r c c' t t' h = same_keeps c c' h.1
-  within_keeps (Ends status) inside r c c' t t' h = same_keeps c c' h.1.0
-  within_keeps (Writes name bytes rest) inside r c c' t t' (inl x) = λ other not. x.1 other (λ same. not (subst P (sym same) inside.0))
-  within_keeps (Writes name bytes rest) inside r c c' t t' (inr x) = λ other not.
-      within_keeps rest inside.1 r (map.insert c name bytes) c' t t' x other not ∙ insert_keeps c name bytes other (λ same. not (subst P (sym same) inside.0))
-  within_keeps (Puts text rest) inside r c c' t t' (inl x) = same_keeps c c' x.1
+  within_keeps (Gives a) inside r c c' t t' h = keeps_all P c c' h.1.0
+  within_keeps (Refused why) inside r c c' t t' h = keeps_all P c c' h.1
+  within_keeps (Ends status) inside r c c' t t' h = keeps_all P c c' h.1.0
+  within_keeps (Writes name bytes rest) inside r c c' t t' (inl x) = of_name name c c' inside.0 (keeps_write name c c' x.1)
+  within_keeps (Writes name bytes rest) inside r c c' t t' (inr x) =
+      keeps_then P c (with_content c name bytes) c' (of_name name c (with_content c name bytes) inside.0 (keeps_with name bytes c))
+      (within_keeps rest inside.1 r (with_content c name bytes) c' t t' x)
+  within_keeps (Puts text rest) inside r c c' t t' (inl x) = keeps_all P c c' x.1
   within_keeps (Puts text rest) inside r c c' t t' (inr x) = within_keeps rest inside r c c' (t ++ text) t' x
-  within_keeps (Finds Q next) inside r c c' t t' (inl x) = same_keeps c c' x.1.0
+  within_keeps (Finds Q next) inside r c c' t t' (inl x) = keeps_all P c c' x.1.0
   within_keeps (Finds Q next) inside r c c' t t' (inr x) = within_keeps (next x.found) (inside x.found) r c c' t t' x.goes
 
   within_then : {A B : Type 0} (w : Work A) (f : A → Work B) → Within P w → ((a : A) → Within P (f a)) → Within P (then w f)
@@ -114,7 +113,7 @@ module _ (P : List ℕ → Type 0) where
   size_within name bytes true = tt
   size_within name bytes false = tt
 
-  bytes_within : (name : List ℕ) (content : Option (List ℕ)) → Within P (bytes_of name content)
+  bytes_within : (name : List ℕ) (found : Option (List ℕ)) → Within P (bytes_of name found)
   bytes_within name None = tt
   bytes_within name (Some bytes) = size_within name bytes _
 
@@ -270,44 +269,45 @@ module _ (to text : List ℕ) (r : Result Finished Status) (c : Contents) (t : L
   abbrev Left : List ℕ → Type 0
   Left name = MayLeave r × (name ≡ to)
 
+  all_left : (bytes : List ℕ) → MayLeave r → c' ≡ with_content c to bytes → KeepsBut Left c c'
+  all_left bytes may is = subst (KeepsBut Left c) (sym is) (of_name Left to c (with_content c to bytes) (may, refl) (keeps_with to bytes c))
+
   written_keeps : (o : Result (List ℕ) WriteFault) → Does (then (final_by to o) (λ done. puts text)) c t r c' t' → KeepsBut Left c c'
   unfolding writes puts
-  written_keeps (Ok bytes) (inl x) = λ name not. x.1 name (λ same. not (cut_leaves r x.0, same))
-  written_keeps (Ok bytes) (inr (inl x)) = λ name not.
-      ap (λ (d : Contents). map.get d name) x.1 ∙ insert_keeps c to bytes name (λ same. not (cut_leaves r x.0, same))
-  written_keeps (Ok bytes) (inr (inr (g, s))) = λ name not.
-      ap (λ (d : Contents). map.get d name) s.0 ∙ insert_keeps c to bytes name (λ same. not (end_leaves r g, same))
-  written_keeps (Err (fault.Large size)) (g, s) = same_keeps Left c c' s
-  written_keeps (Err fault.NoMemory) (g, s) = same_keeps Left c c' s.0
+  written_keeps (Ok bytes) (inl x) = of_name Left to c c' (cut_leaves r x.0, refl) (keeps_write to c c' x.1)
+  written_keeps (Ok bytes) (inr (inl x)) = all_left bytes (cut_leaves r x.0) x.1
+  written_keeps (Ok bytes) (inr (inr (g, s))) = all_left bytes (end_leaves r g) s.0
+  written_keeps (Err (fault.Large size)) (g, s) = keeps_all Left c c' s
+  written_keeps (Err fault.NoMemory) (g, s) = keeps_all Left c c' s.0
 
   told_keeps : (e : PlayEnd) (area : PlainArea) → Does (ends_by e to area text) c t r c' t' → KeepsBut Left c c'
   unfolding puts final_written
   told_keeps Done area does = written_keeps (outcome_of (written (tree_back area))) does
-  told_keeps OutOfEntries area (inl x) = same_keeps Left c c' x.1
-  told_keeps OutOfEntries area (inr (g, s)) = same_keeps Left c c' s.0
-  told_keeps StoppedInside area (inl x) = same_keeps Left c c' x.1
-  told_keeps StoppedInside area (inr (g, s)) = same_keeps Left c c' s.0
-  told_keeps Paused area (inl x) = same_keeps Left c c' x.1
-  told_keeps Paused area (inr (g, s)) = same_keeps Left c c' s.0
+  told_keeps OutOfEntries area (inl x) = keeps_all Left c c' x.1
+  told_keeps OutOfEntries area (inr (g, s)) = keeps_all Left c c' s.0
+  told_keeps StoppedInside area (inl x) = keeps_all Left c c' x.1
+  told_keeps StoppedInside area (inr (g, s)) = keeps_all Left c c' s.0
+  told_keeps Paused area (inl x) = keeps_all Left c c' x.1
+  told_keeps Paused area (inr (g, s)) = keeps_all Left c c' s.0
 
 -- ---- the state that is left
 
 module _ (name : List ℕ) (r : Result Finished Status) (c : Contents) (t : List ℕ) (c' : Contents) (t' : List ℕ) where
   state_keeps : (large : Bool) (bytes : List ℕ) (entries : ℕ) → Does (state_by large name bytes entries) c t r c' t' → KeepsBut (λ other. MayLeave r × (other ≡ name)) c c'
   unfolding state_told
-  state_keeps true bytes entries (g, s) = same_keeps (λ other. MayLeave r × (other ≡ name)) c c' s
+  state_keeps true bytes entries (g, s) = keeps_all (λ other. MayLeave r × (other ≡ name)) c c' s
   state_keeps false bytes entries does = written_keeps name (saved_line name entries) r c t c' t' (Ok bytes) does
 
   at_keeps : (h : HeaderFile) (file : List ℕ) (p : Plan) (scripts : List Script) (q : Progress Saved) → Does (saves_at h file p scripts name q) c t r c' t'
       → KeepsBut (λ other. MayLeave r × (other ≡ name)) c c'
   unfolding saves_at state_written
-  at_keeps h file p scripts q (inl x) = same_keeps (λ other. MayLeave r × (other ≡ name)) c c' x.1.0
+  at_keeps h file p scripts q (inl x) = keeps_all (λ other. MayLeave r × (other ≡ name)) c c' x.1.0
   at_keeps h file p scripts q (inr x) = state_keeps _ (parts_bytes x.found) x.found.taken x.goes
 
   saves_by_keeps : (e : PlayEnd) (h : HeaderFile) (file : List ℕ) (p : Plan) (scripts : List Script) (q : Played Saved) → Does (saves_by e h file p scripts name q) c t r c' t'
       → KeepsBut (λ other. MayLeave r × (other ≡ name)) c c'
-  saves_by_keeps StoppedInside h file p scripts q (inl x) = same_keeps (λ other. MayLeave r × (other ≡ name)) c c' x.1
-  saves_by_keeps StoppedInside h file p scripts q (inr (g, s)) = same_keeps (λ other. MayLeave r × (other ≡ name)) c c' s.0
+  saves_by_keeps StoppedInside h file p scripts q (inl x) = keeps_all (λ other. MayLeave r × (other ≡ name)) c c' x.1
+  saves_by_keeps StoppedInside h file p scripts q (inr (g, s)) = keeps_all (λ other. MayLeave r × (other ≡ name)) c c' s.0
   saves_by_keeps Done h file p scripts q does = at_keeps h file p scripts q.last does
   saves_by_keeps OutOfEntries h file p scripts q does = at_keeps h file p scripts q.last does
   saves_by_keeps Paused h file p scripts q does = at_keeps h file p scripts q.last does
@@ -327,8 +327,8 @@ module _ {H A : Type 0} (table_in : H → EngineTable) (plan : List ℕ) (header
         by_parts : Parts area_work (final h p scripts) d t r d' t' → KeepsBut Changed d d'
         by_parts (ends_first k) = within_keeps Changed area_work area_is_within (Err k.status) d d' t t' k.does
         by_parts (goes_on k) =
-            then_keeps Changed d k.between d' (within_keeps Changed area_work area_is_within (Ok k.value) d k.between t k.taken k.first)
-            (λ name not. final_keeps h p scripts k.value k.between d' k.taken t' k.second name (λ left. not (inr left)))
+            keeps_then Changed d k.between d' (within_keeps Changed area_work area_is_within (Ok k.value) d k.between t k.taken k.first)
+            (keeps_fewer may Changed k.between d' (λ name left. inr left) (final_keeps h p scripts k.value k.between d' k.taken t' k.second))
 
     scripts_keep : (p : Plan) → ReadsPlan c plan p → (h : H) (d d' : Contents) (t t' : List ℕ)
         → Does (then (scripts_listed (table_in h) p.scripts) (λ scripts. then area_work (final h p scripts))) d t r d' t' → KeepsBut Changed d d'
@@ -341,7 +341,7 @@ module _ {H A : Type 0} (table_in : H → EngineTable) (plan : List ℕ) (header
         by_parts : Parts (lists_on (table_in h) [] p.scripts) (λ scripts. then area_work (final h p scripts)) d t r d' t' → KeepsBut Changed d d'
         by_parts (ends_first k) = within_keeps Changed (lists_on (table_in h) [] p.scripts) inside (Err k.status) d d' t t' k.does
         by_parts (goes_on k) =
-            then_keeps Changed d k.between d' (within_keeps Changed (lists_on (table_in h) [] p.scripts) inside (Ok k.value) d k.between t k.taken k.first)
+            keeps_then Changed d k.between d' (within_keeps Changed (lists_on (table_in h) [] p.scripts) inside (Ok k.value) d k.between t k.taken k.first)
             (area_keeps h p k.value k.between d' k.taken t' k.second)
 
     header_keeps : (p : Plan) → ReadsPlan c plan p → (d d' : Contents) (t t' : List ℕ)
@@ -352,7 +352,7 @@ module _ {H A : Type 0} (table_in : H → EngineTable) (plan : List ℕ) (header
         by_parts : Parts header_work (λ h. then (scripts_listed (table_in h) p.scripts) (λ scripts. then area_work (final h p scripts))) d t r d' t' → KeepsBut Changed d d'
         by_parts (ends_first k) = within_keeps Changed header_work header_within (Err k.status) d d' t t' k.does
         by_parts (goes_on k) =
-            then_keeps Changed d k.between d' (within_keeps Changed header_work header_within (Ok k.value) d k.between t k.taken k.first)
+            keeps_then Changed d k.between d' (within_keeps Changed header_work header_within (Ok k.value) d k.between t k.taken k.first)
             (scripts_keep p has k.value k.between d' k.taken t' k.second)
 
     plan_read : (p : Plan) (d : Contents) (t k : List ℕ) → Came (ReadsPlan c plan) (RefusesPlan c plan) c t (Ok p) d k → ReadsPlan c plan p
@@ -370,7 +370,7 @@ module _ {H A : Type 0} (table_in : H → EngineTable) (plan : List ℕ) (header
             → KeepsBut Changed c c'
         by_parts (ends_first k) = within_keeps Changed (plan_named plan) (plan_within Changed plan) (Err k.status) c c' t t' k.does
         by_parts (goes_on k) =
-            then_keeps Changed c k.between c' (within_keeps Changed (plan_named plan) (plan_within Changed plan) (Ok k.value) c k.between t k.taken k.first)
+            keeps_then Changed c k.between c' (within_keeps Changed (plan_named plan) (plan_within Changed plan) (Ok k.value) c k.between t k.taken k.first)
             (header_keeps k.value (plan_read k.value k.between t k.taken (plan_comes c t plan (Ok k.value) k.between k.taken k.first)) k.between c' k.taken t' k.second)
 
 -- ---- the commands that do
@@ -379,7 +379,7 @@ module _ (to : List ℕ) (r : Result Finished Status) where
   -- a play is told, and leaves its area
   tells_keeps : (scripts : List Script) (p : Played Saved) (d d' : Contents) (t t' : List ℕ) → Does (tells to scripts p) d t r d' t'
       → KeepsBut (λ name. MayLeave r × (name ≡ to)) d d'
-  tells_keeps scripts p d d' t t' (inl x) = same_keeps (λ name. MayLeave r × (name ≡ to)) d d' x.1
+  tells_keeps scripts p d d' t t' (inl x) = keeps_all (λ name. MayLeave r × (name ≡ to)) d d' x.1
   tells_keeps scripts p d d' t t' (inr x) =
       told_keeps to (code_end_text scripts p) r d (t ++ trace_text p.last.trace) d' t' p.ending p.last.world.area x
 
@@ -402,13 +402,13 @@ module _ (to : List ℕ) (r : Result Finished Status) where
   resume_keeps cell name c c' t t' does = by_parts (parts (state_named name) (resumes_state cell to) c c' t t' r does)
     where
       found_keeps : (s : StateParts) (d : Contents) (k : List ℕ) → Does (resumes_state cell to s) d k r c' t' → KeepsBut (λ other. MayLeave r × (other ≡ to)) d c'
-      found_keeps s d k (inl x) = same_keeps (λ other. MayLeave r × (other ≡ to)) d c' x.1.0
+      found_keeps s d k (inl x) = keeps_all (λ other. MayLeave r × (other ≡ to)) d c' x.1.0
       found_keeps s d k (inr x) = tells_keeps x.found.scripts (played_rest cell s x.found) d c' k t' x.goes
 
       by_parts : Parts (state_named name) (resumes_state cell to) c t r c' t' → KeepsBut (λ other. MayLeave r × (other ≡ to)) c c'
       by_parts (ends_first k) = within_keeps (λ other. MayLeave r × (other ≡ to)) (state_named name) (state_within (λ other. MayLeave r × (other ≡ to)) name) (Err k.status) c c' t t' k.does
       by_parts (goes_on k) =
-          then_keeps (λ other. MayLeave r × (other ≡ to)) c k.between c'
+          keeps_then (λ other. MayLeave r × (other ≡ to)) c k.between c'
           (within_keeps (λ other. MayLeave r × (other ≡ to)) (state_named name) (state_within (λ other. MayLeave r × (other ≡ to)) name) (Ok k.value) c k.between t k.taken k.first)
           (found_keeps k.value k.between k.taken k.second)
 
@@ -416,7 +416,7 @@ module _ (name : List ℕ) (r : Result Finished Status) where
   first_keeps : (cell : CellLookup) (n : ℕ) (h : HeaderFile) (p : Plan) (scripts : List Script) (a : AreaFile) (d d' : Contents) (t t' : List ℕ)
       → Does (saves_plan cell h p scripts n name a) d t r d' t' → KeepsBut (λ other. MayLeave r × (other ≡ name)) d d'
   unfolding saves_plan
-  first_keeps cell n h p scripts a d d' t t' (inl x) = same_keeps (λ other. MayLeave r × (other ≡ name)) d d' x.1
+  first_keeps cell n h p scripts a d d' t t' (inl x) = keeps_all (λ other. MayLeave r × (other ≡ name)) d d' x.1
   first_keeps cell n h p scripts a d d' t t' (inr x) =
       let first = played_first cell h.table p scripts n (plan_world a.area p) in
       saves_by_keeps name r d (t ++ trace_text first.last.trace) d' t' first.ending h a.bytes p scripts first x
@@ -493,7 +493,7 @@ given_within (Some list) = within_then NoName (names_listed list) (all_behind []
 module _ (form : Form) (r : Result Finished Status) (c c' : Contents) (t t' : List ℕ) (kept : KeepsBut (MayWrite form) c c') where
   parts_change : Parts (tables_given (list_of form)) (work_with form) c t r c' t' → KeepsBut (MayChange form c r) c c'
   parts_change (ends_first k) =
-      same_keeps (MayChange form c r) c c' (still (tables_given (list_of form)) (given_within (list_of form)) (Err k.status) c c' t t' k.does)
+      keeps_all (MayChange form c r) c c' (still (tables_given (list_of form)) (given_within (list_of form)) (Err k.status) c c' t t' k.does)
   parts_change (goes_on k) =
       let same = still (tables_given (list_of form)) (given_within (list_of form)) (Ok k.value) c k.between t k.taken k.first in
       names_change (cell_of k.value) form r c c' k.taken t' kept (subst (λ x. Does (work_with form k.value) x k.taken r c' t') same k.second)

@@ -1,8 +1,7 @@
 -- What the commands do that read one file and tell or write it in another form.
 use Rattle.std.proofs.Common.{inl, inr, ℕ, List, ◌++◌, length, Result, Ok, Err, refl}
-use Rattle.std.specs.FinMap as fin_map
 use Rattle.nwq_value.specs.Engine.{EngineTable}
-use Rattle.nwq_outside.specs.Outside.{Contents}
+use Rattle.nwq_outside.specs.Outside.{Contents, with_content}
 use Rattle.gff_text.specs.Text.{tree_text}
 use Rattle.ncs_code.specs.Plain.{PlainOp}
 use Rattle.ncs_text.specs.Listing.{listing}
@@ -76,7 +75,7 @@ put_does : (text : List ℕ) (c : Contents) (t : List ℕ) → Does (puts text) 
 unfolding puts
 put_does text c t = inr (refl, (refl, refl))
 
-write_does : (name bytes line : List ℕ) (c : Contents) (t : List ℕ) → Does (writes_and_puts name bytes line) c t (Ok tt) (fin_map.insert c name bytes) (t ++ line)
+write_does : (name bytes line : List ℕ) (c : Contents) (t : List ℕ) → Does (writes_and_puts name bytes line) c t (Ok tt) (with_content c name bytes) (t ++ line)
 unfolding writes_and_puts writes puts
 write_does name bytes line c t = inr (inr (refl, (refl, refl)))
 
@@ -104,14 +103,14 @@ module _ {A : Type 0} (w : Work A) (f : A → Work Finished) (sure : IsSure (the
   }
 
   -- a file is written, and told
-  reads_and_writes : (to : List ℕ) (bytes line : A → List ℕ) → ((a : A) → Does (f a) c t (Ok tt) (fin_map.insert c to (bytes a)) (t ++ line a)) → Does (then w f) c t r c' t'
+  reads_and_writes : (to : List ℕ) (bytes line : A → List ℕ) → ((a : A) → Does (f a) c t (Ok tt) (with_content c to (bytes a)) (t ++ line a)) → Does (then w f) c t r c' t'
       → MeansRead Has Refuses (λ a. IsWritten to (bytes a) (line a) c t r c' t') c t r c' t'
   reads_and_writes to bytes line writes does = record {
     comes = one_comes (then_follows f Has Refuses c t r c' t' w come does);
     refused = λ why is. as_refused (then w f) sure why c c c' t t' r whole (refusal_not_cut why) (then_err w f (status_of why) c c t (t ++ line_of why) (refused why is)) does;
     done = λ a h.
-        let same = agree (then w f) sure r (Ok tt) c c' (fin_map.insert c to (bytes a)) t t' (t ++ line a) whole (λ x. x) does
-        (then_ok w f a c c (fin_map.insert c to (bytes a)) t t (t ++ line a) (Ok tt) (reads a h) (writes a)) in
+        let same = agree (then w f) sure r (Ok tt) c c' (with_content c to (bytes a)) t t' (t ++ line a) whole (λ x. x) does
+        (then_ok w f a c c (with_content c to (bytes a)) t t (t ++ line a) (Ok tt) (reads a h) (writes a)) in
         record { answer = same.answer; taken = same.taken; contents = same.contents };
   }
 

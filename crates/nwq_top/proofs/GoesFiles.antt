@@ -3,10 +3,9 @@
 use Rattle.std.proofs.Common.{◌≡◌, ◌≢◌, ◌⊎◌, inl, inr, ℕ, ◌≤◌, List, length, Option, Some, None, Result, Ok, Err, refl, sym, subst, ◌∙◌}
 use Rattle.std.specs.List.{AllByRecursion}
 use Rattle.std.proofs.lemmas.List.Elements.{recursion_from_All}
-use Rattle.std.specs.FinMap as map
 use Rattle.nwq_value.specs.Limits.{file_limit}
 use Rattle.nwq_value.specs.Engine.{EngineTable}
-use Rattle.nwq_outside.specs.Outside.{Contents, ContentsAreBytes}
+use Rattle.nwq_outside.specs.Outside.{Contents, ContentsAreBytes, content}
 use Rattle.gff_bytes.specs.File.{open_fault}
 use Rattle.gff_bytes.specs.declared.rows.OpenFault.{OpenFault}
 use Rattle.gff_tree.specs.Whole.{PlainGff}
@@ -114,7 +113,7 @@ pub data IsSomeFile (bytes : List ℕ) : Type 0 where
 
 -- so is each file
 abbrev pub AreFiles : Contents → Type 0
-AreFiles c = (name bytes : List ℕ) → map.get c name ≡ Some bytes → IsSomeFile bytes
+AreFiles c = (name bytes : List ℕ) → content c name ≡ Some bytes → IsSomeFile bytes
 
 pub files_of_bytes : (c : Contents) → ContentsAreBytes c → AreFiles c
 unfolding ContentsAreBytes

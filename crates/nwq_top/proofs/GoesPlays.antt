@@ -1,14 +1,9 @@
 -- Plans, areas, listed scripts and plays: it can't be that they come to no end.
 use Rattle.std.proofs.Common.{◌≡◌, ℕ, nat_lt, min, ◌-◌, ◌^◌, Bool, true, false, cond, List, [], ◌∷◌, ◌++◌, length, Option, Some, Result, Ok, Err, refl, sym, subst, ◌∙◌, append_assoc}
 use Rattle.std.proofs.lemmas.List.{append-nil}
-use Rattle.std.proofs.lemmas.Option.{same_Some}
-use Rattle.std.proofs.lemmas.Cmp.{nat_list_cmp_total}
-use Rattle.std.specs.Cmp.Lexicographic.{slice_cmp}
-use Rattle.std.specs.Ordering.{nat_cmp, is_eq}
-use Rattle.std.specs.FinMap as map
 use Rattle.nwq_value.specs.Limits.{file_limit}
 use Rattle.nwq_value.specs.Engine.{EngineTable, IsTable}
-use Rattle.nwq_outside.specs.Outside.{Contents, ContentsAreBytes}
+use Rattle.nwq_outside.specs.Outside.{Contents, ContentsAreBytes, with_content}
 use Rattle.gff_tree.specs.Whole.{PlainGff}
 use Rattle.gff_write.specs.declared.fault.WriteFault.TheVariants as write_fault
 use Rattle.gff_write.specs.File.{written, outcome_of}
@@ -48,13 +43,14 @@ use Rattle.command_play.specs.Games as games
 use Rattle.command_play.specs.Games.{tells, plays_plan, plays_area, plays_scripts, plays_under}
 use Rattle.command_save.specs.Resumes.{StateFate, IsStateFate, Whole, Stops, Unfit, whole, state_by, state_in, state_named, resumes_from, resumes_state, resumes}
 use Rattle.play_save.specs.Rules.{IsAccepted}
+use Rattle.play_save.specs.Written.{CodeIsBytes}
 use Rattle.command_meaning.specs.Units.{code_of, Passes, UnitsPass}
 use Rattle.command_meaning.specs.Scripts.{HoldBytes, ScriptsHaveUnits}
 use Rattle.nwq_top.specs.Accepting as accepting
 use Rattle.nwq_top.specs.Accepting.{HasHeader, HasCode, HasLine, HasScripts, ReadsPlan, with_file}
 use Rattle.nwq_top.proofs.Headers.{is_table}
 use Rattle.nwq_top.proofs.Sources.{IsMade}
-use Rattle.nwq_top.proofs.Listing.{still_bytes}
+use Rattle.nwq_top.proofs.Held.{held_after, still_bytes}
 use Rattle.nwq_top.proofs.Running.{source_bytes}
 use Rattle.nwq_top.proofs.Undeniable.{Undeniable, surely, with_it}
 use Rattle.nwq_top.proofs.Going.{Goes, Anything, Still, goes_weaker, goes_next, goes_both, file_goes}
@@ -125,22 +121,14 @@ pub record AreFine (c : Contents) : Type 0 where
 pub fine_bytes : (c : Contents) → ContentsAreBytes c → AreFine c
 fine_bytes c held = record { sources = source_bytes c held; files = files_of_bytes c held }
 
-one_file : (b : Bool) (file bytes : List ℕ) (other : Option (List ℕ)) → IsSomeFile file → (other ≡ Some bytes → IsSomeFile bytes) → cond b (Some file) other ≡ Some bytes → IsSomeFile bytes
-one_file true file bytes other h k is = subst IsSomeFile (same_Some file bytes is) h
-one_file false file bytes other h k is = k is
-
-files_more : (c : Contents) (name file : List ℕ) → IsSomeFile file → AreFiles c → AreFiles (map.insert c name file)
-files_more c name file h held other bytes is =
-    one_file (is_eq (slice_cmp nat_cmp other name)) file bytes (map.get c other) h (held other bytes) (sym (map.get-insert nat_list_cmp_total c name file other) ∙ is)
-
-fine_more : (c : Contents) (script : List ℕ) (unit : TypedUnit) (table : EngineTable) → Passes table unit → AreFine c → AreFine (with_file c script unit)
-fine_more c script unit table pass fine = record {
-  sources = still_bytes c script unit fine.sources;
-  files = files_more c (code_name script) (unit_file unit) (is_code (code_of unit) pass.loads refl) fine.files;
+fine_more : CodeIsBytes → (c : Contents) (script : List ℕ) (unit : TypedUnit) (table : EngineTable) → Passes table unit → AreFine c → AreFine (with_file c script unit)
+fine_more bytes_of c script unit table pass fine = record {
+  sources = still_bytes bytes_of c script unit pass.loads fine.sources;
+  files = λ other bytes is. held_after IsSomeFile c (code_name script) (unit_file unit) (is_code (code_of unit) pass.loads refl) other bytes (fine.files other bytes) is;
 }
 
 module _ (header : OneHeader) (some : SomeSplit) (trees : TreeOrPlace) (right : VerdictsAreRight) (settled : NoneKeptIsTyped) (pass : UnitsPass) (have : ScriptsHaveUnits)
-    (reads : HeadersHaveTables) (own : BuiltInIsTable) (sizes : SizeLaws) (places : PlaceLaws) where
+    (reads : HeadersHaveTables) (own : BuiltInIsTable) (sizes : SizeLaws) (places : PlaceLaws) (bytes_of : CodeIsBytes) where
   module _ (table : EngineTable) (kept : IsTable table) where
     -- the line lists these instructions, and leaves fine files
     record IsLined (line : ScriptLine) (c : Contents) (ops : List PlainOp) (d : Contents) : Type 0 where
@@ -155,13 +143,13 @@ module _ (header : OneHeader) (some : SomeSplit) (trees : TreeOrPlace) (right : 
         let passes = made_passes header some trees right settled pass have reads own table c name bytes kept fine.sources made in
         let has : HasLine table c line (playable line (code_of made.unit)) (with_file c name made.unit) =
         accepting.source e made.unit (record { script = made.script; small = made.small; passes = passes }) in
-        subst (λ x. Goes (loaded_in table (code_name name) bytes) (map.insert x (code_name name) bytes) (IsLined line c)) (sym same)
-        (subst (λ b. Goes (loaded_in table (code_name name) b) (map.insert c (code_name name) b) (IsLined line c)) (sym made.is)
+        subst (λ x. Goes (loaded_in table (code_name name) bytes) (with_content x (code_name name) bytes) (IsLined line c)) (sym same)
+        (subst (λ b. Goes (loaded_in table (code_name name) b) (with_content c (code_name name) b) (IsLined line c)) (sym made.is)
         (goes_weaker (loaded_in table (code_name name) (unit_file made.unit)) (with_file c name made.unit) (Still (with_file c name made.unit) (λ ops. ops ≡ code_of made.unit))
         (IsLined line c) (loaded_goes table (code_name name) made.unit (with_file c name made.unit) passes)
         (λ ops d k. record {
           has = subst (λ x. HasLine table c line (playable line ops) x) (sym k.0) (subst (λ os. HasLine table c line (playable line os) (with_file c name made.unit)) (sym k.1) has);
-          fine = subst AreFine (sym k.0) (fine_more c name made.unit table passes fine);
+          fine = subst AreFine (sym k.0) (fine_more bytes_of c name made.unit table passes fine);
         })))
 
     source_goes : (line : ScriptLine) (c : Contents) → line.binary ≡ false → AreFine c → Goes (source_named table line.name) c (IsLined line c)

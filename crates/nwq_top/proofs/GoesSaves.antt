@@ -152,7 +152,7 @@ module _ (header : OneHeader) (some : SomeSplit) (trees : TreeOrPlace) (right : 
   scripts_save p is_plan h is_header =
       let kept : IsTable h.table = is_table reads own c word h.table held (header_of_file c word h is_header) in
       goes_both (scripts_listed h.table p.scripts) (saves_area cell h area p n name) c (λ scripts d. HasScripts h.table p.scripts c scripts d) Anything
-      (listed_goes header some trees right settled pass have reads own sizes places h.table kept p.scripts c (fine_bytes c held)) (area_saves p is_plan h is_header)
+      (listed_goes header some trees right settled pass have reads own sizes places code h.table kept p.scripts c (fine_bytes c held)) (area_saves p is_plan h is_header)
 
   header_saves : (p : Plan) (d : Contents) → Still c (ReadsPlan c plan) p d → Undeniable (Goes (saves_under cell word area n name p) d Anything)
   unfolding saves_under

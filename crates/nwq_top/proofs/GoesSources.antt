@@ -5,7 +5,7 @@ use Rattle.std.specs.FinMap as map
 use Rattle.nwq_value.specs.Limits.{file_limit}
 use Rattle.nwq_value.specs.Engine.{EngineTable, IsTable}
 use Rattle.nwq_value.specs.HeaderTable.{header_table}
-use Rattle.nwq_outside.specs.Outside.{Contents, ContentsAreBytes}
+use Rattle.nwq_outside.specs.Outside.{Contents, ContentsAreBytes, content}
 use Rattle.nss_lexer.specs.Splitting.{Lexeme, SomeSplit}
 use Rattle.nss_tree.specs.Source.{SourceTree}
 use Rattle.nss_symbols.specs.Nest.{IsFirstOver, IsWithinNest}
@@ -105,19 +105,19 @@ module _ (header : OneHeader) where
 module _ (some : SomeSplit) (trees : TreeOrPlace) (name : List ℕ) (c : Contents) where
   -- the script is one that the files hold
   abbrev IsHeld : PlainScript → Type 0
-  IsHeld script = IsUnitFate (map.get c) name (units.Whole script)
+  IsHeld script = IsUnitFate (content c) name (units.Whole script)
 
   abbrev UnitGoes : UnitFate → Type 0
   UnitGoes fate = Goes (unit_by fate) c (Still c IsHeld)
 
   abbrev Fated : Type 0
-  Fated = (fate : UnitFate) × IsUnitFate (map.get c) name fate × UnitGoes fate
+  Fated = (fate : UnitFate) × IsUnitFate (content c) name fate × UnitGoes fate
 
-  module _ (tokens : List Lexeme) (files : List Source) (unit : IsUnit (map.get c) name tokens files None) where
+  module _ (tokens : List Lexeme) (files : List Source) (unit : IsUnit (content c) name tokens files None) where
     tree_fated : IsWithinNest (grammar_symbols tokens)
         → ((x : SourceTree) × Parses (grammar_symbols tokens) x) ⊎ ((i : ℕ) × IsPlace (grammar_symbols tokens) i) → Fated
     tree_fated within (inl (tree, parses)) =
-        let is : IsUnitFate (map.get c) name (units.Whole (record { tokens = tokens; files = files; tree = tree })) =
+        let is : IsUnitFate (content c) name (units.Whole (record { tokens = tokens; files = files; tree = tree })) =
         units.whole (record { tokens = tokens; files = files; tree = tree }) unit within parses in
         (units.Whole (record { tokens = tokens; files = files; tree = tree }), is, (refl, is))
     tree_fated within (inr (i, place)) = (units.Faulty cause.Syntax (spot_at files tokens i), units.syntax tokens files i unit within place, tt)
@@ -129,7 +129,7 @@ module _ (some : SomeSplit) (trees : TreeOrPlace) (name : List ℕ) (c : Content
     whole_fated : Fated
     whole_fated = nest_fated (nest_comes (grammar_symbols tokens))
 
-  unit_fated : (tokens : List Lexeme) (files : List Source) (ending : Option GatherFault) → IsUnit (map.get c) name tokens files ending → IsTold ending → Fated
+  unit_fated : (tokens : List Lexeme) (files : List Source) (ending : Option GatherFault) → IsUnit (content c) name tokens files ending → IsTold ending → Fated
   unit_fated tokens files None unit told = whole_fated tokens files unit
   unit_fated tokens files (Some (gather.Missing file)) unit told = (units.Lacks file, units.lacks tokens files file unit, tt)
   unit_fated tokens files (Some (gather.Long file)) unit told = (units.Exceeds file, units.exceeds tokens files file unit, tt)
@@ -141,7 +141,7 @@ module _ (some : SomeSplit) (trees : TreeOrPlace) (name : List ℕ) (c : Content
 
   unit_goes : Goes (unit_of name) c (Still c IsHeld)
   unfolding unit_of
-  unit_goes = let u = unit_comes some (map.get c) name in unit_fated u.tokens u.files u.ending u.is u.told
+  unit_goes = let u = unit_comes some (content c) name in unit_fated u.tokens u.files u.ending u.is u.told
 
 -- ---- its typed unit, and its file
 
@@ -162,14 +162,14 @@ module _ (right : VerdictsAreRight) (settled : NoneKeptIsTyped) (header : Engine
       (unit_file unit, refl, (refl, record { unit = unit; script = is; small = ltb-false file_limit (length (unit_file unit)) e; is = refl }))
 
   module _ (some : SomeSplit) (trees : TreeOrPlace) (name : List ℕ) (c : Contents) where
-    typed_goes : (script : PlainScript) → IsUnitFate (map.get c) name (units.Whole script) → (unit : TypedUnit) (d : Contents) → Still c (TypesUnit header script.tree) unit d
+    typed_goes : (script : PlainScript) → IsUnitFate (content c) name (units.Whole script) → (unit : TypedUnit) (d : Contents) → Still c (TypesUnit header script.tree) unit d
         → Goes (file_in script.files unit) d (Still c (IsMade header c name))
     unfolding file_in
     typed_goes script is unit d (same, types) =
         subst (λ x. Goes (file_in script.files unit) x (Still c (IsMade header c name))) (sym same)
         (sized_goes script.files unit name c (record { script = script; is = is; types = types }) (nat_lt file_limit (length (unit_file unit))) refl)
 
-    script_goes : (script : PlainScript) (d : Contents) → Still c (λ s. IsUnitFate (map.get c) name (units.Whole s)) script d
+    script_goes : (script : PlainScript) (d : Contents) → Still c (λ s. IsUnitFate (content c) name (units.Whole s)) script d
         → Goes (compiled_in header script) d (Still c (IsMade header c name))
     unfolding compiled_in
     script_goes script d (same, is) =
@@ -180,7 +180,7 @@ module _ (right : VerdictsAreRight) (settled : NoneKeptIsTyped) (header : Engine
     pub compiled_goes : Goes (compiled_named header name) c (Still c (IsMade header c name))
     unfolding compiled_named
     compiled_goes =
-        goes_next (unit_of name) (compiled_in header) c (Still c (λ s. IsUnitFate (map.get c) name (units.Whole s))) (Still c (IsMade header c name))
+        goes_next (unit_of name) (compiled_in header) c (Still c (λ s. IsUnitFate (content c) name (units.Whole s))) (Still c (IsMade header c name))
         (unit_goes some trees name c) script_goes
 
 pub loaded_goes : (header : EngineTable) (file : List ℕ) (unit : TypedUnit) (d : Contents) → Passes header unit
@@ -246,7 +246,7 @@ module _ (header : OneHeader) (some : SomeSplit) (trees : TreeOrPlace) (right : 
     compile_goes = goes_next (table_of_word word) (compiles_under script) c (Still c (HasHeader c word)) Anything (table_goes header word c) compile_script_goes
 
   module _ (made : SourcesCompile) (cell : CellLookup) (n : ℕ) (few : n ≤ number_limit) where
-    source_held : map.get (made_files n) (codes "beat.nss") ≡ Some (play_of n).source
+    source_held : content (made_files n) (codes "beat.nss") ≡ Some (play_of n).source
     source_held = map.get-insert nat_list_cmp_total map.empty (codes "beat.nss") (play_of n).source (codes "beat.nss")
 
     pub generate_goes : (c : Contents) → Goes (generates cell n) c Anything

@@ -1,4 +1,5 @@
 mod Headers
+mod Held
 mod Sources
 mod Listing
 mod ListedUnits

@@ -1,16 +1,8 @@
 -- The scripts that a plan lists.
-use Rattle.std.proofs.Common.{arith, ◌≡◌, ◌≢◌, inl, inr, Bool, true, false, cond, ℕ, List, [], ◌∷◌, ◌++◌, map, reverse, slice_get, Option, Some, None, Result, Ok, Err, codes, sym, subst, ap, ◌∙◌, refl, append_assoc}
-use Rattle.std.proofs.lemmas.List.{append-nil, reverse-append}
-use Rattle.std.proofs.lemmas.Cmp.{nat_list_cmp_total}
-use Rattle.std.proofs.lemmas.Slice.Eq.{bytes_eq-Decides}
-use Rattle.std.proofs.lemmas.Map.Text.{is_eq-slice_cmp}
-use Rattle.std.specs.Cmp.Lexicographic.{slice_cmp}
-use Rattle.std.specs.Ordering.{nat_cmp, is_eq}
-use Rattle.std.specs.Char.{to_ascii_lowercase}
-use Rattle.std.specs.FinMap as fin_map
+use Rattle.std.proofs.Common.{◌≡◌, inl, inr, Bool, true, false, ℕ, List, [], ◌∷◌, ◌++◌, map, Result, Ok, Err, sym, subst, ap, ◌∙◌, refl, append_assoc}
+use Rattle.std.proofs.lemmas.List.{append-nil}
 use Rattle.nwq_value.specs.Engine.{EngineTable, IsTable}
-use Rattle.nwq_outside.specs.Outside.{Contents}
-use Rattle.nss_include.specs.Names.{file_name}
+use Rattle.nwq_outside.specs.Outside.{Contents, with_content}
 use Rattle.typing_rules.specs.Typed.{TypedUnit}
 use Rattle.typing_laws.specs.FaultLaws.{LeastIsTheKept}
 use Rattle.ncs_code.specs.Plain.{PlainOp}
@@ -26,6 +18,7 @@ use Rattle.command_work.specs.Parts.{value_or, status_or, makes_does, then_ok, t
 use Rattle.command_work.specs.Outcomes.{agree}
 use Rattle.command_work.specs.Sequences.{Parts, ends_first, goes_on, parts}
 use Rattle.command_work.specs.Comes.{Came, gave, stopped, cut, gives_does, Follows, follows, ends, cuts, then_follows}
+use Rattle.play_save.specs.Written.{CodeIsBytes}
 use Rattle.command_files.specs.Codes.{code_in}
 use Rattle.command_files.specs.Codes as code
 use Rattle.command_files.specs.Checks.{checked_in, loaded_in}
@@ -39,42 +32,15 @@ use Rattle.nwq_top.specs.Accepting.{Compiles, HasCode, with_file, HasLine, HasSc
 use Rattle.nwq_top.specs.Accepting as accepting
 use Rattle.nwq_top.specs.Refusing.{RefusesSource, RefusesBinary, RefusesLine, RefusesScripts, here, later}
 use Rattle.nwq_top.specs.Refusing as refusing
+use Rattle.nwq_top.proofs.Held.{still_bytes}
 use Rattle.nwq_top.proofs.Sources.{IsMade, source_does, source_refuses, source_comes, binary_does, binary_refuses, binary_comes}
 
--- ---- source texts stay bytes where a file of bytecode is written
-
-abbrev letter_or : ℕ → Option ℕ → ℕ
-letter_or n None = n
-letter_or n (Some m) = m
-
-apart_names : (xs ys : List ℕ) → xs ++ codes ".nss" ≡ ys ++ codes ".ncs" → ⊥
-apart_names xs ys e =
-    let same : reverse (codes ".nss") ++ reverse xs ≡ reverse (codes ".ncs") ++ reverse ys =
-    sym (reverse-append xs (codes ".nss")) ∙ ap reverse e ∙ reverse-append ys (codes ".ncs") in
-    let letters : 115 ≡ 99 = ap (λ (l : List ℕ). letter_or 0 (slice_get l 1)) same in
-    absurd (omega (arith, letters))
-
-not_taken : {A : Type 0} (b : Bool) (x y : A) → b ≢ true → cond b x y ≡ y
-not_taken true x y apart = absurd (apart refl)
-not_taken false x y apart = refl
-
--- what is put under a name leaves every other name what it held
-pub insert_keeps : (before : Contents) (name bytes other : List ℕ) → other ≢ name → fin_map.get (fin_map.insert before name bytes) other ≡ fin_map.get before other
-insert_keeps before name bytes other apart =
-    fin_map.get-insert nat_list_cmp_total before name bytes other
-    ∙ not_taken (is_eq (slice_cmp nat_cmp other name)) _ _ (λ same. apart ((bytes_eq-Decides other name).0 (sym (is_eq-slice_cmp other name) ∙ same)))
-
-pub still_bytes : (c : Contents) (script : List ℕ) (unit : TypedUnit) → HoldBytes c → HoldBytes (with_file c script unit)
-unfolding file_name
-still_bytes c script unit held name content is =
-    held name content (sym (insert_keeps c (code_name script) (unit_file unit) (file_name name) (apart_names (map to_ascii_lowercase name) script)) ∙ is)
+-- ---- one line
 
 module _ (header : EngineTable) (c : Contents) (line : ScriptLine) where
-  line_bytes : (script : Script) (d : Contents) → HoldBytes c → HasLine header c line script d → HoldBytes d
-  line_bytes script d held (accepting.source e unit h) = still_bytes c line.name unit held
-  line_bytes script d held (accepting.binary e ops h) = held
-
--- ---- one line
+  line_bytes : CodeIsBytes → (script : Script) (d : Contents) → HoldBytes c → HasLine header c line script d → HoldBytes d
+  line_bytes bytes_of script d held (accepting.source e unit h) = still_bytes bytes_of c line.name unit h.passes.loads held
+  line_bytes bytes_of script d held (accepting.binary e ops h) = held
 
 pub loaded_does : (header : EngineTable) (file : List ℕ) (unit : TypedUnit) (c : Contents) (t : List ℕ) → Passes header unit
     → Does (loaded_in header file (unit_file unit)) c t (Ok (code_of unit)) c t
@@ -142,7 +108,7 @@ module _ (pass : UnitsPass) (units : ScriptsHaveUnits) (sure : SureLoaded) (head
           let h : Compiles header c line.name made.unit = compiles c line.name bytes held made in
           let left : Contents = with_file c line.name made.unit in
           let loads : Does (loaded_in header (code_name line.name) (unit_file made.unit)) left t s d k =
-          subst (λ (b : List ℕ). Does (loaded_in header (code_name line.name) b) (fin_map.insert c (code_name line.name) b) t s d k) made.is does in
+          subst (λ (b : List ℕ). Does (loaded_in header (code_name line.name) b) (with_content c (code_name line.name) b) t s d k) made.is does in
           let same = agree (loaded_in header (code_name line.name) (unit_file made.unit)) (sure header (code_name line.name) (unit_file made.unit))
           s (Ok (code_of made.unit)) left d left t k t whole (λ x. x) loads (loaded_does header (code_name line.name) made.unit left t h.passes) in
           has (code_of made.unit) (subst (HasLine header c line (playable line (code_of made.unit))) (sym same.contents) (accepting.source e made.unit h))
@@ -218,7 +184,7 @@ pub data Listings (header : EngineTable) (lines : List ScriptLine) (before : Lis
   all_listed : (scripts : List Script) → HasScripts header lines c scripts c' → r ≡ Ok (before ++ scripts) → t' ≡ t → Listings header lines before c t r c' t'
   one_refused : (why : Refusal) → RefusesScripts header lines c why c' → r ≡ Err (status_of why) → t' ≡ t ++ line_of why → Listings header lines before c t r c' t'
 
-module _ (pass : UnitsPass) (units : ScriptsHaveUnits) (sure : SureLoaded) (least : LeastIsTheKept) (header : EngineTable) (table : IsTable header) where
+module _ (bytes_of : CodeIsBytes) (pass : UnitsPass) (units : ScriptsHaveUnits) (sure : SureLoaded) (least : LeastIsTheKept) (header : EngineTable) (table : IsTable header) where
   module _ (line : ScriptLine) (lines : List ScriptLine) (before : List Script) (c : Contents) (t : List ℕ) (r : Result (List Script) Status)
       (c' : Contents) (t' : List ℕ) (held : HoldBytes c) (whole : IsCut r → ⊥) where
     abbrev All : Type 0
@@ -241,7 +207,7 @@ module _ (pass : UnitsPass) (units : ScriptsHaveUnits) (sure : SureLoaded) (leas
     line_goes value d k on (lists script h p q) =
         let is : value ≡ script = ap (value_or value) p in
         let same : HasLine header c line value d = subst (λ x. HasLine header c line x d) (sym is) h in
-        rest_listed value d k same q (on (line_bytes header c line value d held same))
+        rest_listed value d k same q (on (line_bytes header c line bytes_of value d held same))
     line_goes value d k on (refuses why h p q o) = absurd cc
 
     by_parts : ((script : Script) (d : Contents) (k : List ℕ) → HoldBytes d → Does (lists_on header (before ++ script ∷ []) lines) d k r c' t'

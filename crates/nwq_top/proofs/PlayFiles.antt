@@ -8,6 +8,7 @@ use Rattle.plan_text.specs.declared.plan.Plan.{Plan}
 use Rattle.machine_rules.specs.Machine.{Script}
 use Rattle.typing_laws.specs.FaultLaws.{LeastIsTheKept}
 use Rattle.engine_table.specs.KeptTables.{HeadersHaveTables, BuiltInIsTable}
+use Rattle.play_save.specs.Written.{CodeIsBytes}
 use Rattle.command_work.specs.declared.status.Status.{Status}
 use Rattle.command_work.specs.Refusal.{Refusal, line_of, status_of}
 use Rattle.command_work.specs.Work.{Work, then, IsCut, Does, Finished}
@@ -63,7 +64,7 @@ pub data FilesCome {H A : Type 0} (table_in : H → EngineTable) (HasH : Content
   are_accepted : (h : H) (p : Plan) (scripts : List Script) (a : A) (left : Contents) → Accepted table_in HasH HasA plan c h p scripts a left
       → FilesCome table_in HasH HasA header area plan c
 
-module _ (pass : UnitsPass) (units : ScriptsHaveUnits) (least : LeastIsTheKept) (reads : HeadersHaveTables) (own : BuiltInIsTable)
+module _ (bytes_of : CodeIsBytes) (pass : UnitsPass) (units : ScriptsHaveUnits) (least : LeastIsTheKept) (reads : HeadersHaveTables) (own : BuiltInIsTable)
     (plans : SurePlans) (loaded : SureLoaded) (lists : SureListed) where
   module _ {H A : Type 0} (table_in : H → EngineTable) (header area plan : List ℕ) (header_work : Work H) (HasH : Contents → H → Type 0)
       (by_header : ReadsHeaderBy table_in header_work header HasH) (area_work : Work A) (HasA : Contents → A → Type 0) (by_area : ReadsAreaBy area_work area HasA)
@@ -124,11 +125,11 @@ module _ (pass : UnitsPass) (units : ScriptsHaveUnits) (least : LeastIsTheKept) 
           by_parts : Parts (lists_on (table_in h) [] p.scripts) (area_part h p) c t r c' t' → Comes
           by_parts (ends_first k) =
               scripts_end p h k.status has_plan has_header
-              (scripts_come pass units loaded least (table_in h) (is_table reads own c header (table_in h) held (by_header.has c h has_header)) p.scripts [] c t (Err k.status) c' t'
+              (scripts_come bytes_of pass units loaded least (table_in h) (is_table reads own c header (table_in h) held (by_header.has c h has_header)) p.scripts [] c t (Err k.status) c' t'
               (source_bytes c held) (λ x. whole (subst IsCut (sym k.is) x)) k.does)
           by_parts (goes_on k) =
               scripts_go p h k.value k.between k.taken has_plan has_header k.second
-              (scripts_come pass units loaded least (table_in h) (is_table reads own c header (table_in h) held (by_header.has c h has_header)) p.scripts [] c t (Ok k.value) k.between k.taken
+              (scripts_come bytes_of pass units loaded least (table_in h) (is_table reads own c header (table_in h) held (by_header.has c h has_header)) p.scripts [] c t (Ok k.value) k.between k.taken
               (source_bytes c held) (λ x. x) k.first)
 
       header_follows : (p : Plan) → ReadsPlan c plan p → Follows (scripts_part p) (HasH c) (RefusesHeader c header) c t r c' t' → Comes

@@ -1,8 +1,7 @@
 -- What `play` does.
 use Rattle.std.proofs.Common.{◌≡◌, ℕ, List, ◌++◌, map, Result, Ok, Err, refl, sym, ap, ◌∙◌, inl, inr, append_assoc}
-use Rattle.std.specs.FinMap as fin_map
 use Rattle.nwq_value.specs.Engine.{EngineTable, IsTable}
-use Rattle.nwq_outside.specs.Outside.{Contents, ContentsAreBytes}
+use Rattle.nwq_outside.specs.Outside.{Contents, ContentsAreBytes, with_content}
 use Rattle.gff_write.specs.declared.fault.WriteFault.{WriteFault}
 use Rattle.gff_write.specs.File.{written, outcome_of}
 use Rattle.area_rules.specs.Area.{PlainArea}
@@ -18,6 +17,7 @@ use Rattle.source_meaning.specs.Scripts.{Listed, Setting}
 use Rattle.source_laws.specs.Executing.{script_of}
 use Rattle.typing_laws.specs.FaultLaws.{LeastIsTheKept}
 use Rattle.engine_table.specs.KeptTables.{HeadersHaveTables, BuiltInIsTable}
+use Rattle.play_save.specs.Written.{CodeIsBytes}
 use Rattle.command_work.specs.declared.status.Status.{Status}
 use Rattle.command_work.specs.Refusal.{Refusal}
 use Rattle.command_work.specs.Work.{Work, Puts, then, puts, writes, IsCut, Does, Finished}
@@ -49,7 +49,7 @@ use Rattle.nwq_top.proofs.ListedUnits.{listed_units}
 use Rattle.nwq_top.proofs.NoFaults.{lines_are_stacked}
 use Rattle.nwq_top.proofs.Running.{not_stopped, source_bytes, as_refused}
 
-module _ (pass : UnitsPass) (units : ScriptsHaveUnits) (least : LeastIsTheKept) (reads : HeadersHaveTables) (own : BuiltInIsTable)
+module _ (bytes_of : CodeIsBytes) (pass : UnitsPass) (units : ScriptsHaveUnits) (least : LeastIsTheKept) (reads : HeadersHaveTables) (own : BuiltInIsTable)
     (plans : SurePlans) (tables : SureTables) (loaded : SureLoaded) (lists : SureListed) (areas : SureAreas) (games : SurePlays) where
   module _ (cell : CellLookup) (header area plan to : List ℕ) (c : Contents) (t : List ℕ) (r : Result Finished Status) (c' : Contents) (t' : List ℕ)
       (held : ContentsAreBytes c) (whole : IsCut r → ⊥) where
@@ -82,33 +82,33 @@ module _ (pass : UnitsPass) (units : ScriptsHaveUnits) (least : LeastIsTheKept) 
     play_comes : Does (plays cell header area plan to) c t r c' t' → PlayComes header area plan c
     unfolding plays plays_under plays_scripts plays_area
     play_comes does =
-        as_comes (files_come pass units least reads own plans loaded lists (λ table. table) header area plan (table_of_word header) (λ d. HasHeader d header) header_reading
+        as_comes (files_come bytes_of pass units least reads own plans loaded lists (λ table. table) header area plan (table_of_word header) (λ d. HasHeader d header) header_reading
         (area_named area) (λ d. ReadsArea d area) area_reading final c t r c' t' held whole does)
 
     play_refused : (why : Refusal) (left : Contents) → RefusesPlay header area plan c why left → Does (plays cell header area plan to) c t r c' t' → IsRefused why left t r c' t'
     unfolding plays plays_under plays_scripts plays_area
     play_refused why left is does =
         as_refused (plays cell header area plan to) (games cell header area plan to) why c left c' t t' r whole (refusal_not_cut why)
-        (files_refuse pass units least reads own plans loaded lists (λ table. table) header area plan (table_of_word header) (λ d. HasHeader d header) header_reading
+        (files_refuse bytes_of pass units least reads own plans loaded lists (λ table. table) header area plan (table_of_word header) (λ d. HasHeader d header) header_reading
         (area_named area) (λ d. ReadsArea d area) area_reading final c t why left is) does
 
     play_goes : (table : EngineTable) (p : Plan) (scripts : List Script) (a : PlainArea) (left : Contents) → AcceptsPlay header area plan c table p scripts a left
         → Does (plays cell header area plan to) c t r c' t' → Does (plays_plan cell table a p scripts to) left t r c' t'
     unfolding plays plays_under plays_scripts plays_area
     play_goes table p scripts a left h does =
-        files_go pass units least reads own plans loaded lists (λ x. x) header area plan (table_of_word header) (λ d. HasHeader d header) header_reading
+        files_go bytes_of pass units least reads own plans loaded lists (λ x. x) header area plan (table_of_word header) (λ d. HasHeader d header) header_reading
         (area_named area) (λ d. ReadsArea d area) area_reading final c t r c' t' held whole table p scripts a left
         (record { reads_plan = h.reads_plan; has_header = h.has_header; lists = h.lists; reads_area = h.reads_area }) does
 
   -- the area of a play that is done is written, and then its end is told
   area_done : (to text bytes : List ℕ) (o : Result (List ℕ) WriteFault) (c : Contents) (t : List ℕ) (r : Result Finished Status) (c' : Contents) (t' : List ℕ)
       → o ≡ Ok bytes → (IsCut r → ⊥) → Does (then (final_by to o) (λ done. puts text)) c t r c' t'
-      → (r ≡ Ok tt) × (c' ≡ fin_map.insert c to bytes) × (t' ≡ t ++ text)
+      → (r ≡ Ok tt) × (c' ≡ with_content c to bytes) × (t' ≡ t ++ text)
   unfolding writes puts
   area_done to text bytes (Ok file) c t r c' t' same whole (inl x) = absurd (whole x.0)
   area_done to text bytes (Ok file) c t r c' t' same whole (inr (inl x)) = absurd (whole x.0)
   area_done to text bytes (Ok file) c t r c' t' same whole (inr (inr (is, s))) =
-      let one : file ≡ bytes = cc in (is, s.0 ∙ ap (λ x. fin_map.insert c to x) one, s.1)
+      let one : file ≡ bytes = cc in (is, s.0 ∙ ap (λ x. with_content c to x) one, s.1)
   area_done to text bytes (Err fault) c t r c' t' same whole does = absurd cc
 
   play_done : (to : List ℕ) (s : Setting) (count : ℕ) (p : Played Deferred) (bytes : List ℕ) (e : PlayEnd) (c : Contents) (t : List ℕ) (r : Result Finished Status)
@@ -134,7 +134,7 @@ module _ (pass : UnitsPass) (units : ScriptsHaveUnits) (least : LeastIsTheKept) 
         record { reads_plan = h.reads_plan; has_header = h.has_header; lists = are_scripts table p.scripts c left listed h.lists; reads_area = h.reads_area } in
         let played : PlaysSources cell table a p listed to left t r c' t' = record {
           table = kept;
-          units = λ n l is. let one = listed_units table units p.scripts c left listed (source_bytes c held) h.lists n l is in one.unit;
+          units = λ n l is. let one = listed_units table bytes_of units p.scripts c left listed (source_bytes c held) h.lists n l is in one.unit;
           does = play_goes cell header area plan to c t r c' t' held whole table p (map script_of listed) a left all does;
         } in
         record {

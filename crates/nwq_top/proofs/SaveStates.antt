@@ -1,16 +1,13 @@
 -- There is a state of each play that `save` accepts.
 use Rattle.std.proofs.Common.{arith, ◌≡◌, ◌≢◌, ◌<◌, ℕ, suc, Bool, true, false, cond, List, [], ◌∷◌, length, map, Option, Some, refl, sym, ap, ap₂, ◌∙◌, subst}
-use Rattle.std.proofs.lemmas.Cmp.{nat_list_cmp_total, nat_list_eq_equiv}
+use Rattle.std.proofs.lemmas.Cmp.{nat_list_eq_equiv}
 use Rattle.std.proofs.lemmas.List.Elements.{recursion_from_All}
 use Rattle.std.specs.Prelude.{IsTrue, ◌||◌}
 use Rattle.std.specs.List.{AllByRecursion, IsDistinct}
 use Rattle.std.specs.Str.{bytes_eq}
-use Rattle.std.specs.Cmp.Lexicographic.{slice_cmp}
-use Rattle.std.specs.Ordering.{nat_cmp, is_eq}
-use Rattle.std.specs.FinMap as fin_map
 use Rattle.nwq_value.specs.Engine.{EngineTable}
 use Rattle.nwq_text.specs.Names.{is_script_name}
-use Rattle.nwq_outside.specs.Outside.{Contents, ContentsAreBytes}
+use Rattle.nwq_outside.specs.Outside.{Contents, ContentsAreBytes, content}
 use Rattle.engine_table.specs.KeptTables.{HeadersHaveTables, BuiltInIsTable}
 use Rattle.area_rules.specs.Area.{PlainArea}
 use Rattle.emission_rules.specs.Units.{unit_file}
@@ -43,6 +40,7 @@ use Rattle.nwq_top.specs.Accepting.{HasLine, HasScripts}
 use Rattle.nwq_top.specs.Saves as saving
 use Rattle.nwq_top.specs.Saves.{HasHeaderFile, AcceptsSave}
 use Rattle.nwq_top.proofs.Headers.{header_of_file, is_table}
+use Rattle.nwq_top.proofs.Held.{held_after}
 use Rattle.nwq_top.proofs.NoFaults.{lines_are_stacked}
 
 -- ---- what the files hold is bytes
@@ -51,19 +49,11 @@ abbrev ByteList : List ℕ → Type 0
 ByteList bytes = AllByRecursion (λ b. b < 256) bytes
 
 abbrev AllBytes : Contents → Type 0
-AllBytes c = (name bytes : List ℕ) → fin_map.get c name ≡ Some bytes → ByteList bytes
+AllBytes c = (name bytes : List ℕ) → content c name ≡ Some bytes → ByteList bytes
 
 all_bytes : (c : Contents) → ContentsAreBytes c → AllBytes c
 unfolding ContentsAreBytes
 all_bytes c held name bytes is = recursion_from_All (λ b. b < 256) bytes (held name bytes is)
-
-one_bytes : (b : Bool) (file bytes : List ℕ) (other : Option (List ℕ)) → ByteList file → (other ≡ Some bytes → ByteList bytes) → cond b (Some file) other ≡ Some bytes → ByteList bytes
-one_bytes true file bytes other h k is = let same : file ≡ bytes = cc in subst ByteList same h
-one_bytes false file bytes other h k is = k is
-
-bytes_more : (c : Contents) (name file : List ℕ) → ByteList file → AllBytes c → AllBytes (fin_map.insert c name file)
-bytes_more c name file h held other bytes is =
-    one_bytes (is_eq (slice_cmp nat_cmp other name)) file bytes (fin_map.get c other) h (held other bytes) (sym (fin_map.get-insert nat_list_cmp_total c name file other) ∙ is)
 
 read_blob : (c : Contents) (name bytes : List ℕ) → AllBytes c → IsRead c name bytes → IsBlob bytes
 read_blob c name bytes held is = (let small = is.small in omega (arith, small), held name bytes is.held)
@@ -98,7 +88,8 @@ module _ (code : CodeIsBytes) (table : EngineTable) where
   code_is line c d script (accepting.binary e ops h) = h.code
 
   line_bytes : (line : ScriptLine) (c d : Contents) (script : Script) → HasLine table c line script d → AllBytes c → AllBytes d
-  line_bytes line c d script (accepting.source e unit h) held = bytes_more c (code_name line.name) (unit_file unit) (code (code_of unit) h.passes.loads) held
+  line_bytes line c d script (accepting.source e unit h) held = λ other bytes is.
+      held_after ByteList c (code_name line.name) (unit_file unit) (code (code_of unit) h.passes.loads) other bytes (held other bytes) is
   line_bytes line c d script (accepting.binary e ops h) held = held
 
   record IsListing (lines : List ScriptLine) (c : Contents) (scripts : List Script) (d : Contents) : Type 0 where

@@ -3,10 +3,9 @@ use Rattle.std.proofs.Common.{arith, ◌≡◌, ◌≤◌, ◌<◌, ◌+◌, ◌
 use Rattle.std.proofs.lemmas.Bool.Decides.{eqb_tells}
 use mathlib.Core.List.{append_assoc}
 use Rattle.std.specs.Prelude.{nat_lt, length, min, ◌==◌, if◌then◌else◌}
-use Rattle.std.specs.FinMap as fin_map
 use Rattle.nwq_value.specs.Engine.{EngineTable, IsTable}
 use Rattle.nwq_value.specs.Limits.{file_limit}
-use Rattle.nwq_outside.specs.Outside.{Contents, ContentsAreBytes}
+use Rattle.nwq_outside.specs.Outside.{Contents, ContentsAreBytes, with_content}
 use Rattle.plan_text.specs.declared.plan.Plan.{Plan}
 use Rattle.machine_rules.specs.Machine.{Script}
 use Rattle.saved_state.specs.declared.saved.Saved.{Saved}
@@ -22,6 +21,7 @@ use Rattle.source_laws.specs.Executing.{script_of}
 use Rattle.source_laws.specs.StayAlike.{EntriesKeepAlike}
 use Rattle.typing_laws.specs.FaultLaws.{LeastIsTheKept}
 use Rattle.engine_table.specs.KeptTables.{HeadersHaveTables, BuiltInIsTable}
+use Rattle.play_save.specs.Written.{CodeIsBytes}
 use Rattle.command_work.specs.declared.status.Status.{Status}
 use Rattle.command_work.specs.Refusal.{Refusal}
 use Rattle.command_work.specs.Work.{Work, IsCut, Does, Finished, puts, writes}
@@ -102,7 +102,7 @@ module _ (header : HeaderFile) (file : AreaFile) (plan : Plan) (scripts : List S
   record Wrote (long : Bool) (bytes : List ℕ) (entries : ℕ) (k : List ℕ) : Type 0 where
     short : long ≡ false
     taken : t' ≡ k ++ saved_line name entries
-    contents : c' ≡ fin_map.insert c name bytes
+    contents : c' ≡ with_content c name bytes
 
   wrote : (long : Bool) (bytes : List ℕ) (entries : ℕ) (k : List ℕ) → Does (state_by long name bytes entries) c k r c' t' → Wrote long bytes entries k
   unfolding state_told writes puts
@@ -152,7 +152,7 @@ module _ (header : HeaderFile) (file : AreaFile) (plan : Plan) (scripts : List S
       (comes_so (code_runner (host_of cell header.table scripts) plan.limit) (first_entries n plan) (min n plan.entries) (unplayed (plan_world file.area plan)) (min_below n plan.entries) refl)
       does
 
-module _ (pass : UnitsPass) (units : ScriptsHaveUnits) (least : LeastIsTheKept) (reads : HeadersHaveTables) (own : BuiltInIsTable)
+module _ (bytes_of : CodeIsBytes) (pass : UnitsPass) (units : ScriptsHaveUnits) (least : LeastIsTheKept) (reads : HeadersHaveTables) (own : BuiltInIsTable)
     (plans : SurePlans) (loaded : SureLoaded) (lists : SureListed) (headers : SureHeaderFiles) (areas : SureAreaFiles) (sure : SureSaves) where
   module _ (cell : CellLookup) (header area plan : List ℕ) (n : ℕ) (name : List ℕ) (c : Contents) (t : List ℕ) (r : Result Finished Status) (c' : Contents)
       (t' : List ℕ) (held : ContentsAreBytes c) (whole : IsCut r → ⊥) where
@@ -188,7 +188,7 @@ module _ (pass : UnitsPass) (units : ScriptsHaveUnits) (least : LeastIsTheKept) 
     pub save_comes : Does (saves cell header area plan n name) c t r c' t' → SaveComes header area plan c
     unfolding saves saves_under saves_scripts saves_area
     save_comes does =
-        as_comes (files_come pass units least reads own plans loaded lists table_in header area plan (header_of header) (λ d. HasHeaderFile d header) header_reading
+        as_comes (files_come bytes_of pass units least reads own plans loaded lists table_in header area plan (header_of header) (λ d. HasHeaderFile d header) header_reading
         (area_named area) (λ d. HasAreaFile d area) area_reading final c t r c' t' held whole does)
 
     pub save_refused : (why : Refusal) (left : Contents) → RefusesPlay header area plan c why left → Does (saves cell header area plan n name) c t r c' t'
@@ -196,14 +196,14 @@ module _ (pass : UnitsPass) (units : ScriptsHaveUnits) (least : LeastIsTheKept) 
     unfolding saves saves_under saves_scripts saves_area
     save_refused why left is does =
         as_refused (saves cell header area plan n name) (sure cell header area plan n name) why c left c' t t' r whole (refusal_not_cut why)
-        (files_refuse pass units least reads own plans loaded lists table_in header area plan (header_of header) (λ d. HasHeaderFile d header) header_reading
+        (files_refuse bytes_of pass units least reads own plans loaded lists table_in header area plan (header_of header) (λ d. HasHeaderFile d header) header_reading
         (area_named area) (λ d. HasAreaFile d area) area_reading final c t why left is) does
 
     pub save_goes : (h : HeaderFile) (p : Plan) (scripts : List Script) (a : AreaFile) (left : Contents) → AcceptsSave header area plan c h p scripts a left
         → Does (saves cell header area plan n name) c t r c' t' → Does (saves_plan cell h p scripts n name a) left t r c' t'
     unfolding saves saves_under saves_scripts saves_area
     save_goes h p scripts a left k does =
-        files_go pass units least reads own plans loaded lists table_in header area plan (header_of header) (λ d. HasHeaderFile d header) header_reading
+        files_go bytes_of pass units least reads own plans loaded lists table_in header area plan (header_of header) (λ d. HasHeaderFile d header) header_reading
         (area_named area) (λ d. HasAreaFile d area) area_reading final c t r c' t' held whole h p scripts a left
         (record { reads_plan = k.reads_plan; has_header = k.has_header; lists = k.lists; reads_area = k.reads_area }) does
 
@@ -217,7 +217,7 @@ module _ (pass : UnitsPass) (units : ScriptsHaveUnits) (least : LeastIsTheKept) 
     first_as_meant cell header area plan n name c t r c' t' held whole does h p listed a left k =
         let kept : IsTable h.table = is_table reads own c header h.table held (header_of_file c header h k.has_header) in
         let s : Setting = listing_of cell h.table listed in
-        let one : AreUnitsOf h.table listed = λ m l is. (listed_units h.table units p.scripts c left listed (source_bytes c held) k.lists m l is).unit in
+        let one : AreUnitsOf h.table listed = λ m l is. (listed_units h.table bytes_of units p.scripts c left listed (source_bytes c held) k.lists m l is).unit in
         let so = stops s kept one p.limit (first_entries n p) (plan_world a.area p) (source_plan_world a.area p) (plan_alike keep s a.area p) in
         record {
           does = save_goes cell header area plan n name c t r c' t' held whole h p (map script_of listed) a left

@@ -1,10 +1,9 @@
 -- Scripts that are compiled or refused, and files of bytecode that are checked.
 use Rattle.std.proofs.Common.{arith, ◌≡◌, ◌↔◌, ◌≤◌, inl, inr, Bool, true, false, ℕ, nat_lt, List, ◌++◌, length, Some, None, Result, Ok, Err, sym, subst, ap, refl, le-ltb, lt-ltb}
 use Rattle.std.proofs.lemmas.Bool.Decides.{nat_tests}
-use Rattle.std.specs.FinMap as fin_map
 use Rattle.nwq_value.specs.Limits.{file_limit}
 use Rattle.nwq_value.specs.Engine.{EngineTable}
-use Rattle.nwq_outside.specs.Outside.{Contents}
+use Rattle.nwq_outside.specs.Outside.{Contents, content}
 use Rattle.nss_include.specs.declared.file.Source.{Source}
 use Rattle.typing_rules.specs.declared.fault.Fault.{Fault}
 use Rattle.typing_rules.specs.Nodes.{kept, IsLeast}
@@ -43,12 +42,12 @@ use Rattle.nwq_top.specs.WordLaws.{OneFaultRefuses}
 
 -- the fault that is kept of a unit with a tree is its least one
 as_kept : LeastIsTheKept → (header : EngineTable) (c : Contents) (name : List ℕ) (script : PlainScript) (fault : Fault)
-    → IsUnitFate (fin_map.get c) name (Whole script) → (kept None (unit_faults header script.tree) ≡ Some fault) ↔ IsLeast (FaultInUnit header script.tree) fault
+    → IsUnitFate (content c) name (Whole script) → (kept None (unit_faults header script.tree) ≡ Some fault) ↔ IsLeast (FaultInUnit header script.tree) fault
 as_kept least header c name script fault (units.whole _ unit nest parses) = least header (grammar_symbols script.tokens) script.tree fault parses
 
 -- two of them are one
 one_here : OneLeastFault → (header : EngineTable) (c : Contents) (name : List ℕ) (script : PlainScript) (f g : Fault)
-    → IsUnitFate (fin_map.get c) name (Whole script) → IsLeast (FaultInUnit header script.tree) f → IsLeast (FaultInUnit header script.tree) g → f ≡ g
+    → IsUnitFate (content c) name (Whole script) → IsLeast (FaultInUnit header script.tree) f → IsLeast (FaultInUnit header script.tree) g → f ≡ g
 one_here one header c name script f g (units.whole _ unit nest parses) = one header (grammar_symbols script.tokens) script.tree f g parses
 
 abbrev script_or : PlainScript → UnitFate → PlainScript
@@ -131,7 +130,7 @@ module _ (header : EngineTable) (c : Contents) (t : List ℕ) (name : List ℕ) 
     stops : (why : Refusal) → RefusesSource header c name why → Does {A = List ℕ} (Refused why) c t r c' t' → SourceComes
     stops why refuses does = refusal_comes (IsMade header c name) (RefusesSource header c name) c t r c' t' why refuses does
 
-    sized_comes : (script : PlainScript) → IsUnitFate (fin_map.get c) name (Whole script) → (unit : TypedUnit) → TypesUnit header script.tree unit
+    sized_comes : (script : PlainScript) → IsUnitFate (content c) name (Whole script) → (unit : TypedUnit) → TypesUnit header script.tree unit
         → (b : Bool) → nat_lt file_limit (length (unit_file unit)) ≡ b → Does (file_by script.files b (unit_file unit)) c t r c' t' → SourceComes
     sized_comes script is unit types true e does =
         stops (at_spot cause.Large (spot_of script.files None)) (large script unit is types (grind (arith, nat_tests))) does
@@ -139,19 +138,19 @@ module _ (header : EngineTable) (c : Contents) (t : List ℕ) (name : List ℕ) 
         made_comes (IsMade header c name) (RefusesSource header c name) c t r c' t' (unit_file unit)
         (record { unit = unit; script = record { script = script; is = is; types = types }; small = grind (arith, nat_tests); is = refl }) does
 
-    typed_comes : (script : PlainScript) → IsUnitFate (fin_map.get c) name (Whole script) → (fate : TypingFate) → IsTypingFate header script.tree fate
+    typed_comes : (script : PlainScript) → IsUnitFate (content c) name (Whole script) → (fate : TypingFate) → IsTypingFate header script.tree fate
         → Does (then (typing_by script fate) (file_in script.files)) c t r c' t' → SourceComes
     unfolding file_in
     typed_comes script is (typing.Whole unit) (typing.whole _ types) does = sized_comes script is unit types (nat_lt file_limit (length (unit_file unit))) refl does
     typed_comes script is (typing.Faulty fault) (typing.faulty _ first) does =
         stops (at_token script fault.token (cause_of fault.kind)) (untyped script fault is ((as_kept least header c name script fault is).0 first)) does
 
-    whole_comes : (script : PlainScript) → IsUnitFate (fin_map.get c) name (Whole script) → Does (compiled_in header script) c t r c' t' → SourceComes
+    whole_comes : (script : PlainScript) → IsUnitFate (content c) name (Whole script) → Does (compiled_in header script) c t r c' t' → SourceComes
     unfolding compiled_in typed_in
     whole_comes script is (inl x) = cut x.0
     whole_comes script is (inr h) = typed_comes script is h.found h.is h.goes
 
-    unit_comes : (fate : UnitFate) → IsUnitFate (fin_map.get c) name fate → Does (then (unit_by fate) (compiled_in header)) c t r c' t' → SourceComes
+    unit_comes : (fate : UnitFate) → IsUnitFate (content c) name fate → Does (then (unit_by fate) (compiled_in header)) c t r c' t' → SourceComes
     unit_comes (Whole script) is does = whole_comes script is does
     unit_comes (Lacks file) is does = stops (Absent file) (lacks file is) does
     unit_comes (Exceeds file) is does = stops (TooLong file) (exceeds file is) does

@@ -1,6 +1,5 @@
 -- The work of equal words.
 use Rattle.std.proofs.Common.{◌≡◌, ℕ, List, map, String, Global, string_bytes, Result, Ok, Err, IfErr, sym, ap, subst}
-use Rattle.std.specs.FinMap as fin_map
 use Rattle.nwq_outside.specs.Outside.{Contents}
 use Rattle.world_rules.specs.Pure.{CellLookup}
 use Rattle.command_work.specs.declared.status.Status.{Status}
@@ -8,6 +7,7 @@ use Rattle.command_work.specs.declared.status.Status.TheVariants.{Done}
 use Rattle.command_work.specs.Refusal as refusal
 use Rattle.command_work.specs.Work.{Does, ending, Finished}
 use Rattle.command_work.specs.Counts.{KeepsBut}
+use Rattle.command_work.specs.KeepsLemmas.{keeps_all}
 use Rattle.command_work.specs.Parts.{Refuses, refused}
 use Rattle.command_words.specs.Words.{Form, NoForm, form_of}
 use Rattle.nwq_top.specs.Command.{work_of, MayWrite}
@@ -34,7 +34,7 @@ module _ (form same : Form) where
 
 -- whatever the words, files that are the same keep what they had
 pub form_same : (form : Form) (c c' : Contents) → c' ≡ c → KeepsBut (MayWrite form) c c'
-form_same form c c' same name may_not = ap (λ d. fin_map.get d name) same
+form_same form c c' same = keeps_all (MayWrite form) c c' same
 
 -- words that are no form are refused
 pub no_form_does : (cell : CellLookup) (form : Form) (answer : Status) (c : Contents) (t t' : List ℕ) → form ≡ NoForm

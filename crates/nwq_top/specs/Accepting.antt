@@ -1,11 +1,10 @@
 -- What a command accepts, by what the files hold: headers, scripts, binaries, assembler texts,
 -- plans, trees and areas.
 use Rattle.std.specs.Prelude.{◌≡◌, ◌≤◌, ℕ, true, false, List, [], ◌∷◌, length, codes, bytes_eq}
-use Rattle.std.specs.FinMap as fin_map
 use Rattle.nwq_value.specs.Limits.{file_limit}
 use Rattle.nwq_value.specs.Engine.{EngineTable}
 use Rattle.nwq_value.specs.HeaderTable.{header_table}
-use Rattle.nwq_outside.specs.Outside.{Contents}
+use Rattle.nwq_outside.specs.Outside.{Contents, with_content}
 use Rattle.command_work.specs.Reading.{IsRead}
 use Rattle.engine_table.specs.Headers.{HasTable}
 use Rattle.typing_rules.specs.Typed.{TypedUnit}
@@ -65,7 +64,7 @@ pub record HasCode (header : EngineTable) (c : Contents) (name : List ℕ) (ops 
 
 -- what the files hold when the file of a source was written
 abbrev pub with_file : Contents → List ℕ → TypedUnit → Contents
-with_file c name unit = fin_map.insert c (code_name name) (unit_file unit)
+with_file c name unit = with_content c (code_name name) (unit_file unit)
 
 -- A line of a plan lists this script, and the files hold that then: a source is compiled and its
 -- file written at once, a binary is read.

@@ -1,8 +1,7 @@
 -- What the words `tree FILE`, `check HEADER FILE`, `dis FILE TO` and `asm FILE TO` mean.
 use Rattle.std.specs.Prelude.{◌≡◌, ℕ, List, ◌++◌, length, Result, Ok}
-use Rattle.std.specs.FinMap as fin_map
 use Rattle.nwq_value.specs.Engine.{EngineTable}
-use Rattle.nwq_outside.specs.Outside.{Contents}
+use Rattle.nwq_outside.specs.Outside.{Contents, with_content}
 use Rattle.gff_text.specs.Text.{tree_text}
 use Rattle.ncs_code.specs.Plain.{PlainOp}
 use Rattle.ncs_text.specs.Listing.{listing}
@@ -39,7 +38,7 @@ pub record IsPut (text : List ℕ) (c : Contents) (t : List ℕ) (r : Result Fin
 pub record IsWritten (name bytes line : List ℕ) (c : Contents) (t : List ℕ) (r : Result Finished Status) (c' : Contents) (t' : List ℕ) : Type 0 where
   pub answer : r ≡ Ok tt
   pub taken : t' ≡ t ++ line
-  pub contents : c' ≡ fin_map.insert c name bytes
+  pub contents : c' ≡ with_content c name bytes
 
 -- ---- the four
 

@@ -5,6 +5,7 @@ use Rattle.nwq_outside.specs.Outside.{Contents}
 use Rattle.command_work.specs.declared.status.Status.{Status}
 use Rattle.command_work.specs.Work.{IsCut, Does, Finished}
 use Rattle.command_work.specs.Outcomes.{Agrees, IsPrefix}
+use Rattle.command_work.specs.AmountLemmas.{Amount}
 use Rattle.command_words.specs.Words.{Form}
 use Rattle.command_work.specs.Counts.{KeepsBut}
 use Rattle.nwq_top.specs.Command.{MayWrite, work_of, whole_work}
@@ -31,8 +32,17 @@ abbrev pub WholePrefixes : Type 0
 WholePrefixes = (form : Form) (r s : Result Finished Status) (c d e : Contents) (t u v : List ℕ) → (IsCut s → ⊥)
     → Does (whole_work form) c t r d u → Does (whole_work form) c t s e v → IsPrefix u v
 
--- What a command puts and leaves, cut or not, is a front of what it puts and leaves where it isn't
--- cut.
+-- What a command puts and leaves where it isn't cut is all that its work amounts to: its writes in
+-- order, and its text.
+abbrev pub WorksAmount : Type 0
+WorksAmount = (cell : CellLookup) (form : Form) (r : Result Finished Status) (c c' : Contents) (t t' : List ℕ) → (IsCut r → ⊥)
+    → Does (work_of cell form) c t r c' t' → Amount (work_of cell form) c t r c' t'
+
+abbrev pub WholeAmounts : Type 0
+WholeAmounts = (form : Form) (r : Result Finished Status) (c c' : Contents) (t t' : List ℕ) → (IsCut r → ⊥)
+    → Does (whole_work form) c t r c' t' → Amount (whole_work form) c t r c' t'
+
+-- What it puts and leaves, cut or not, is a front of that.
 abbrev pub CutsLeaveFronts : Type 0
 CutsLeaveFronts = (cell : CellLookup) (form : Form) (r : Result Finished Status) (c c' : Contents) (t t' : List ℕ)
     → Does (work_of cell form) c t r c' t' → IsFrontOf (work_of cell form) c t c' t'

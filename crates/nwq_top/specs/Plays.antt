@@ -1,8 +1,7 @@
 -- What the words `play HEADER AREA PLAN TO` mean.
 use Rattle.std.specs.Prelude.{◌≡◌, ◌≢◌, ◌≤◌, ℕ, ◌*◌, List, ◌++◌, Result, Ok}
-use Rattle.std.specs.FinMap as fin_map
 use Rattle.nwq_value.specs.Engine.{EngineTable}
-use Rattle.nwq_outside.specs.Outside.{Contents}
+use Rattle.nwq_outside.specs.Outside.{Contents, with_content}
 use Rattle.gff_write.specs.File.{written, outcome_of}
 use Rattle.area_rules.specs.Area.{PlainArea}
 use Rattle.area_back.specs.Back.{tree_back}
@@ -67,7 +66,7 @@ pub record IsDone (to : List ℕ) (s : Setting) (count : ℕ) (source : Played D
     (r : Result Finished Status) (c' : Contents) (t' : List ℕ) : Type 0 where
   pub answer : r ≡ Ok tt
   pub taken : t' ≡ t ++ (trace_text source.last.trace ++ source_end_text s count source)
-  pub contents : c' ≡ fin_map.insert c to bytes
+  pub contents : c' ≡ with_content c to bytes
 
 -- What is told, and left of the area, of the play of the listed sources, which `source_plan_played`
 -- gives with so many steps for an entry. The play of their files is `code_plan_played`, with the

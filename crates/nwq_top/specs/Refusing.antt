@@ -1,11 +1,10 @@
 -- Why a command is refused, by what the files hold: exactly where grammar, typing or a stated limit
 -- refuses a header, a script, a plan or an area, and each with its refusal.
 use Rattle.std.specs.Prelude.{◌≡◌, ◌<◌, ℕ, true, false, List, ◌∷◌, ◌++◌, length, None, Result, Err, codes, bytes_eq}
-use Rattle.std.specs.FinMap as fin_map
 use Rattle.nwq_value.specs.Limits.{file_limit}
 use Rattle.nwq_value.specs.Engine.{EngineTable}
 use Rattle.nwq_text.specs.Line.{line_number}
-use Rattle.nwq_outside.specs.Outside.{Contents}
+use Rattle.nwq_outside.specs.Outside.{Contents, content}
 use Rattle.nss_include.specs.declared.fault.Spot.{Spot}
 use Rattle.typing_rules.specs.declared.fault.Fault.{Fault}
 use Rattle.typing_rules.specs.Nodes.{IsLeast}
@@ -67,12 +66,12 @@ pub data RefusesHeader (c : Contents) (word : List ℕ) : Refusal → Type 0 whe
 -- the first row that fits it; or its file would be too large, which is told at the end of the
 -- script's own file.
 pub data RefusesSource (header : EngineTable) (c : Contents) (name : List ℕ) : Refusal → Type 0 where
-  lacks : (file : List ℕ) → IsUnitFate (fin_map.get c) name (units.Lacks file) → RefusesSource header c name (Absent file)
-  exceeds : (file : List ℕ) → IsUnitFate (fin_map.get c) name (units.Exceeds file) → RefusesSource header c name (TooLong file)
-  faulty : (why : Cause) (spot : Spot) → IsUnitFate (fin_map.get c) name (units.Faulty why spot) → RefusesSource header c name (at_spot why spot)
-  untyped : (script : PlainScript) (fault : Fault) → IsUnitFate (fin_map.get c) name (units.Whole script)
+  lacks : (file : List ℕ) → IsUnitFate (content c) name (units.Lacks file) → RefusesSource header c name (Absent file)
+  exceeds : (file : List ℕ) → IsUnitFate (content c) name (units.Exceeds file) → RefusesSource header c name (TooLong file)
+  faulty : (why : Cause) (spot : Spot) → IsUnitFate (content c) name (units.Faulty why spot) → RefusesSource header c name (at_spot why spot)
+  untyped : (script : PlainScript) (fault : Fault) → IsUnitFate (content c) name (units.Whole script)
       → IsLeast (FaultInUnit header script.tree) fault → RefusesSource header c name (at_token script fault.token (cause_of fault.kind))
-  large : (script : PlainScript) (unit : TypedUnit) → IsUnitFate (fin_map.get c) name (units.Whole script) → TypesUnit header script.tree unit
+  large : (script : PlainScript) (unit : TypedUnit) → IsUnitFate (content c) name (units.Whole script) → TypesUnit header script.tree unit
       → file_limit < length (unit_file unit) → RefusesSource header c name (at_spot cause.Large (spot_of script.files None))
 
 -- a file isn't there or is too long, or is no file of bytecode

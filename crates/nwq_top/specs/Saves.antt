@@ -1,9 +1,8 @@
 -- What the words `save HEADER AREA PLAN ENTRIES STATE` and `resume STATE TO` mean.
 use Rattle.std.specs.Prelude.{◌≡◌, ◌≢◌, ◌≤◌, ℕ, ◌*◌, ◌⊎◌, min, true, false, List, [], ◌++◌, codes, bytes_eq, length, map, Result, Ok}
-use Rattle.std.specs.FinMap as fin_map
 use Rattle.nwq_value.specs.Engine.{EngineTable}
 use Rattle.nwq_value.specs.Limits.{file_limit}
-use Rattle.nwq_outside.specs.Outside.{Contents}
+use Rattle.nwq_outside.specs.Outside.{Contents, with_content}
 use Rattle.command_work.specs.Reading.{IsRead, IsUnread}
 use Rattle.engine_table.specs.Headers.{HasTable}
 use Rattle.gff_tree.specs.Whole.{PlainGff}
@@ -122,7 +121,7 @@ pub record IsSaved (header : HeaderFile) (file : AreaFile) (plan : Plan) (script
   pub is : IsStateAt header file.bytes plan scripts p.last state
   pub small : length (parts_bytes state) ≤ file_limit
   pub taken : t' ≡ t ++ (trace_text p.last.trace ++ saved_line name p.last.entries)
-  pub contents : c' ≡ fin_map.insert c name (parts_bytes state)
+  pub contents : c' ≡ with_content c name (parts_bytes state)
   -- so many entries were taken as are asked for and may be, or all that are due
   pub entries : (p.last.entries ≡ min n plan.entries) ⊎ (p.ending ≡ Done)
 

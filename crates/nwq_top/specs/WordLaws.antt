@@ -1,9 +1,8 @@
 -- What the work of words means, where the files hold bytes and the work isn't cut, and that typing
 -- refuses a source at one fault. Each stands on the contract of a function of `word_laws`.
 use Rattle.std.specs.Prelude.{◌≡◌, ◌≤◌, ℕ, List, Result}
-use Rattle.std.specs.FinMap as fin_map
 use Rattle.nwq_value.specs.Engine.{EngineTable}
-use Rattle.nwq_outside.specs.Outside.{Contents, ContentsAreBytes}
+use Rattle.nwq_outside.specs.Outside.{Contents, ContentsAreBytes, content}
 use Rattle.typing_rules.specs.declared.fault.Fault.{Fault}
 use Rattle.typing_rules.specs.Nodes.{IsLeast}
 use Rattle.typing_rules.specs.Meaning.{FaultInUnit}
@@ -66,5 +65,5 @@ GeneratesMean =
 abbrev pub OneFaultRefuses : Type 0
 OneFaultRefuses =
     (header : EngineTable) (c : Contents) (name : List ℕ) (script other : PlainScript) (f g : Fault)
-    → IsUnitFate (fin_map.get c) name (Whole script) → IsLeast (FaultInUnit header script.tree) f
-    → IsUnitFate (fin_map.get c) name (Whole other) → IsLeast (FaultInUnit header other.tree) g → (script ≡ other) × (f ≡ g)
+    → IsUnitFate (content c) name (Whole script) → IsLeast (FaultInUnit header script.tree) f
+    → IsUnitFate (content c) name (Whole other) → IsLeast (FaultInUnit header other.tree) g → (script ≡ other) × (f ≡ g)

@@ -3,7 +3,7 @@
 ghost use Rattle.nwq_top.specs.Answers.{EachHasOutcome, EachWholeHasOutcome, PlainHaveOutcomes};
 ghost use Rattle.nwq_top.specs.Laws.{OneOutcome, Prefixes, OneWhole, WholePrefixes};
 ghost use Rattle.nwq_top.specs.Laws.{CutsLeaveFronts, NamesChange, WholeCutsLeaveFronts};
-ghost use Rattle.nwq_top.specs.Laws.{WholeNamesChange};
+ghost use Rattle.nwq_top.specs.Laws.{WholeAmounts, WholeNamesChange, WorksAmount};
 ghost use Rattle.nwq_top.specs.Meaning.{WorkMeans, WholeMeans};
 
 use crate::word_laws::{
@@ -29,14 +29,16 @@ use play_save::code_is_bytes;
 use play_states::first_entries_have_states;
 use typing_rules::laws::verdicts_are_right;
 
-/// A command that isn't cut has one outcome, and one that is cut has put a prefix of what it puts
-/// whole, and left the files as after a front of what it writes then. So is the whole program,
-/// which reads tables first.
+/// A command that isn't cut has one outcome, which is all that its work amounts to: writes in order,
+/// and a text. One that is cut has put a prefix of that text, and left the files as after a front of
+/// those writes. So is the whole program, which reads tables first.
 pub fn one_outcome()
     ensures one { OneOutcome }
     ensures prefixes { Prefixes }
     ensures whole { OneWhole }
     ensures whole_prefixes { WholePrefixes }
+    ensures amounts { WorksAmount }
+    ensures whole_amounts { WholeAmounts }
     ensures fronts { CutsLeaveFronts }
     ensures whole_fronts { WholeCutsLeaveFronts }
 {

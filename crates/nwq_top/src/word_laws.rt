@@ -19,6 +19,7 @@ use command_save::laws::{fronts_go_on, one_input, one_save, saved_plays_go_on, s
 use command_sources::laws::one_source;
 use engine_table::headers_have_tables;
 use play_inputs::laws::{one_area, one_listing};
+use play_save::code_is_bytes;
 use source_laws::entries_stay_alike;
 use typing_laws::laws::one_least_fault;
 
@@ -26,6 +27,7 @@ use typing_laws::laws::one_least_fault;
 pub fn plans_list_units()
     ensures listed { PlansListUnits }
 {
+    code_is_bytes();
     units_pass();
     scripts_play_units();
     one_check();
@@ -82,6 +84,7 @@ pub fn compiles_mean()
 pub fn plays_mean()
     ensures means { PlaysMean }
 {
+    code_is_bytes();
     units_pass();
     scripts_play_units();
     one_least_fault();
@@ -100,6 +103,7 @@ pub fn plays_mean()
 pub fn saves_mean()
     ensures means { SavesMean }
 {
+    code_is_bytes();
     units_pass();
     scripts_play_units();
     one_least_fault();

@@ -7,7 +7,9 @@ use Rattle.plan_text.specs.declared.plan.Script.{Script as ScriptLine}
 use Rattle.command_work.specs.declared.status.Status.{Status}
 use Rattle.command_work.specs.declared.status.Status.TheVariants.{Memory}
 use Rattle.command_work.specs.Work.{Does, MayBeCut, makes, Finished, file_named, writes}
-use Rattle.command_work.specs.Counts.{Counts, Tallies}
+use Rattle.command_work.specs.Counts.{Counts, Tallies, KeepsBut}
+use Rattle.command_work.specs.Calls.{IsName}
+use Rattle.command_work.specs.KeepsLemmas.{keeps_fewer}
 use Rattle.command_work.specs.Parts.{cut_here, makes_does, may_then, then_ok, then_err}
 use Rattle.command_sources.specs.Units.{unit_of}
 use Rattle.command_files.specs.Codes.{code_named}
@@ -53,3 +55,11 @@ pub counted_on : {A : Type 0} (r : Result A Status) (before between after : Coun
 counted_on r before between after same tallies = subst (λ x. Tallies r x after) same tallies
 
 pub ruleset codes = (written_loaded, not_written, counted_on)
+
+-- ---- what is kept
+
+-- where there is no binary the file of the source may be written
+pub keeps_source : (binary : Bool) (file : List ℕ) (c c1 : Contents) → binary ≡ false → KeepsBut (IsName file) c c1
+    → KeepsBut (λ other. (binary ≡ false) × (other ≡ file)) c c1
+keeps_source binary file c c1 is keeps =
+    keeps_fewer (IsName file) (λ other. (binary ≡ false) × (other ≡ file)) c c1 (λ other same. (is, same)) keeps

@@ -2,10 +2,9 @@
 -- a source's file is written.
 use Rattle.std.proofs.Common.{◌≡◌, ℕ, inl, inr, List, [], ◌∷◌, ◌++◌, true, None, Ok, Err, refl, sym}
 use Rattle.std.specs.Prelude.{codes}
-use Rattle.std.specs.FinMap as map
 use Rattle.nwq_value.specs.Engine.{EngineTable}
 use Rattle.nwq_text.specs.Escape.{escaped, spelling}
-use Rattle.nwq_outside.specs.Outside.{Contents}
+use Rattle.nwq_outside.specs.Outside.{Contents, content}
 use Rattle.plan_text.specs.declared.plan.Script.{Script as ScriptLine}
 use Rattle.command_work.specs.declared.status.Status.TheVariants.{Missing}
 use Rattle.command_work.specs.Work.{Does, Writes, file_named, writes}
@@ -22,7 +21,7 @@ abbrev binary : List ℕ → ScriptLine
 binary name = record { name = name; binary = true }
 
 -- a binary that isn't there is named, and those behind it are left
-missing : (header : EngineTable) (others : List ScriptLine) (c : Contents) (t : List ℕ) → map.get c (codes "b.ncs") ≡ None
+missing : (header : EngineTable) (others : List ScriptLine) (c : Contents) (t : List ℕ) → content c (codes "b.ncs") ≡ None
     → Does (scripts_listed header (binary (codes "b") ∷ others)) c t (Err Missing) c (t ++ codes "missing b.ncs\n")
 unfolding scripts_listed lists_on script_in checked_named code_named file_named escaped spelling
 missing header others c t none = inr (record { found = None; is = sym none; goes = (inl (refl, refl), refl) })

@@ -20,6 +20,7 @@ use Rattle.command_work.specs.declared.status.Status.{Status}
 use Rattle.command_work.specs.declared.status.Status.TheVariants.{Memory}
 use Rattle.command_work.specs.Work.{Does}
 use Rattle.command_work.specs.Counts.{KeepsBut}
+use Rattle.command_work.specs.KeepsLemmas.{keeps_fewer, keeps_then}
 use Rattle.command_work.specs.Parts.{then_ok, then_err}
 use Rattle.command_work.specs.Sequences.{unmade}
 use Rattle.play_inputs.specs.Listings.{code_by, playable, script_in, lists_on, IsOwnFile, IsSourceFile, line_names, loaded_names}
@@ -161,8 +162,8 @@ own_file (l ∷ lines) (suc i) line d name lt is own = inr (own_file lines i lin
 
 pub keeps_on : (lines : List ScriptLine) (i : ℕ) (line d : ScriptLine) (c0 c c1 : Contents) → i < length lines → line ≡ get_or lines i d
     → KeepsBut (IsSourceFile lines) c0 c → KeepsBut (IsOwnFile line) c c1 → KeepsBut (IsSourceFile lines) c0 c1
-keeps_on lines i line d c0 c c1 lt is before now name may_not =
-    now name (λ own. may_not (own_file lines i line d name lt is own)) ∙ before name may_not
+keeps_on lines i line d c0 c c1 lt is before now =
+    keeps_then (IsSourceFile lines) c0 c c1 before (keeps_fewer (IsOwnFile line) (IsSourceFile lines) c c1 (λ name. own_file lines i line d name lt is) now)
 
 -- each line names a script
 pub named_at : (lines : List ScriptLine) (i : ℕ) (line d : ScriptLine) → AreListed lines → i < length lines → line ≡ get_or lines i d → IsTrue (is_script_name line.name)

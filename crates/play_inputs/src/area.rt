@@ -4,6 +4,7 @@ ghost use Rattle.gff_tree.specs.Whole.{plain_gff};
 ghost use Rattle.gff_tree.specs.Count.{node_count};
 ghost use Rattle.area_rules.specs.Area.{area_of};
 ghost use Rattle.area_rules.specs.Broken.{broken_places};
+ghost use Rattle.nwq_outside.specs.Outside.{next};
 ghost use Rattle.command_work.specs.Counts.{Refusing, StopsArea};
 ghost use Rattle.command_work.specs.Calls.{DoesOn, TalliesOn, TalliesPuts, DoesPuts};
 ghost use Rattle.play_inputs.specs.Areas.{area_flaw, area_in, area_named, area_of_bytes, TellsArea};
@@ -87,6 +88,7 @@ pub fn read_area<F: Files, S: Sink>(
         files.old out.old result files.new out.new }
     ensures counts { TalliesOn F.counts S.faults result files.old out.old files.new out.new }
     ensures same { F.contents files.new ≡ F.contents files.old }
+    ensures once { F.reads files.new ≡ next (F.reads files.old) }
     ensures only { IfErr result StopsArea }
 {
     match read_tree(alloc, name, files, out) {

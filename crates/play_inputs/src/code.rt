@@ -57,7 +57,7 @@ fn write_loaded<F: Files, S: Sink>(
 }
 
 /// Compiles the source of this name under a header, and writes its file.
-#[tactic(auto, using(crate::proofs::Steps::steps, crate::proofs::StopLemmas::stops), unfolding(crate::specs::Listings::source_named))]
+#[tactic(auto, using(crate::proofs::Steps::steps, crate::proofs::StopLemmas::stops, command_work::specs::KeepsLemmas::keeps_all), unfolding(crate::specs::Listings::source_named))]
 fn read_source<F: Files, S: Sink>(
     alloc: Global,
     table: &Table,
@@ -83,7 +83,7 @@ fn read_source<F: Files, S: Sink>(
 }
 
 /// The code of the script of this name, which is there as a binary or as a source.
-#[tactic(auto, using(crate::proofs::StopLemmas::stops))]
+#[tactic(auto, using(crate::proofs::StopLemmas::stops, crate::proofs::CodeLemmas::keeps_source, command_work::specs::KeepsLemmas::keeps_all))]
 fn read_by<F: Files, S: Sink>(
     alloc: Global,
     table: &Table,
@@ -111,7 +111,7 @@ fn read_by<F: Files, S: Sink>(
 }
 
 /// The code of the script of a plan's line.
-#[tactic(auto, using(crate::proofs::CodeLemmas::code_wanted))]
+#[tactic(auto, using(crate::proofs::CodeLemmas::code_wanted, command_work::specs::KeepsLemmas::keeps_all))]
 fn read_code<F: Files, S: Sink>(
     alloc: Global,
     table: &Table,
@@ -138,7 +138,7 @@ fn read_code<F: Files, S: Sink>(
 }
 
 /// The script of a plan's line, by which it is played.
-#[tactic(auto, using(crate::proofs::Steps::steps, crate::proofs::CodeLemmas::plays), unfolding(crate::specs::Listings::script_in))]
+#[tactic(auto, using(crate::proofs::Steps::steps, crate::proofs::CodeLemmas::plays, command_work::specs::KeepsLemmas::keeps_all), unfolding(crate::specs::Listings::script_in))]
 pub(crate) fn read_script<F: Files, S: Sink>(
     alloc: Global,
     table: &Table,

@@ -15,7 +15,7 @@ use nwq_value::NoMemory;
 use std::alloc::Global;
 
 /// Writes the one file of a tree under this name.
-#[tactic(auto, using(crate::proofs::FinalLemmas::finals))]
+#[tactic(auto, using(crate::proofs::FinalLemmas::finals, command_work::specs::KeepsLemmas::keeps_all))]
 fn write_tree<F: Files, S: Sink>(
     alloc: Global,
     name: &str,
@@ -39,7 +39,7 @@ fn write_tree<F: Files, S: Sink>(
 }
 
 /// Writes the file of an area, as it is now, under this name.
-#[tactic(auto, using(crate::specs::Wanted::final_cut))]
+#[tactic(auto, using(crate::specs::Wanted::final_cut, command_work::specs::KeepsLemmas::keeps_all))]
 pub fn write_area<F: Files, S: Sink>(
     alloc: Global,
     name: &str,

@@ -19,7 +19,7 @@ use plan_text::Script;
 use std::alloc::Global;
 
 /// Reads the scripts of these lines, one after the other, and puts each last.
-#[tactic(auto)]
+#[tactic(auto, using(command_work::specs::KeepsLemmas::keeps_all))]
 fn list_on<F: Files, S: Sink>(
     alloc: Global,
     table: &Table,

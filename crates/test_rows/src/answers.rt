@@ -108,7 +108,7 @@ impl Outcome {
 }
 
 /// The bytes that are held, none where that is nothing.
-fn made(alloc: Global, held: Held) -> Result<Vec<u8>, NoMemory> {
+pub fn made(alloc: Global, held: Held) -> Result<Vec<u8>, NoMemory> {
     match held {
         Held::Nothing | Held::Something => Ok(Vec::new(alloc)),
         Held::Bytes(bytes) => Ok(Vec::from_slice(alloc, bytes)?),

@@ -9,6 +9,8 @@ mod chains;
 #[cfg(test)]
 mod cuts;
 #[cfg(test)]
+mod disk;
+#[cfg(test)]
 mod files;
 #[cfg(test)]
 mod language;

@@ -3,7 +3,9 @@
 ghost use Rattle.std.specs.Prelude.{map};
 ghost use Rattle.world_core.specs.Calls.{AreServing};
 
-use crate::{chains, cuts, files, language, profile, programs, reads, refusing, scripts, words};
+use crate::{
+    chains, cuts, disk, files, language, profile, programs, reads, refusing, scripts, words,
+};
 use hook_table::Hooks;
 use nwq_value::NoMemory;
 use std::alloc::Global;
@@ -125,6 +127,31 @@ impl Trial for Programs {
     }
 }
 
+/// Commands over a disk in memory.
+struct Disks;
+
+impl Trial for Disks {
+    fn given(&self) -> (Base, &'static str) {
+        (Base::Nothing, "tree a.git")
+    }
+
+    fn refused(&self) -> u8 {
+        10
+    }
+
+    fn first_wrong(
+        &self,
+        alloc: Global,
+        _found: &mut Outcome,
+        hooks: &Hooks,
+    ) -> Result<Option<Place>, NoMemory> {
+        match disk::first_command(alloc, hooks)? {
+            None => Ok(None),
+            Some(row) => Ok(Some((0, 0, row))),
+        }
+    }
+}
+
 /// A hook that finds no memory.
 struct Refusing;
 
@@ -156,6 +183,12 @@ fn top_call(rt: HostRuntime) -> Result<(), Fail> {
 #[test]
 fn whole_program(rt: HostRuntime) -> Result<(), Fail> {
     assert_eq!(rt; first_other(rt.alloc(), &Programs)?, Ok(None));
+    Ok(())
+}
+
+#[test]
+fn commands_over_a_disk(rt: HostRuntime) -> Result<(), Fail> {
+    assert_eq!(rt; first_other(rt.alloc(), &Disks)?, Ok(None));
     Ok(())
 }
 

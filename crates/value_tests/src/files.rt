@@ -1,6 +1,7 @@
 //! Calls on files and their answers, in memory and at the host, and how long a file may be.
 
-use nwq_outside::{Done, Files, MemFiles, Read, RealFiles};
+use crate::host::files_of;
+use nwq_outside::{Done, Files, MemFiles, Read};
 use nwq_value::NoMemory;
 use std::alloc::{AllocError, Global};
 use std::fs;
@@ -93,7 +94,7 @@ fn writes<F: Files>(alloc: Global, files: &mut F, bytes: &[u8], read: Answer<'_>
 }
 
 /// The same as in memory, where the bytes are written.
-fn writes_most<F: Files>(
+pub(crate) fn writes_most<F: Files>(
     alloc: Global,
     files: &mut F,
     bytes: &mut Vec<u8>,
@@ -111,7 +112,7 @@ fn writes_most<F: Files>(
 #[test]
 fn long_files_of_the_host(rt: HostRuntime) -> Result<(), Fail> {
     let mut bytes = vec![in rt.alloc(); 7u8; 16_777_216]?;
-    assert!(rt; writes_most(rt.alloc(), &mut RealFiles::new(&rt), &mut bytes)?);
+    assert!(rt; writes_most(rt.alloc(), &mut files_of(&rt, &rt), &mut bytes)?);
     assert!(rt; matches!(fs::metadata(&rt, "long.bin"), Ok(data) if data.len() == 16_777_217));
     assert!(rt; fs::remove_file(&rt, "long.bin").is_ok());
     Ok(())

@@ -1,8 +1,7 @@
 //! Stories of the host's files, told step by step.
 
 use crate::files::{Call, is_answered};
-use nwq_outside::{RealFiles, Trouble};
-use std::alloc::AllocGlobal;
+use real_files::{HostDisk, RealFiles, Trouble};
 use std::fs::{self, Permissions};
 use std::io::{self, ErrorKind};
 use std::os::unix::fs::{PermissionsExt, symlink};
@@ -89,9 +88,9 @@ fn failed(trouble: Option<&Trouble>, name: &str, kind: ErrorKind) -> bool {
 }
 
 /// Whether a step can be done, or is found to be so.
-fn is_so<R: HostFiles + AllocGlobal>(
+fn is_so<R: HostFiles>(
     rt: &HostRuntime,
-    files: &mut RealFiles<R>,
+    files: &mut RealFiles<HostDisk<R>>,
     step: Step<'_>,
 ) -> bool {
     match step {
@@ -103,13 +102,18 @@ fn is_so<R: HostFiles + AllocGlobal>(
     }
 }
 
+/// The files of this host.
+pub(crate) fn files_of<R: HostFiles>(rt: &HostRuntime, host: R) -> RealFiles<HostDisk<R>> {
+    RealFiles::new(rt.alloc(), HostDisk::new(host, rt.stdout(), rt.stderr()))
+}
+
 /// The place of the first step that isn't so with the files of this host, if there is one.
-pub(crate) fn first_wrong<R: HostFiles + AllocGlobal + Drop>(
+pub(crate) fn first_wrong<R: HostFiles + Drop>(
     rt: &HostRuntime,
     host: R,
     steps: &[Step<'_>],
 ) -> Option<usize> {
-    let mut files = RealFiles::new(host);
+    let mut files = files_of(rt, host);
     for (place, step) in steps.iter().enumerate() {
         if !is_so(rt, &mut files, *step) {
             return Some(place);

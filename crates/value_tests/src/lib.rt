@@ -14,6 +14,8 @@ mod plans;
 #[cfg(test)]
 mod readings;
 #[cfg(test)]
+mod real;
+#[cfg(test)]
 mod refusing;
 #[cfg(test)]
 mod sinks;

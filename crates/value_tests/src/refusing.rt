@@ -9,6 +9,8 @@ use std::rt::Files;
 #[derive(Clone, Copy)]
 pub(crate) enum Refused {
     Rename,
+    /// A rename, as where another file system is mounted on what is there.
+    Mounted,
     /// The bytes of a file from the fourth on.
     FourthByte,
     Sync,
@@ -128,8 +130,9 @@ impl Files for Refusing<'_> {
     fn rename(&self, from: &str, to: &str) -> io::Result<()> {
         match self.refused {
             Refused::Rename | Refused::RenameAndRemoval => {
-                Err(Error::from(ErrorKind::PermissionDenied))
+                Err(Error::from(ErrorKind::StorageFull))
             }
+            Refused::Mounted => Err(Error::from(ErrorKind::ResourceBusy)),
             _ => fs::rename(self.host, from, to),
         }
     }

@@ -5,9 +5,10 @@ use crate::host::{Deed, State, Step, first_wrong};
 use crate::refusing::{Refused, Refusing};
 use nwq_outside::Done;
 use std::alloc::{AllocError, Global};
-use std::fs;
+use std::fs::{self, File};
 use std::io::{self, ErrorKind, Read as _};
 use std::os::fd::AsRawFd;
+use std::os::unix::fs::symlink;
 use std::test::Fail;
 
 /// What is written is read, and read no more once it is removed. A folder is neither.
@@ -38,8 +39,8 @@ const LINKS: &[Step<'static>] = &[
     Step::Calls(Call::Write("linked/open", b"made", Done::Ok)),
     Step::Has("linked/made.txt", b"made"),
     Step::Calls(Call::Write("linked/loop", b"lost", Done::Failed)),
-    Step::Is("linked/nwq-new-0.tmp", State::Gone),
-    Step::Is("nwq-new-0.tmp", State::Gone),
+    Step::Is("linked/0.nwq-new.tmp", State::Gone),
+    Step::Is("0.nwq-new.tmp", State::Gone),
     Step::Does(Deed::RemoveFile("far")),
     Step::Does(Deed::RemoveAll("linked")),
 ];
@@ -47,15 +48,15 @@ const LINKS: &[Step<'static>] = &[
 /// A write passes over the new names that are taken, one of them by a link to a file.
 const TAKEN: &[Step<'static>] = &[
     Step::Does(Deed::Folder("taken")),
-    Step::Does(Deed::File("taken/nwq-new-0.tmp", b"other")),
+    Step::Does(Deed::File("taken/0.nwq-new.tmp", b"other")),
     Step::Does(Deed::File("taken/victim.txt", b"victim")),
-    Step::Does(Deed::Link("taken/nwq-new-1.tmp", "victim.txt")),
+    Step::Does(Deed::Link("taken/1.nwq-new.tmp", "victim.txt")),
     Step::Calls(Call::Write("taken/a.txt", b"a", Done::Ok)),
     Step::Has("taken/a.txt", b"a"),
-    Step::Has("taken/nwq-new-0.tmp", b"other"),
+    Step::Has("taken/0.nwq-new.tmp", b"other"),
     Step::Has("taken/victim.txt", b"victim"),
-    Step::Is("taken/nwq-new-1.tmp", State::Link),
-    Step::Is("taken/nwq-new-2.tmp", State::Gone),
+    Step::Is("taken/1.nwq-new.tmp", State::Link),
+    Step::Is("taken/2.nwq-new.tmp", State::Gone),
     Step::Does(Deed::RemoveAll("taken")),
 ];
 
@@ -69,6 +70,14 @@ const MODES: &[Step<'static>] = &[
     Step::Is("modes/a.txt", State::Mode(0o640)),
     Step::Has("modes/b.txt", b"old"),
     Step::Does(Deed::RemoveAll("modes")),
+];
+
+/// A write of no bytes is one.
+const EMPTY: &[Step<'static>] = &[
+    Step::Does(Deed::File("empty.txt", b"old")),
+    Step::Calls(Call::Write("empty.txt", b"", Done::Ok)),
+    Step::Has("empty.txt", b""),
+    Step::Does(Deed::RemoveFile("empty.txt")),
 ];
 
 /// A folder is not written.
@@ -118,6 +127,7 @@ const STORIES: &[(&str, &[Step<'static>])] = &[
     ("links", LINKS),
     ("taken", TAKEN),
     ("modes", MODES),
+    ("empty", EMPTY),
     ("folder", FOLDER),
     ("device", DEVICE),
     ("nowhere", NOWHERE),
@@ -177,23 +187,23 @@ struct RefusedWrite {
 const REFUSED: &[RefusedWrite] = &[
     RefusedWrite {
         refused: Refused::Rename,
-        kind: ErrorKind::PermissionDenied,
-        left: Step::Is("nwq-new-0.tmp", State::Gone),
+        kind: ErrorKind::StorageFull,
+        left: Step::Is("0.nwq-new.tmp", State::Gone),
     },
     RefusedWrite {
         refused: Refused::FourthByte,
         kind: ErrorKind::StorageFull,
-        left: Step::Is("nwq-new-0.tmp", State::Gone),
+        left: Step::Is("0.nwq-new.tmp", State::Gone),
     },
     RefusedWrite {
         refused: Refused::Sync,
         kind: ErrorKind::StorageFull,
-        left: Step::Is("nwq-new-0.tmp", State::Gone),
+        left: Step::Is("0.nwq-new.tmp", State::Gone),
     },
     RefusedWrite {
         refused: Refused::RenameAndRemoval,
-        kind: ErrorKind::PermissionDenied,
-        left: Step::Has("nwq-new-0.tmp", b"never seen"),
+        kind: ErrorKind::StorageFull,
+        left: Step::Has("0.nwq-new.tmp", b"never seen"),
     },
 ];
 
@@ -214,5 +224,70 @@ fn refused_writes(rt: HostRuntime) {
         ];
         assert_eq!(rt; first_wrong(&rt, host, &steps), None, "write {place}");
     }
-    assert!(rt; fs::remove_file(&rt, "nwq-new-0.tmp").is_ok());
+    assert!(rt; fs::remove_file(&rt, "0.nwq-new.tmp").is_ok());
+}
+
+/// What can't be replaced, as where another file system is mounted on it, is written into.
+#[test]
+fn fixed_files(rt: HostRuntime) {
+    let host = Refusing {
+        host: &rt,
+        refused: Refused::Mounted,
+    };
+    let steps = [
+        Step::Does(Deed::File("fixed.txt", b"the old one")),
+        Step::Does(Deed::Mode("fixed.txt", 0o640)),
+        Step::Calls(Call::Write("fixed.txt", b"new", Done::Ok)),
+        Step::Has("fixed.txt", b"new"),
+        Step::Is("fixed.txt", State::Mode(0o640)),
+        Step::Is("0.nwq-new.tmp", State::Gone),
+        Step::Does(Deed::RemoveFile("fixed.txt")),
+    ];
+    assert_eq!(rt; first_wrong(&rt, host, &steps), None);
+}
+
+/// What is open already takes its bytes at its end, however many slashes its name has.
+#[test]
+fn an_open_file_is_written_at_its_end(rt: HostRuntime) -> Result<(), Fail> {
+    fs::write(&rt, "open.txt", b"text\n")?;
+    let open = File::open(&rt, "open.txt")?;
+    let number = open.as_raw_fd();
+    let name = format!(in rt.alloc(); "//dev//fd/{number}")?;
+    let steps = [
+        Step::Calls(Call::Write(name.as_str(), b"line\n", Done::Ok)),
+        Step::Has("open.txt", b"text\nline\n"),
+        Step::Does(Deed::RemoveFile("open.txt")),
+    ];
+    assert_eq!(rt; first_wrong(&rt, &rt, &steps), None);
+    Ok(())
+}
+
+/// Makes so many links in a chain, in a folder of their own.
+fn chain(rt: &HostRuntime, links: u32) -> Result<(), Fail> {
+    fs::create_dir(rt, "chain")?;
+    for number in 0..links {
+        let next = number + 1;
+        let name = format!(in rt.alloc(); "chain/{number}")?;
+        let to = format!(in rt.alloc(); "{next}")?;
+        symlink(rt, to.as_str(), name.as_str())?;
+    }
+    Ok(())
+}
+
+/// As many links are followed as the system follows.
+#[test]
+fn forty_links_are_followed(rt: HostRuntime) -> Result<(), Fail> {
+    chain(&rt, 41)?;
+    let steps = [
+        Step::Calls(Call::Write("chain/1", b"far", Done::Ok)),
+        Step::Has("chain/41", b"far"),
+        Step::Calls(Call::Read("chain/1", Answer::Bytes(b"far"))),
+        Step::Calls(Call::Write("chain/0", b"lost", Done::Failed)),
+        Step::Failed("chain/0", ErrorKind::FilesystemLoop),
+        Step::Calls(Call::Read("chain/0", Answer::Failed)),
+        Step::Has("chain/41", b"far"),
+        Step::Does(Deed::RemoveAll("chain")),
+    ];
+    assert_eq!(rt; first_wrong(&rt, &rt, &steps), None);
+    Ok(())
 }

@@ -97,6 +97,13 @@ impl<X: Drop> World<X> {
         World { parts, room: 0 }
     }
 
+    /// How many random numbers are left.
+    pub fn random_left(&self) -> usize
+        ensures left { result ≡ length self.now.world.random }
+    {
+        self.parts.random_left()
+    }
+
     /// The area, and what is saved beside it. After `NoMemory` all is dropped.
     pub fn into_parts(self) -> Result<(Area, WorldParts<X>), NoMemory>
         ensures parts { IfOk result (λ both. put_together both.0 both.1

@@ -1,5 +1,5 @@
 //! Random numbers.
-ghost use Rattle.std.specs.Prelude.{◌≡◌};
+ghost use Rattle.std.specs.Prelude.{◌≡◌, length};
 ghost use Rattle.nwq_value.specs.declared.value.Value.TheVariants as value;
 ghost use Rattle.world_rules.specs.Rows.{drawn, gives};
 
@@ -7,6 +7,13 @@ use crate::parts::Parts;
 use world_rules::at_least_zero;
 
 impl<X: Drop> Parts<X> {
+    /// How many random numbers are left.
+    pub fn random_left(&self) -> usize
+        ensures left { result ≡ length self.now.world.random }
+    {
+        self.random.len()
+    }
+
     /// The next of the random numbers modulo `n`: 0 below 1, where none is taken, and once they are
     /// used up.
     #[tactic(auto, using(crate::proofs::RandomLemmas::drawn_by))]

@@ -1,5 +1,5 @@
 use Rattle.command_work.specs.Calls.{IsName}
-use Rattle.command_save.proofs.KeepLemmas.{keeps_all, keeps_after}
+use Rattle.command_work.specs.KeepsLemmas.{keeps_all, keeps_after}
 use Rattle.command_save.proofs.resume.resume_play.Goals as goal
 
 pub returns-in-Err-clause-names : goal.returns-in-Err-clause-names
@@ -7,5 +7,4 @@ returns-in-Err-clause-names g c = keeps_all (IsName c.args.to.now) (g.F.Files.co
 
 pub returns-in-Ok-clause-names : goal.returns-in-Ok-clause-names
 returns-in-Ok-clause-names g c =
-    keeps_after (IsName c.args.to.now) (g.F.Files.contents c.args.files.now) (g.F.Files.contents c.read_state_file.new.files) (g.F.Files.contents c.resume_state.new.files) c.in-Ok.ensures.same
-    c.resume_state.ensures.names
+    keeps_after (IsName c.args.to.now) (g.F.Files.contents c.args.files.now) (g.F.Files.contents c.read_state_file.new.files) (g.F.Files.contents c.resume_state.new.files) c.in-Ok.ensures.same c.resume_state.ensures.names

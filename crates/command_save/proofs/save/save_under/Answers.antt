@@ -1,5 +1,5 @@
+use Rattle.command_work.specs.KeepsLemmas.{keeps_all, keeps_after}
 use Rattle.command_play.specs.Tellings.{IsGameFile}
-use Rattle.command_save.proofs.KeepLemmas.{keeps_all, keeps_after}
 use Rattle.command_save.proofs.save.save_under.Goals as goal
 
 pub returns-in-Err-clause-names : goal.returns-in-Err-clause-names
@@ -7,5 +7,4 @@ returns-in-Err-clause-names g c = keeps_all (IsGameFile c.args.words.state.now) 
 
 pub returns-in-Ok-clause-names : goal.returns-in-Ok-clause-names
 returns-in-Ok-clause-names g c =
-    keeps_after (IsGameFile c.args.words.state.now) (g.F.Files.contents c.args.files.now) (g.F.Files.contents c.read_header.new.files) (g.F.Files.contents c.save_scripts.new.files) c.in-Ok.ensures.same
-    c.save_scripts.ensures.names
+    keeps_after (IsGameFile c.args.words.state.now) (g.F.Files.contents c.args.files.now) (g.F.Files.contents c.read_header.new.files) (g.F.Files.contents c.save_scripts.new.files) c.in-Ok.ensures.same c.save_scripts.ensures.names

@@ -1,5 +1,5 @@
 use Rattle.std.proofs.Common.{◌≡◌, ap, subst}
-use Rattle.std.specs.FinMap as map
+use Rattle.nwq_outside.specs.Outside.{content}
 use Rattle.nss_include.specs.Gather.{HoldsFiles, Claims}
 use Rattle.nss_include.specs.Units.{Lookup}
 use Rattle.nss_include.specs.Progress.{ComesTo}
@@ -11,8 +11,8 @@ returns-in-Err-clause-told g c = λ told. begins-fails _ c.args.name.now c.in-Er
 
 pub returns-in-Err-run-clause-told : goal.returns-in-Err-run-clause-told
 returns-in-Err-run-clause-told g c = λ told.
-    let outside : map.get (g.F.Files.contents c.begin.new.files) ≡ map.get (g.F.Files.contents c.args.files.now) = ap map.get c.in-Ok.ensures.same
-    in begins-stops c.one_first.ensures.one c.some_split.ensures.some _ _ (map.get (g.F.Files.contents c.args.files.now)) c.args.name.now c.in-Ok.gatherer c.in-Err-run.fault
+    let outside : content (g.F.Files.contents c.begin.new.files) ≡ content (g.F.Files.contents c.args.files.now) = ap content c.in-Ok.ensures.same
+    in begins-stops c.one_first.ensures.one c.some_split.ensures.some _ _ (content (g.F.Files.contents c.args.files.now)) c.args.name.now c.in-Ok.gatherer c.in-Err-run.fault
     c.in-Ok.ensures.begins (c.in-Ok.ensures.begins.holds told)
     (subst (λ (o : Lookup). HoldsFiles o c.in-Ok.gatherer.unit.files → Claims c.in-Err-run.fault (ComesTo o c.in-Ok.gatherer c.in-Err-run.fault)) outside
     (c.in-Err-run.ensures.stops told) (c.in-Ok.ensures.begins.holds told))
@@ -24,8 +24,8 @@ returns-in-Ok-run-clause-unit g c = λ lookup held.
 
 pub returns-in-Ok-run-clause-told : goal.returns-in-Ok-run-clause-told
 returns-in-Ok-run-clause-told g c = λ told.
-    let outside : map.get (g.F.Files.contents c.begin.new.files) ≡ map.get (g.F.Files.contents c.args.files.now) = ap map.get c.in-Ok.ensures.same
-    in let lookup : Lookup = map.get (g.F.Files.contents c.args.files.now)
+    let outside : content (g.F.Files.contents c.begin.new.files) ≡ content (g.F.Files.contents c.args.files.now) = ap content c.in-Ok.ensures.same
+    in let lookup : Lookup = content (g.F.Files.contents c.args.files.now)
     in let held = subst (λ (o : Lookup). HoldsFiles o c.in-Ok.gatherer.unit.files → HoldsFiles o c.run.new.self.unit.files) outside
     (c.in-Ok-run.ensures.holds told) (c.in-Ok.ensures.begins.holds told)
     in begins-unit c.one_first.ensures.one c.some_split.ensures.some _ _ lookup c.args.name.now c.in-Ok.gatherer _ _ _ _

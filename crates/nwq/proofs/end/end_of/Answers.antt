@@ -2,8 +2,9 @@ use Rattle.std.proofs.Common.{◌≡◌, Err, IsTrue, refl, rules}
 use Rattle.std.specs.Process.{exit_status}
 use Rattle.command_work.specs.declared.status.Status.TheVariants.{Memory}
 use Rattle.command_work.specs.Work.{Does, IsCut, ending}
+use Rattle.command_work.specs.KeepsLemmas.{keeps_all}
 use Rattle.command_words.specs.Words.{form_of}
-use Rattle.nwq_top.specs.Command.{whole_work}
+use Rattle.nwq_top.specs.Command.{MayWrite, whole_work}
 use Rattle.nwq_top.specs.Cuts.{IsFrontOf}
 use Rattle.nwq_top.specs.Meaning.{MeansWhole}
 use Rattle.nwq_top.specs.Program.{status_numbered, words_of}
@@ -63,3 +64,13 @@ returns-in-NoMemory-clause-cut g c = λ files_tell cut.
     let form = form_in c.args.words in
     told_nothing g.S.Sink.tells (g.S.Sink.taken c.args.out.now.inner) (λ t t'. IsFrontOf (whole_work form) contents t contents t')
     (λ t. c.one_outcome.ensures.whole_fronts form (Err Memory) contents contents t t (whole_cut form Memory contents contents t t tt refl refl))
+
+pub returns-in-NoMemory-clause-names : goal.returns-in-NoMemory-clause-names
+returns-in-NoMemory-clause-names g c =
+    let contents = g.F.Files.contents c.args.files.now in
+    keeps_all (MayWrite (form_in c.args.words)) contents contents refl
+
+pub returns-in-NoMemory-clause-changes : goal.returns-in-NoMemory-clause-changes
+returns-in-NoMemory-clause-changes g c = λ files_tell.
+    let contents = g.F.Files.contents c.args.files.now in
+    keeps_all _ contents contents refl

@@ -1,5 +1,6 @@
 use Rattle.std.proofs.Common.{[], subst}
 use Rattle.command_work.specs.Counts.{KeepsBut}
+use Rattle.command_work.specs.KeepsLemmas.{keeps_all}
 use Rattle.command_words.specs.Words.{form_of}
 use Rattle.nwq_top.specs.Command.{MayWrite}
 use Rattle.nwq_top.specs.Program.{status_numbered, words_of}
@@ -10,6 +11,11 @@ pub returns-in-Err-clause-only : goal.returns-in-Err-clause-only
 returns-in-Err-clause-only g c =
     refusal_comes (form_of (words_of c.args.all.now)) (status_numbered c.in-Err.number) (λ list. none_refused c.in-Err.number [] (c.in-Err.ensures.none list))
     c.in-Err.ensures.only
+
+pub returns-in-Err-clause-names : goal.returns-in-Err-clause-names
+returns-in-Err-clause-names g c =
+    keeps_all (MayWrite (form_of (words_of c.args.all.now))) (g.F.Files.contents c.args.files.now) (g.F.Files.contents c.program_tables.new.files)
+    c.program_tables.ensures.same
 
 pub returns-in-Ok-clause-names : goal.returns-in-Ok-clause-names
 returns-in-Ok-clause-names g c =

@@ -1,4 +1,4 @@
-use Rattle.std.proofs.Common.{map, string_bytes}
+use Rattle.std.proofs.Common.{map, string_bytes, refl}
 use Rattle.world_core.specs.Calls.{cells_of}
 use Rattle.command_words.specs.Words.{Run, Compile, Tree, Check, Disassemble, Assemble, Generate, form_of}
 use Rattle.nwq_top.proofs.WordLemmas.{form_does, form_keeps, form_same, form_stops, no_form_does}
@@ -150,13 +150,57 @@ returns-in-Generate-clause-does g c = λ files_tell sink_tells.
     (g.F.Files.contents c.args.files.now) (g.F.Files.contents c.args.files.now) (g.S.Sink.taken c.args.out.now) (g.S.Sink.taken c.generate.new.out)
     c.in-Generate.ensures.command.0 (c.generate.ensures.does sink_tells (g.F.Files.contents c.args.files.now))
 
+pub returns-in-Generate-clause-names : goal.returns-in-Generate-clause-names
+returns-in-Generate-clause-names g c =
+    form_same (form_of (map string_bytes c.args.words.now)) (g.F.Files.contents c.args.files.now) (g.F.Files.contents c.args.files.now) refl
+
 pub returns-in-Generate-clause-only : goal.returns-in-Generate-clause-only
 returns-in-Generate-clause-only g c =
     form_stops (form_of (map string_bytes c.args.words.now)) (Generate c.in-Generate.number) c.generate.result c.in-Generate.ensures.command.0 tt
     c.generate.ensures.only
+
+pub returns-in-Save-clause-does : goal.returns-in-Save-clause-does
+returns-in-Save-clause-does g c = λ files_tell sink_tells.
+    form_does (form_of (map string_bytes c.args.words.now)) _ (cells_of (map (λ h. h.known) c.args.hooks.now.all.items)) c.save_play.result
+    (g.F.Files.contents c.args.files.now) (g.F.Files.contents c.save_play.new.files) (g.S.Sink.taken c.args.out.now)
+    (g.S.Sink.taken c.save_play.new.out) c.in-Save.ensures.command.0 (c.save_play.ensures.does files_tell sink_tells)
+
+pub returns-in-Save-clause-counts : goal.returns-in-Save-clause-counts
+returns-in-Save-clause-counts g c = c.save_play.ensures.counts
+
+pub returns-in-Save-clause-names : goal.returns-in-Save-clause-names
+returns-in-Save-clause-names g c =
+    form_keeps (form_of (map string_bytes c.args.words.now)) _ (g.F.Files.contents c.args.files.now) (g.F.Files.contents c.save_play.new.files)
+    c.in-Save.ensures.command.0 c.save_play.ensures.names
+
+pub returns-in-Save-clause-only : goal.returns-in-Save-clause-only
+returns-in-Save-clause-only g c =
+    form_stops (form_of (map string_bytes c.args.words.now)) _ c.save_play.result c.in-Save.ensures.command.0 tt c.save_play.ensures.only
+
+pub returns-in-Resume-clause-does : goal.returns-in-Resume-clause-does
+returns-in-Resume-clause-does g c = λ files_tell sink_tells.
+    form_does (form_of (map string_bytes c.args.words.now)) _ (cells_of (map (λ h. h.known) c.args.hooks.now.all.items)) c.resume_play.result
+    (g.F.Files.contents c.args.files.now) (g.F.Files.contents c.resume_play.new.files) (g.S.Sink.taken c.args.out.now)
+    (g.S.Sink.taken c.resume_play.new.out) c.in-Resume.ensures.command (c.resume_play.ensures.does files_tell sink_tells)
+
+pub returns-in-Resume-clause-counts : goal.returns-in-Resume-clause-counts
+returns-in-Resume-clause-counts g c = c.resume_play.ensures.counts
+
+pub returns-in-Resume-clause-names : goal.returns-in-Resume-clause-names
+returns-in-Resume-clause-names g c =
+    form_keeps (form_of (map string_bytes c.args.words.now)) _ (g.F.Files.contents c.args.files.now) (g.F.Files.contents c.resume_play.new.files)
+    c.in-Resume.ensures.command c.resume_play.ensures.names
+
+pub returns-in-Resume-clause-only : goal.returns-in-Resume-clause-only
+returns-in-Resume-clause-only g c =
+    form_stops (form_of (map string_bytes c.args.words.now)) _ c.resume_play.result c.in-Resume.ensures.command tt c.resume_play.ensures.only
 
 pub returns-in-NoForm-clause-does : goal.returns-in-NoForm-clause-does
 returns-in-NoForm-clause-does g c = λ files_tell sink_tells.
     no_form_does (cells_of (map (λ h. h.known) c.args.hooks.now.all.items)) (form_of (map string_bytes c.args.words.now)) c.refuse_form.result
     (g.F.Files.contents c.args.files.now) (g.S.Sink.taken c.args.out.now) (g.S.Sink.taken c.refuse_form.new.out) c.in-NoForm.ensures.command
     (c.refuse_form.ensures.does sink_tells)
+
+pub returns-in-NoForm-clause-names : goal.returns-in-NoForm-clause-names
+returns-in-NoForm-clause-names g c =
+    form_same (form_of (map string_bytes c.args.words.now)) (g.F.Files.contents c.args.files.now) (g.F.Files.contents c.args.files.now) refl

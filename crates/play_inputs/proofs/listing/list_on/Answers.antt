@@ -1,7 +1,21 @@
-use Rattle.std.proofs.Common.{length, ◌∙◌, sym, subst, ◌+◌}
+use Rattle.std.proofs.Common.{length, ◌∙◌, refl, sym, subst, ◌+◌}
 use Rattle.ncs_machine.specs.Host.{script_of, scripts_of}
-use Rattle.play_inputs.proofs.ListingLemmas.{SoFar, goes_on, stops, cut_on, is_done, named_at, keeps_on, meets_on, stands_on, names_on, scripts_on, count_on}
+use Rattle.command_work.specs.KeepsLemmas.{keeps_all}
+use Rattle.play_inputs.specs.Listings.{IsSourceFile}
+use Rattle.play_inputs.proofs.ListingLemmas.{SoFar, begins, names_begin, goes_on, stops, cut_on, is_done, named_at, keeps_on, meets_on, stands_on, names_on, scripts_on, count_on}
+use Rattle.std.proofs.Common.{arith}
 use Rattle.play_inputs.proofs.listing.list_on.Goals as goal
+
+pub loop-line-init : goal.loop-line-init
+loop-line-init g c = (
+  begins g.F.Files.tells g.S.Sink.tells c.args.table.now c.args.lines.now (scripts_of c.args.scripts.now) (g.F.Files.contents c.args.files.now) (g.S.Sink.taken c.args.out.now),
+  refl,
+  keeps_all (IsSourceFile c.args.lines.now) (g.F.Files.contents c.args.files.now) (g.F.Files.contents c.args.files.now) refl,
+  c.requires.meets,
+  c.requires.stand,
+  names_begin c.args.scripts.now c.args.lines.now,
+  omega arith,
+)
 
 pub loop-line-preserved : goal.loop-line-preserved
 loop-line-preserved g c =

@@ -1,5 +1,5 @@
 use Rattle.std.proofs.Common.{◌≡◌, List, ◌∷◌, ap, subst, ◌∙◌}
-use Rattle.std.specs.FinMap as map
+use Rattle.nwq_outside.specs.Outside.{content}
 use Rattle.nss_include.specs.declared.opened.Open.{Open}
 use Rattle.nss_include.specs.declared.gatherer.Gatherer.{Gatherer}
 use Rattle.nss_include.specs.Units.{Lookup}
@@ -11,7 +11,7 @@ pub loop-here-preserved : goal.loop-here-preserved
 loop-here-preserved g c =
     let at : List Open → Gatherer = λ (s : List Open). record { unit = c.loop-here.self.unit; stack = s; count = c.loop-here.self.count }
     in let is : c.loop-here.self ≡ at (c.in-Some.here ∷ c.pop.new.self) = ap at (c.in-Some.ensures {u = tt})
-    in let outside : map.get (g.F.Files.contents c.loop-here.files) ≡ map.get (g.F.Files.contents c.args.files.now) = ap map.get c.loop-here.invariant.1
+    in let outside : content (g.F.Files.contents c.loop-here.files) ≡ content (g.F.Files.contents c.args.files.now) = ap content c.loop-here.invariant.1
     in (
       run-more _ _ c.args.self.now c.loop-here.self (at c.pop.new.self) c.advance.new.self c.in-Some.here c.loop-here.invariant.0 is
           (subst (λ (o : Lookup). RunSoFar g.F.Files.tells o (at (c.in-Some.here ∷ c.pop.new.self)) c.advance.new.self) outside
@@ -24,7 +24,7 @@ pub returns-in-Err-clause-stops : goal.returns-in-Err-clause-stops
 returns-in-Err-clause-stops g c = λ told held.
     let at : List Open → Gatherer = λ (s : List Open). record { unit = c.loop-here.self.unit; stack = s; count = c.loop-here.self.count }
     in let is : c.loop-here.self ≡ at (c.in-Some.here ∷ c.pop.new.self) = ap at (c.in-Some.ensures {u = tt})
-    in let outside : map.get (g.F.Files.contents c.loop-here.files) ≡ map.get (g.F.Files.contents c.args.files.now) = ap map.get c.loop-here.invariant.1
+    in let outside : content (g.F.Files.contents c.loop-here.files) ≡ content (g.F.Files.contents c.args.files.now) = ap content c.loop-here.invariant.1
     in run-stops _ _ c.args.self.now c.loop-here.self (at c.pop.new.self) c.in-Some.here c.in-Err.fault c.loop-here.invariant.0 is told held
     c.in-Err.ensures.halts.stops (subst (λ (o : Lookup). Explains o c.in-Err.fault) outside (c.in-Err.ensures.halts.told told))
 

@@ -1,11 +1,11 @@
 use Rattle.std.proofs.Common.{◌≡◌}
-use Rattle.std.specs.FinMap as map
+use Rattle.nwq_outside.specs.Outside.{content}
 use Rattle.nss_include.specs.Progress.{RunSoFar, steps_left}
 use Rattle.nss_include.proofs.gatherer.Gatherer.run.Given as goal
 
 abbrev pub invariant-loop-here : goal.invariant-loop-here
 invariant-loop-here g l =
-    RunSoFar g.F.Files.tells (map.get (g.F.Files.contents l.fn.files)) l.fn.self l.self
+    RunSoFar g.F.Files.tells (content (g.F.Files.contents l.fn.files)) l.fn.self l.self
     × (g.F.Files.contents l.files ≡ g.F.Files.contents l.fn.files)
     × (g.F.Files.counts l.files ≡ g.F.Files.counts l.fn.files)
 

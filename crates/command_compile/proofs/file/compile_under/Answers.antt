@@ -1,0 +1,9 @@
+use Rattle.command_work.specs.Calls.{IsName}
+use Rattle.command_work.specs.KeepsLemmas.{keeps_after}
+use Rattle.command_compile.specs.Files.{code_name}
+use Rattle.command_compile.proofs.file.compile_under.Goals as goal
+
+pub returns-in-Ok-clause-names : goal.returns-in-Ok-clause-names
+returns-in-Ok-clause-names g c =
+    keeps_after (IsName (code_name c.args.script.now)) (g.F.Files.contents c.args.files.now) (g.F.Files.contents c.read_compiled.new.files) (g.F.Files.contents c.write_code.new.files)
+    c.in-Ok.ensures.same c.write_code.ensures.names

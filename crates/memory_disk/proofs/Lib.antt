@@ -1,0 +1,6 @@
+mod ByteLemmas
+mod DriveLemmas
+mod EachLemmas
+mod MapLemmas
+mod PathLemmas
+mod TreeLemmas
