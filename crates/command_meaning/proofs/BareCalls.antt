@@ -1,7 +1,7 @@
 -- A call without an action leaves a world bare that has no object and in which nothing waits.
-use Rattle.std.proofs.Common.{arith, ◌≡◌, ℕ, ℤ, pos, negsuc, zero, suc, Bool, true, false, List, [], ◌∷◌, length, Option, None, Some, refl, ap, ◌∙◌, cond, true≢false}
-use Rattle.std.specs.Prelude.{if◌then◌else◌, ◌==◌, ◌&&◌, nat_lt, nat_le, slice_get}
-use Rattle.std.specs.List.{AllByRecursion, list_any}
+use Rattle.std.proofs.Common.{arith, ◌≡◌, ℕ, ℤ, pos, negsuc, zero, suc, Bool, true, false, List, [], ◌∷◌, length, None, refl, ap, ◌∙◌, true≢false}
+use Rattle.std.specs.Prelude.{if◌then◌else◌, ◌==◌, ◌&&◌, nat_lt, nat_le}
+use Rattle.std.specs.List.{list_any}
 use Rattle.std.proofs.lemmas.Bool.Decides.{nat_tests}
 use Rattle.action_queue.specs.declared.queue.Item.{Item}
 use Rattle.action_queue.specs.declared.queue.Item.TheVariants.{Wait, Speak}
@@ -11,9 +11,6 @@ use Rattle.delay_agenda.specs.declared.entry.Kind.TheVariants.{Event}
 use Rattle.local_variables.specs.Variables.{Variable}
 use Rattle.nwq_value.specs.Effect.{Effect}
 use Rattle.nwq_value.specs.Engine.{EngineTable}
-use Rattle.nwq_value.specs.declared.engine.Role.{Role}
-use Rattle.nwq_value.specs.declared.engine.Role.TheVariants as role
-use Rattle.nwq_value.specs.declared.engine.Routine.{Routine}
 use Rattle.nwq_value.specs.declared.value.Value.{Value}
 use Rattle.source_meaning.specs.Evaluation.{Deferred}
 use Rattle.world_rules.specs.declared.data.Told.{Told}
@@ -23,8 +20,9 @@ use Rattle.world_rules.specs.Arguments.{int_at, text_at, object_at, effect_at, e
 use Rattle.world_rules.specs.Pure.{CellLookup}
 use Rattle.world_rules.specs.World.{World, is_valid, effects_of}
 use Rattle.world_rules.specs.Changes.{told, post, with_action, with_actions, with_busy, with_effects, with_variables, has_turn, without_turn, without_first, is_effect}
-use Rattle.world_rules.specs.Rows.{Row, rows, drawn_from, drawn, awake, appended, at_rest, cleared, changed_variables, applied, applied_to, removed, event_script, signalled}
-use Rattle.world_rules.specs.Engine.{row_numbered, by_row, by_role, by_routine, engine}
+use Rattle.world_rules.specs.Rows.{drawn_from, drawn, awake, appended, at_rest, cleared, changed_variables, applied, applied_to, removed, event_script, signalled, argument, NewItem, TheAction, AWait, ASpeech, queued, varied, Print, Say, Draw, Assign, Delay, Queue, Clear, Vary, Apply, Remove, Signal}
+use Rattle.world_rules.specs.Engine.{engine}
+use Rattle.world_rules.specs.RowLaws.{EachKeeps, engine_keeps}
 
 -- no object is there, and nothing waits
 pub record IsBare (w : World Deferred) : Type 0 where
@@ -91,113 +89,27 @@ removed_bare o e w h =
 signalled_bare : (o : ℕ) (user : ℤ) (w : World Deferred) → IsBare w → IsBare (signalled o user w)
 signalled_bare o user w h = no_object o (post w.clock (Event o (event_script (object w.area o).scripts) user) w) w h
 
--- ---- the rows
+-- ---- small changes
 
-record StaysBare (r : Row Deferred) : Type 0 where
-  by : (caller : ℕ) (values : List Value) (w : World Deferred) → IsBare w → IsBare (r.does (call caller values None) w).world
+queued_bare : (item : NewItem) (caller : ℕ) (values : List Value) (w : World Deferred) → IsBare w → IsBare (queued item (call caller values None) w)
+queued_bare TheAction caller values w h = h
+queued_bare (AWait ms) caller values w h = appended_bare caller (Wait (int_at ms values)) w h
+queued_bare (ASpeech text) caller values w h = appended_bare caller (Speak (text_at text values)) w h
 
-rows_bare : AllByRecursion StaysBare rows
-rows_bare = (
-  record { by = λ o vs w h. drawn_bare (int_at 0 vs) w h },
-  (
-    record { by = λ o vs w h. told_bare o _ w h },
-    (
-      record { by = λ o vs w h. told_bare o _ w h },
-      (
-        record { by = λ o vs w h. told_bare o _ w h },
-        (
-          record { by = λ o vs w h. h },
-          (
-            record { by = λ o vs w h. h },
-            (
-              record { by = λ o vs w h. cleared_bare o w h },
-              (
-                record { by = λ o vs w h. h },
-                (
-                  record { by = λ o vs w h. appended_bare o (Wait (int_at 0 vs)) w h },
-                  (
-                    record { by = λ o vs w h. appended_bare o (Speak (text_at 0 vs)) w h },
-                    (
-                      record { by = λ o vs w h. told_bare o _ w h },
-                      (
-                        record { by = λ o vs w h. h },
-                        (
-                          record { by = λ o vs w h. h },
-                          (
-                            record { by = λ o vs w h. h },
-                            (
-                              record { by = λ o vs w h. h },
-                              (
-                                record { by = λ o vs w h. variables_bare (object_at 0 vs) _ w h },
-                                (
-                                  record { by = λ o vs w h. h },
-                                  (
-                                    record { by = λ o vs w h. variables_bare (object_at 0 vs) _ w h },
-                                    (
-                                      record { by = λ o vs w h. variables_bare (object_at 0 vs) _ w h },
-                                      (
-                                        record { by = λ o vs w h. variables_bare (object_at 0 vs) _ w h },
-                                        (
-                                          record { by = λ o vs w h. applied_bare (int_at 0 vs) (object_at 2 vs) (effect_at 1 vs) (int_at 3 vs) w h },
-                                          (
-                                            record { by = λ o vs w h. removed_bare (object_at 0 vs) (effect_at 1 vs) w h },
-                                            (
-                                              record { by = λ o vs w h. h },
-                                              (
-                                                record { by = λ o vs w h. signalled_bare (object_at 0 vs) (event_at 1 vs) w h },
-                                                (
-                                                  record { by = λ o vs w h. h },
-                                                  tt,
-                                                ),
-                                              ),
-                                            ),
-                                          ),
-                                        ),
-                                      ),
-                                    ),
-                                  ),
-                                ),
-                              ),
-                            ),
-                          ),
-                        ),
-                      ),
-                    ),
-                  ),
-                ),
-              ),
-            ),
-          ),
-        ),
-      ),
-    ),
-  ),
-)
-
-chosen_bare : (b : Bool) (r : Row Deferred) (rest : Option (Row Deferred)) (caller : ℕ) (values : List Value) (w : World Deferred)
-    → IsBare (r.does (call caller values None) w).world → IsBare (by_row rest (call caller values None) w).world → IsBare (by_row (cond b (Some r) rest) (call caller values None) w).world
-chosen_bare true r rest caller values w own next = own
-chosen_bare false r rest caller values w own next = next
-
-row_bare : (all : List (Row Deferred)) → AllByRecursion StaysBare all → (n caller : ℕ) (values : List Value) (w : World Deferred) → IsBare w
-    → IsBare (by_row (row_numbered n all) (call caller values None) w).world
-row_bare [] each n caller values w h = h
-row_bare (r ∷ rest) each n caller values w h =
-    chosen_bare (r.number == n) r (row_numbered n rest) caller values w (each.0.by caller values w h) (row_bare rest each.1 n caller values w h)
-
-role_bare : (cell : CellLookup) (n : ℕ) (r : Routine) (kind : Role) (caller : ℕ) (values : List Value) (w : World Deferred) → IsBare w
-    → IsBare (by_role cell n r kind (call caller values None) w).world
-role_bare cell n r (role.Built own) caller values w h = row_bare rows rows_bare own caller values w h
-role_bare cell n r (role.Pure k) caller values w h = h
-role_bare cell n r role.World caller values w h = told_bare caller (line.Call r.name values) w h
-role_bare cell n r role.Uncallable caller values w h = h
-
-routine_bare : (cell : CellLookup) (n : ℕ) (r : Option Routine) (caller : ℕ) (values : List Value) (w : World Deferred) → IsBare w
-    → IsBare (by_routine cell n r (call caller values None) w).world
-routine_bare cell n None caller values w h = h
-routine_bare cell n (Some r) caller values w h = role_bare cell n r r.role caller values w h
+done_bare : (caller : ℕ) (values : List Value) → EachKeeps IsBare (call caller values None)
+done_bare caller values (Print a) w h = told_bare caller (line.Print (argument a values)) w h
+done_bare caller values (Say text) w h = told_bare caller (line.Speak (text_at text values)) w h
+done_bare caller values (Draw n) w h = drawn_bare (int_at n values) w h
+done_bare caller values (Assign o) w h = h
+done_bare caller values (Delay ms) w h = h
+done_bare caller values (Queue item) w h = queued_bare item caller values w h
+done_bare caller values Clear w h = cleared_bare caller w h
+done_bare caller values (Vary o change) w h = variables_bare (object_at o values) (varied change values) w h
+done_bare caller values (Apply duration e o ms) w h = applied_bare (int_at duration values) (object_at o values) (effect_at e values) (int_at ms values) w h
+done_bare caller values (Remove o e) w h = removed_bare (object_at o values) (effect_at e values) w h
+done_bare caller values (Signal o e) w h = signalled_bare (object_at o values) (event_at e values) w h
 
 pub engine_bare : (table : EngineTable) (cell : CellLookup) (n caller : ℕ) (values : List Value) (w : World Deferred) → IsBare w
     → IsBare (engine table cell n (call caller values None) w).world
-unfolding engine
-engine_bare table cell n caller values w h = routine_bare cell n (slice_get table.routines n) caller values w h
+engine_bare table cell n caller values w h =
+    engine_keeps IsBare (call caller values None) table cell n (done_bare caller values) (λ r at w h. told_bare caller (line.Call r.name values) w h) w h

@@ -10,15 +10,7 @@ use Rattle.command_work.specs.Refusal.{line_of, status_of}
 use Rattle.command_work.specs.Work.{Work, Gives, Refused, Ends, Writes, Puts, Finds, Found, IsCut, Does}
 use Rattle.command_work.specs.Parts.{took_nothing}
 use Rattle.command_work.specs.Outcomes.{IsSure}
-use Rattle.command_work.specs.Amounts.{Write, written, IsAfterFront, IsFirst, BeginsWith, AmountsTo, IsFront}
-
--- what a work amounts to that did this
-pub record Amount {A : Type 0} (w : Work A) (c : Contents) (t : List ℕ) (r : Result A Status) (c' : Contents) (t' : List ℕ) : Type 0 where
-  pub writes : List Write
-  pub text : List ℕ
-  pub is : AmountsTo w c r writes text
-  pub left : c' ≡ written writes c
-  pub taken : t' ≡ t ++ text
+use Rattle.command_work.specs.Amounts.{Amount, Write, written, IsAfterFront, IsFirst, BeginsWith, AmountsTo, IsFront}
 
 -- ---- a work that isn't cut does what it amounts to
 

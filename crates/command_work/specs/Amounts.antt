@@ -44,6 +44,14 @@ AmountsTo (Writes name bytes next) c r writes text =
 AmountsTo (Puts piece next) c r writes text = BeginsWith piece text (λ rest. AmountsTo next c r writes rest)
 AmountsTo (Finds P next) c r writes text = Found (P c) (λ b. AmountsTo (next b) c r writes text)
 
+-- what a work amounts to that did this
+pub record Amount {A : Type 0} (w : Work A) (c : Contents) (t : List ℕ) (r : Result A Status) (c' : Contents) (t' : List ℕ) : Type 0 where
+  pub writes : List Write
+  pub text : List ℕ
+  pub is : AmountsTo w c r writes text
+  pub left : c' ≡ written writes c
+  pub taken : t' ≡ t ++ text
+
 -- what a work leaves and has put, where it was cut or not, is a front of these writes and a prefix
 -- of this text
 pub record IsFront (writes : List Write) (text : List ℕ) (c : Contents) (t : List ℕ) (c' : Contents) (t' : List ℕ) : Type 0 where

@@ -5,4 +5,6 @@ pub mod OrderLemmas
 pub mod Placing
 pub mod Rows
 pub mod Turns
-pub mod Counts
+pub mod StampLemmas
+pub mod Index
+pub mod DueLemmas

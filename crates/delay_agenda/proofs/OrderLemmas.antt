@@ -3,6 +3,7 @@ use Rattle.std.proofs.Common.{◌≡◌, ◌≢◌, ℕ, ◌+◌, ◌<◌, Bool,
 use Rattle.std.specs.Prelude.{if◌then◌else◌}
 use Rattle.std.proofs.lemmas.Bool.Decides.{nat_tests}
 use Rattle.delay_agenda.specs.declared.entry.Entry.{Entry}
+use Rattle.delay_agenda.specs.Queues.{put_all}
 use Rattle.delay_agenda.specs.Order.{IsBefore, is_before, put_entry, IsBeforeAll, AreInOrder, AreBelow, HasNone, AreDistinct}
 use Rattle.delay_agenda.specs.declared.entry.Kind.{Kind}
 use Rattle.delay_agenda.specs.Waiting.{Waiting, IsAgenda, posted, is_turn_of, without_turns}
@@ -87,7 +88,7 @@ distinct_if : {X : Type 0} (b : Bool) (e x : Entry X) (rest : List (Entry X)) �
 distinct_if true e x rest none distinct next = (none_put x.number e rest (turned x.number e.number none.0) distinct.0, next)
 distinct_if false e x rest none distinct next = (none, distinct)
 
-distinct_put : {X : Type 0} (e : Entry X) (es : List (Entry X)) → HasNone e.number es → AreDistinct es → AreDistinct (put_entry e es)
+pub distinct_put : {X : Type 0} (e : Entry X) (es : List (Entry X)) → HasNone e.number es → AreDistinct es → AreDistinct (put_entry e es)
 distinct_put e [] none distinct = (tt, tt)
 distinct_put e (x ∷ rest) none distinct = distinct_if (is_before x e) e x rest none distinct (distinct_put e rest none.1 distinct.1)
 
@@ -170,7 +171,7 @@ distinct_left_if : {X : Type 0} (b : Bool) (x : Entry X) (more : List (Entry X))
 distinct_left_if true x more here next = next
 distinct_left_if false x more here next = (here, next)
 
-distinct_left : {X : Type 0} (object : ℕ) (es : List (Entry X)) → AreDistinct es → AreDistinct (without_turns object es)
+pub distinct_left : {X : Type 0} (object : ℕ) (es : List (Entry X)) → AreDistinct es → AreDistinct (without_turns object es)
 distinct_left object [] distinct = tt
 distinct_left object (x ∷ xs) distinct =
     distinct_left_if (is_turn_of object x) x (without_turns object xs) (none_left object x.number xs distinct.0) (distinct_left object xs distinct.1)
@@ -183,3 +184,32 @@ agenda_cancelled object waiting kept = record {
   below = below_left object waiting.next waiting.entries kept.below;
   distinct = distinct_left object waiting.entries kept.distinct;
 }
+
+-- ---- what is new among those that wait
+
+none_from : {X : Type 0} (n : ℕ) (e : Entry X) (es : List (Entry X)) → HasNone n (put_entry e es) → (e.number ≢ n) × HasNone n es
+none_from n e [] none = (none.0, tt)
+none_from n e (x ∷ rest) none = by (is_before x e) none (none_from n e rest)
+  where
+    by : (b : Bool) → HasNone n (if b then x ∷ put_entry e rest else e ∷ x ∷ rest) → (HasNone n (put_entry e rest) → (e.number ≢ n) × HasNone n rest) → (e.number ≢ n) × HasNone n (x ∷ rest)
+    by true all more = let rest_none = more all.1 in (rest_none.0, (all.0, rest_none.1))
+    by false all more = (all.0, all.1)
+
+distinct_from : {X : Type 0} (e : Entry X) (es : List (Entry X)) → AreDistinct (put_entry e es) → HasNone e.number es × AreDistinct es
+distinct_from e [] all = (tt, tt)
+distinct_from e (x ∷ rest) all = by (is_before x e) all (distinct_from e rest)
+  where
+    by : (b : Bool) → AreDistinct (if b then x ∷ put_entry e rest else e ∷ x ∷ rest) → (AreDistinct (put_entry e rest) → HasNone e.number rest × AreDistinct rest) → HasNone e.number (x ∷ rest) × AreDistinct (x ∷ rest)
+    by true all more =
+        let rest_all = more all.1 in
+        let own = none_from x.number e rest all.0 in
+        ((turned e.number x.number own.0, rest_all.0), (own.1, rest_all.1))
+    by false all more = (all.0, all.1)
+
+distinct_row : {X : Type 0} (xs row : List (Entry X)) → AreDistinct (put_all xs row) → AreDistinct row
+distinct_row [] row all = all
+distinct_row (x ∷ xs) row all = (distinct_from x row (distinct_row xs (put_entry x row) all)).1
+
+-- the first of an inbox has a number that none of the row has
+pub new_in_row : {X : Type 0} (e : Entry X) (xs row : List (Entry X)) → AreDistinct (put_all (e ∷ xs) row) → HasNone e.number row
+new_in_row e xs row all = (distinct_from e row (distinct_row xs (put_entry e row) all)).0

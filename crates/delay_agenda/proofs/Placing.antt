@@ -7,7 +7,7 @@ use Rattle.std.proofs.lemmas.Bool.Decides.{nat_tests}
 use Rattle.std.proofs.lemmas.List.{take-append-drop, get_or_default}
 use Rattle.std.proofs.lemmas.Option.{slice_get-get_or}
 use Rattle.delay_agenda.specs.declared.entry.Entry.{Entry}
-use Rattle.delay_agenda.specs.Order.{is_before, put_entry}
+use Rattle.delay_agenda.specs.Order.{is_before, comes_before, put_entry}
 use Rattle.delay_agenda.specs.Queues.{put_all, NoneBefore, AreSorted, HeadIsNotBefore, IsLeastAt, IsHead, IsInInbox, IsInQueues}
 
 -- ---- the test
@@ -53,42 +53,6 @@ AllBefore e (x ∷ xs) = (is_before x e ≡ true) × AllBefore e xs
 pub put_behind : {X : Type 0} (e : Entry X) (xs ys : List (Entry X)) → AllBefore e xs → put_entry e (xs ++ ys) ≡ xs ++ put_entry e ys
 put_behind e [] ys all = refl
 put_behind e (x ∷ xs) ys all = put_passes e x (xs ++ ys) all.0 ∙ ap (λ t. x ∷ t) (put_behind e xs ys all.1)
-
--- ---- the place of an entry among those in order
-
-none_at : {X : Type 0} (e : Entry X) (es : List (Entry X)) (i : ℕ) (d : Entry X) → NoneBefore e es → i < length es → is_before (get_or es i d) e ≡ false
-none_at e [] i d none less = absurd (omega arith)
-none_at e (x ∷ xs) zero d none less = none.0
-none_at e (x ∷ xs) (suc i) d none less = none_at e xs i d none.1 (omega arith)
-
--- all up to one that is taken before e
-all_before : {X : Type 0} (e : Entry X) (es : List (Entry X)) (i : ℕ) (d : Entry X) → AreSorted es → i < length es
-    → is_before (get_or es i d) e ≡ true → AllBefore e (take (suc i) es)
-all_before e [] i d sorted less is = absurd (omega arith)
-all_before e (x ∷ xs) zero d sorted less is = (is, tt)
-all_before e (x ∷ xs) (suc i) d sorted less is =
-    (none_before x (get_or xs i d) e (none_at x xs i d sorted.0 (omega arith)) is, all_before e xs i d sorted.1 (omega arith) is)
-
-pub put_at : {X : Type 0} (e : Entry X) (es : List (Entry X)) (n at : ℕ) (d : Entry X) → AreSorted es → at ≡ suc n → n < length es
-    → is_before (get_or es n d) e ≡ true → HeadIsNotBefore e (drop at es) → take at es ++ e ∷ drop at es ≡ put_entry e es
-put_at e es n at d sorted is less before stops =
-    let all = all_before e es n d sorted less before in
-    ap (λ t. take at es ++ t) (sym (put_stops e (drop at es) stops))
-    ∙ sym (put_behind e (take at es) (drop at es) (subst (λ k. AllBefore e (take k es)) (sym is) all))
-    ∙ ap (put_entry e) (take-append-drop at es)
-
-pub put_first : {X : Type 0} (e : Entry X) (es : List (Entry X)) → HeadIsNotBefore e es → e ∷ es ≡ put_entry e es
-put_first e es stops = sym (put_stops e es stops)
-
-pub stops_next : {X : Type 0} (e : Entry X) (es : List (Entry X)) (i : ℕ) (d : Entry X) → i < length es → is_before (get_or es i d) e ≡ false → HeadIsNotBefore e (drop i es)
-stops_next e [] i d less is = absurd (omega arith)
-stops_next e (x ∷ xs) zero d less is = is
-stops_next e (x ∷ xs) (suc i) d less is = stops_next e xs i d (omega arith) is
-
-pub stops_end : {X : Type 0} (e : Entry X) (es : List (Entry X)) (n : ℕ) → n ≡ length es → HeadIsNotBefore e (drop n es)
-stops_end e [] n is = subst (λ k. HeadIsNotBefore e (drop k [])) (sym is) tt
-stops_end e (x ∷ xs) zero is = absurd (omega (arith, is))
-stops_end e (x ∷ xs) (suc n) is = stops_end e xs n (omega (arith, is))
 
 -- ---- sorted lists stay sorted
 
@@ -218,16 +182,6 @@ none_stops e (x ∷ xs) none = none.0
 read_self : {X : Type 0} (es : List X) (i : ℕ) (d : X) → i < length es → get_or es i d ≡ get_or es i (get_or es i d)
 read_self es i d less = get_or_default es i d (get_or es i d) less
 
--- ---- heads
-
-pub some_there : {X : Type 0} (xs : List X) → xs ≢ [] → 0 < length xs
-some_there [] filled = absurd (filled refl)
-some_there (x ∷ xs) filled = omega arith
-
-pub head_got : {X : Type 0} (es : List (Entry X)) (e : Entry X) → es ≢ [] → e ≡ get_or es 0 e → IsHead e es
-head_got [] e filled is = absurd (filled refl)
-head_got (x ∷ xs) e filled is = sym is
-
 -- ---- the first of an inbox and of the queues' row
 
 pub in_queues_empty : {X : Type 0} (inbox row : List (Entry X)) → inbox ≡ [] → IsInQueues inbox row
@@ -237,15 +191,15 @@ in_queues_empty inbox (m ∷ row) empty = λ i d less. absurd (let none = ap len
 pub in_inbox_none : {X : Type 0} (at : ℕ) (inbox row : List (Entry X)) → IsLeastAt at (length inbox) inbox → row ≡ [] → IsInInbox at inbox row
 in_inbox_none at inbox row least empty = record { least = least; first = λ d. subst (λ t. HeadIsNotBefore (get_or inbox at d) t) (sym empty) tt }
 
-stops_head : {X : Type 0} (e m : Entry X) (row : List (Entry X)) → IsHead m row → is_before m e ≡ false → HeadIsNotBefore e row
-stops_head e m [] head is = tt
-stops_head e m (x ∷ row) head is = subst (λ t. is_before t e ≡ false) (sym head) is
+stops_head : {X : Type 0} (due number : ℕ) (e : Entry X) (row : List (Entry X)) → IsHead due number row → comes_before due number e ≡ false → HeadIsNotBefore e row
+stops_head due number e [] head is = tt
+stops_head due number e (x ∷ row) head is = subst (λ n. comes_before x.due n e ≡ false) (sym head.1) (subst (λ d. comes_before d number e ≡ false) (sym head.0) is)
 
-pub in_inbox_some : {X : Type 0} (at : ℕ) (inbox row : List (Entry X)) (m e : Entry X) → IsLeastAt at (length inbox) inbox → IsHead m row
-    → e ≡ get_or inbox at e → is_before m e ≡ false → IsInInbox at inbox row
-in_inbox_some at inbox row m e least head is test = record {
+pub in_inbox_some : {X : Type 0} (at due number : ℕ) (inbox row : List (Entry X)) (e : Entry X) → IsLeastAt at (length inbox) inbox → IsHead due number row
+    → e ≡ get_or inbox at e → comes_before due number e ≡ false → IsInInbox at inbox row
+in_inbox_some at due number inbox row e least head is test = record {
   least = least;
-  first = λ d. subst (λ t. HeadIsNotBefore t row) (read inbox at e d is least.inside) (stops_head e m row head test);
+  first = λ d. subst (λ t. HeadIsNotBefore t row) (read inbox at e d is least.inside) (stops_head due number e row head test);
 }
 
 before_by : {X : Type 0} (at : ℕ) (inbox : List (Entry X)) (m e : Entry X) → IsLeastAt at (length inbox) inbox → e ≡ get_or inbox at e
@@ -259,11 +213,12 @@ before_by at inbox m e least is test i d less (inr over) =
     before_none m e (get_or inbox i d) test
     (one_way e (get_or inbox i d) (tested true (get_or inbox at d) (get_or inbox i d) e (get_or inbox i d) (least.behind i d over less) (sym (read inbox at e d is least.inside)) refl))
 
-pub in_queues_some : {X : Type 0} (at : ℕ) (inbox row : List (Entry X)) (m e : Entry X) → IsLeastAt at (length inbox) inbox → IsHead m row
-    → e ≡ get_or inbox at e → is_before m e ≡ true → IsInQueues inbox row
-in_queues_some at inbox [] m e least head is test = absurd head
-in_queues_some at inbox (x ∷ row) m e least head is test =
-    λ i d less. subst (λ t. is_before t (get_or inbox i d) ≡ true) (sym head) (before_by at inbox m e least is test i d less (split_three i at (length inbox) less))
+pub in_queues_some : {X : Type 0} (at due number : ℕ) (inbox row : List (Entry X)) (e : Entry X) → IsLeastAt at (length inbox) inbox → IsHead due number row
+    → e ≡ get_or inbox at e → comes_before due number e ≡ true → IsInQueues inbox row
+in_queues_some at due number inbox [] e least head is test = absurd head
+in_queues_some at due number inbox (x ∷ row) e least head is test =
+    let first : is_before x e ≡ true = subst (λ n. comes_before x.due n e ≡ true) (sym head.1) (subst (λ d. comes_before d number e ≡ true) (sym head.0) test) in
+    λ i d less. before_by at inbox x e least is first i d less (split_three i at (length inbox) less)
 
 -- what was taken, and what is left
 
@@ -297,8 +252,6 @@ queues_taken inbox (m ∷ row) now first is =
     (sym (ap (λ t. slice_get t 0) whole), ap (put_all inbox) is ∙ sym (ap (drop 1) whole))
 
 -- what each search needs
-pub ruleset place_steps = (put_at, put_first, stops_next, stops_end)
-
 pub ruleset least_steps = (least_start, least_kept, least_moved)
 
 pub ruleset first_cases = (in_queues_empty, in_inbox_none, in_inbox_some, in_queues_some)

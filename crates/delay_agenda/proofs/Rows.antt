@@ -1,22 +1,20 @@
 -- The queues in a row: an entry put where it belongs, and one taken out.
 use Rattle.std.proofs.Common.{◌≡◌, ◌≢◌, ◌<◌, ◌≤◌, ◌++◌, ◌∷◌, [], ℕ, zero, suc, Bool, true, false, List, length, drop, Option, Some, None, Result, Ok, Err, slice_get, refl, sym, ap, subst, ◌∙◌, inl, inr, arith}
-use Rattle.std.specs.Prelude.{◌⊎◌, ◌==◌, if◌then◌else◌, unwrap_or, OnOk, OnErr, MatchOption}
-use Rattle.std.specs.List.{remove}
-use Rattle.std.specs.Global.{Global}
+use Rattle.std.specs.Prelude.{◌⊎◌, if◌then◌else◌, nat_eq, unwrap_or, OnOk, OnErr, MatchOption}
+use Rattle.std.specs.Option.{option_or}
+use Rattle.std.proofs.lemmas.Bool.{eq-eqb}
 use Rattle.std.specs.Ordering.{nat_cmp, match_ordering}
 use Rattle.std.specs.declared.cmp.Ordering.{Ordering}
 use Rattle.std.specs.declared.cmp.Ordering.TheVariants.{Less, Equal, Greater}
 use Rattle.std.specs.Map.{lookup, set_value, remove_entry}
 use Rattle.std.specs.BTreeMap.{is_at, insert_entry}
-use Rattle.std.specs.declared.collections.VecDeque.{VecDeque}
 use Rattle.std.proofs.lemmas.Bool.Decides.{nat_tests}
 use Rattle.std.proofs.lemmas.List.{append-nil}
 use Rattle.delay_agenda.specs.declared.entry.Entry.{Entry}
-use Rattle.delay_agenda.specs.Order.{is_before, put_entry, first_due}
-use Rattle.delay_agenda.specs.Waiting.{turn_count, without_turns}
-use Rattle.delay_agenda.specs.Queues.{QueuesByTime, in_row, queue_at, row_without, NoneBefore, AreSorted, AreDue, IsQueue, AreLater, AreQueues, IsFirst, IsHead, IsTurnAt}
-use Rattle.delay_agenda.proofs.Placing.{put_stops, put_joined, put_behind, sorted_put, none_stops, AllBefore, some_there}
-use Rattle.delay_agenda.proofs.Turns.{count_at, count_joined, without_joined, without_none, without_at}
+use Rattle.delay_agenda.specs.Order.{is_before, put_entry, first_due, HasNone}
+use Rattle.delay_agenda.specs.Queues.{QueuesByTime, in_row, queue_at, row_without, numbered, without_number, NoneBefore, AreSorted, AreDue, IsQueue, AreLater, AreQueues, IsFirst, IsHead}
+use Rattle.delay_agenda.proofs.Placing.{put_stops, put_joined, put_behind, sorted_put, none_stops, AllBefore}
+use Rattle.delay_agenda.proofs.DueLemmas.{head_numbered}
 
 -- ---- keys
 
@@ -64,7 +62,7 @@ none_later : {X : Type 0} (e : Entry X) (due : ℕ) (qs : QueuesByTime X) → Ar
 none_later e due [] queues later less = tt
 none_later e due (q ∷ qs) queues later less =
     let here = later.0 in
-    none_joined e q.1.items (in_row qs) (none_before_due e q.0 q.1.items queues.0.together (omega (arith, here, less)))
+    none_joined e q.1 (in_row qs) (none_before_due e q.0 q.1 queues.0.together (omega (arith, here, less)))
     (none_later e due qs queues.2 later.1 less)
 
 sorted_joined : {X : Type 0} (xs ys : List (Entry X)) (due : ℕ) → AreSorted xs → AreSorted ys → AreDue due xs
@@ -76,7 +74,7 @@ sorted_joined (x ∷ xs) ys due left right dues over =
 pub sorted_row : {X : Type 0} (qs : QueuesByTime X) → AreQueues qs → AreSorted (in_row qs)
 sorted_row [] queues = tt
 sorted_row (q ∷ qs) queues =
-    sorted_joined q.1.items (in_row qs) q.0 queues.0.sorted (sorted_row qs queues.2) queues.0.together
+    sorted_joined q.1 (in_row qs) q.0 queues.0.sorted (sorted_row qs queues.2) queues.0.together
     (λ e less. none_later e q.0 qs queues.2 queues.1 less)
 
 -- ---- one entry put
@@ -109,7 +107,7 @@ pub queue_one : {X : Type 0} (e : Entry X) (now : List (Entry X)) → now ≡ e 
 queue_one e now is = subst (λ t. IsQueue e.due t) (sym is) (record { filled = λ same. cc; together = (refl, tt); sorted = (tt, tt) })
 
 -- a queue that is found in a row of later ones is later
-later_found : {X : Type 0} (from due : ℕ) (qs : QueuesByTime X) (q : VecDeque (Entry X) Global) → AreLater from qs → lookup (is_at (nat_cmp due)) qs ≡ Some q → from < due
+later_found : {X : Type 0} (from due : ℕ) (qs : QueuesByTime X) (q : List (Entry X)) → AreLater from qs → lookup (is_at (nat_cmp due)) qs ≡ Some q → from < due
 later_found from due [] q later is = absurd (none_held q (sym is))
 later_found from due (p ∷ ps) q later is = by (bool_of (is_at (nat_cmp due) p.0)) (λ other. later_found from due ps q later.1 other)
   where
@@ -117,25 +115,25 @@ later_found from due (p ∷ ps) q later is = by (bool_of (is_at (nat_cmp due) p.
     by (inl here_is) more = let same = same_due due p.0 here_is in let here = later.0 in omega (arith, same, here)
     by (inr not_here) more = more (sym (ap (λ (b : Bool). if b then Some p.1 else lookup (is_at (nat_cmp due)) ps) not_here) ∙ is)
 
-found_here : {X : Type 0} (due : ℕ) (p : ℕ × VecDeque (Entry X) Global) (ps : QueuesByTime X) (q : VecDeque (Entry X) Global) → is_at (nat_cmp due) p.0 ≡ true
+found_here : {X : Type 0} (due : ℕ) (p : ℕ × List (Entry X)) (ps : QueuesByTime X) (q : List (Entry X)) → is_at (nat_cmp due) p.0 ≡ true
     → lookup (is_at (nat_cmp due)) (p ∷ ps) ≡ Some q → p.1 ≡ q
 found_here due p ps q here_is is =
     held p.1 q (sym (ap (λ (b : Bool). if b then Some p.1 else lookup (is_at (nat_cmp due)) ps) here_is) ∙ is)
 
-found_there : {X : Type 0} (due : ℕ) (p : ℕ × VecDeque (Entry X) Global) (ps : QueuesByTime X) (q : Option (VecDeque (Entry X) Global)) → is_at (nat_cmp due) p.0 ≡ false
+found_there : {X : Type 0} (due : ℕ) (p : ℕ × List (Entry X)) (ps : QueuesByTime X) (q : Option (List (Entry X))) → is_at (nat_cmp due) p.0 ≡ false
     → lookup (is_at (nat_cmp due)) (p ∷ ps) ≡ q → lookup (is_at (nat_cmp due)) ps ≡ q
 found_there due p ps q not_here is = sym (ap (λ (b : Bool). if b then Some p.1 else lookup (is_at (nat_cmp due)) ps) not_here) ∙ is
 
-set_here : {X : Type 0} (due : ℕ) (p : ℕ × VecDeque (Entry X) Global) (ps : QueuesByTime X) (new : VecDeque (Entry X) Global) → is_at (nat_cmp due) p.0 ≡ true
+set_here : {X : Type 0} (due : ℕ) (p : ℕ × List (Entry X)) (ps : QueuesByTime X) (new : List (Entry X)) → is_at (nat_cmp due) p.0 ≡ true
     → set_value (is_at (nat_cmp due)) (p ∷ ps) new ≡ (p.0, new) ∷ ps
 set_here due p ps new here_is = ap (λ (b : Bool). if b then (p.0, new) ∷ ps else p ∷ set_value (is_at (nat_cmp due)) ps new) here_is
 
-set_there : {X : Type 0} (due : ℕ) (p : ℕ × VecDeque (Entry X) Global) (ps : QueuesByTime X) (new : VecDeque (Entry X) Global) → is_at (nat_cmp due) p.0 ≡ false
+set_there : {X : Type 0} (due : ℕ) (p : ℕ × List (Entry X)) (ps : QueuesByTime X) (new : List (Entry X)) → is_at (nat_cmp due) p.0 ≡ false
     → set_value (is_at (nat_cmp due)) (p ∷ ps) new ≡ p ∷ set_value (is_at (nat_cmp due)) ps new
 set_there due p ps new not_here = ap (λ (b : Bool). if b then (p.0, new) ∷ ps else p ∷ set_value (is_at (nat_cmp due)) ps new) not_here
 
-put_here : {X : Type 0} (due : ℕ) (p : ℕ × VecDeque (Entry X) Global) (ps : QueuesByTime X) (q new : VecDeque (Entry X) Global) (e : Entry X)
-    → AreQueues (p ∷ ps) → e.due ≡ due → new.items ≡ put_entry e q.items → lookup (is_at (nat_cmp due)) (p ∷ ps) ≡ Some q
+put_here : {X : Type 0} (due : ℕ) (p : ℕ × List (Entry X)) (ps : QueuesByTime X) (q new : List (Entry X)) (e : Entry X)
+    → AreQueues (p ∷ ps) → e.due ≡ due → new ≡ put_entry e q → lookup (is_at (nat_cmp due)) (p ∷ ps) ≡ Some q
     → (lookup (is_at (nat_cmp due)) ps ≡ Some q → in_row (set_value (is_at (nat_cmp due)) ps new) ≡ put_entry e (in_row ps))
     → (is_at (nat_cmp due) p.0 ≡ true) ⊎ (is_at (nat_cmp due) p.0 ≡ false)
     → in_row (set_value (is_at (nat_cmp due)) (p ∷ ps) new) ≡ put_entry e (in_row (p ∷ ps))
@@ -143,24 +141,24 @@ put_here due p ps q new e queues here is found next (inl here_is) =
     let same = same_due due p.0 here_is in
     let none = none_later e p.0 ps queues.2 queues.1 (omega (arith, same, here)) in
     ap in_row (set_here due p ps new here_is)
-    ∙ ap (λ t. t ++ in_row ps) (is ∙ ap (λ v. put_entry e v.items) (sym (found_here due p ps q here_is found)))
-    ∙ sym (put_joined e p.1.items (in_row ps) (none_stops e (in_row ps) none))
+    ∙ ap (λ t. t ++ in_row ps) (is ∙ ap (λ v. put_entry e v) (sym (found_here due p ps q here_is found)))
+    ∙ sym (put_joined e p.1 (in_row ps) (none_stops e (in_row ps) none))
 put_here due p ps q new e queues here is found next (inr not_here) =
     let other = found_there due p ps (Some q) not_here found in
     let less = later_found p.0 due ps q queues.1 other in
     ap in_row (set_there due p ps new not_here)
-    ∙ ap (λ t. p.1.items ++ t) (next other)
-    ∙ sym (put_behind e p.1.items (in_row ps) (all_before_due e p.0 p.1.items queues.0.together (omega (arith, less, here))))
+    ∙ ap (λ t. p.1 ++ t) (next other)
+    ∙ sym (put_behind e p.1 (in_row ps) (all_before_due e p.0 p.1 queues.0.together (omega (arith, less, here))))
 
-pub put_found : {X : Type 0} (due : ℕ) (qs : QueuesByTime X) (q new : VecDeque (Entry X) Global) (e : Entry X)
-    → AreQueues qs → e.due ≡ due → new.items ≡ put_entry e q.items → lookup (is_at (nat_cmp due)) qs ≡ Some q
+pub put_found : {X : Type 0} (due : ℕ) (qs : QueuesByTime X) (q new : List (Entry X)) (e : Entry X)
+    → AreQueues qs → e.due ≡ due → new ≡ put_entry e q → lookup (is_at (nat_cmp due)) qs ≡ Some q
     → in_row (set_value (is_at (nat_cmp due)) qs new) ≡ put_entry e (in_row qs)
 put_found due [] q new e queues here is found = absurd (none_held q (sym found))
 put_found due (p ∷ ps) q new e queues here is found =
     put_here due p ps q new e queues here is found (λ other. put_found due ps q new e queues.2 here is other) (bool_of (is_at (nat_cmp due) p.0))
 
 -- the row with one queue changed
-later_set : {X : Type 0} (from due : ℕ) (qs : QueuesByTime X) (new : VecDeque (Entry X) Global) → AreLater from qs → AreLater from (set_value (is_at (nat_cmp due)) qs new)
+later_set : {X : Type 0} (from due : ℕ) (qs : QueuesByTime X) (new : List (Entry X)) → AreLater from qs → AreLater from (set_value (is_at (nat_cmp due)) qs new)
 later_set from due [] new later = tt
 later_set from due (p ∷ ps) new later = by (is_at (nat_cmp due) p.0) (later_set from due ps new later.1)
   where
@@ -168,42 +166,52 @@ later_set from due (p ∷ ps) new later = by (is_at (nat_cmp due) p.0) (later_se
     by true more = (later.0, later.1)
     by false more = (later.0, more)
 
-queues_here : {X : Type 0} (due : ℕ) (p : ℕ × VecDeque (Entry X) Global) (ps : QueuesByTime X) (q new : VecDeque (Entry X) Global)
-    → AreQueues (p ∷ ps) → (IsQueue due q.items → IsQueue due new.items) → lookup (is_at (nat_cmp due)) (p ∷ ps) ≡ Some q
+queues_here : {X : Type 0} (due : ℕ) (p : ℕ × List (Entry X)) (ps : QueuesByTime X) (q new : List (Entry X))
+    → AreQueues (p ∷ ps) → (IsQueue due q → IsQueue due new) → lookup (is_at (nat_cmp due)) (p ∷ ps) ≡ Some q
     → (lookup (is_at (nat_cmp due)) ps ≡ Some q → AreQueues (set_value (is_at (nat_cmp due)) ps new))
     → (is_at (nat_cmp due) p.0 ≡ true) ⊎ (is_at (nat_cmp due) p.0 ≡ false)
     → AreQueues (set_value (is_at (nat_cmp due)) (p ∷ ps) new)
 queues_here due p ps q new queues kept found next (inl here_is) =
     let same = same_due due p.0 here_is in
-    let old : IsQueue due q.items =
-    subst (λ v. IsQueue due v.items) (found_here due p ps q here_is found) (subst (λ k. IsQueue k p.1.items) same queues.0) in
+    let old : IsQueue due q =
+    subst (λ v. IsQueue due v) (found_here due p ps q here_is found) (subst (λ k. IsQueue k p.1) same queues.0) in
     subst (λ t. AreQueues t) (sym (set_here due p ps new here_is))
-    (subst (λ k. IsQueue k new.items) (sym same) (kept old), queues.1, queues.2)
+    (subst (λ k. IsQueue k new) (sym same) (kept old), queues.1, queues.2)
 queues_here due p ps q new queues kept found next (inr not_here) =
     subst (λ t. AreQueues t) (sym (set_there due p ps new not_here))
     (queues.0, later_set p.0 due ps new queues.1, next (found_there due p ps (Some q) not_here found))
 
-pub queues_found : {X : Type 0} (due : ℕ) (qs : QueuesByTime X) (q new : VecDeque (Entry X) Global)
-    → AreQueues qs → (IsQueue due q.items → IsQueue due new.items) → lookup (is_at (nat_cmp due)) qs ≡ Some q
+pub queues_found : {X : Type 0} (due : ℕ) (qs : QueuesByTime X) (q new : List (Entry X))
+    → AreQueues qs → (IsQueue due q → IsQueue due new) → lookup (is_at (nat_cmp due)) qs ≡ Some q
     → AreQueues (set_value (is_at (nat_cmp due)) qs new)
 queues_found due [] q new queues kept found = tt
 queues_found due (p ∷ ps) q new queues kept found =
     queues_here due p ps q new queues kept found (λ other. queues_found due ps q new queues.2 kept other) (bool_of (is_at (nat_cmp due) p.0))
 
-queue_found : {X : Type 0} (due : ℕ) (qs : QueuesByTime X) (q : VecDeque (Entry X) Global) → AreQueues qs → lookup (is_at (nat_cmp due)) qs ≡ Some q → IsQueue due q.items
+pub queue_found : {X : Type 0} (due : ℕ) (qs : QueuesByTime X) (q : List (Entry X)) → AreQueues qs → lookup (is_at (nat_cmp due)) qs ≡ Some q → IsQueue due q
 queue_found due [] q queues found = absurd (none_held q (sym found))
 queue_found due (p ∷ ps) q queues found = by (bool_of (is_at (nat_cmp due) p.0)) (λ other. queue_found due ps q queues.2 other)
   where
-    by : ((is_at (nat_cmp due) p.0 ≡ true) ⊎ (is_at (nat_cmp due) p.0 ≡ false)) → ((lookup (is_at (nat_cmp due)) ps ≡ Some q) → IsQueue due q.items) → IsQueue due q.items
+    by : ((is_at (nat_cmp due) p.0 ≡ true) ⊎ (is_at (nat_cmp due) p.0 ≡ false)) → ((lookup (is_at (nat_cmp due)) ps ≡ Some q) → IsQueue due q) → IsQueue due q
     by (inl here_is) more =
-        subst (λ v. IsQueue due v.items) (found_here due p ps q here_is found)
-        (subst (λ k. IsQueue k p.1.items) (same_due due p.0 here_is) queues.0)
+        subst (λ v. IsQueue due v) (found_here due p ps q here_is found)
+        (subst (λ k. IsQueue k p.1) (same_due due p.0 here_is) queues.0)
     by (inr not_here) more = more (found_there due p ps (Some q) not_here found)
 
-pub sorted_found : {X : Type 0} (due : ℕ) (qs : QueuesByTime X) (q : VecDeque (Entry X) Global) → AreQueues qs → lookup (is_at (nat_cmp due)) qs ≡ Some q → AreSorted q.items
-sorted_found due qs q queues found = (queue_found due qs q queues found).sorted
+-- a number that none of the row has none of a queue has
+none_parts : {X : Type 0} (n : ℕ) (xs ys : List (Entry X)) → HasNone n (xs ++ ys) → HasNone n xs × HasNone n ys
+none_parts n [] ys none = (tt, none)
+none_parts n (x ∷ xs) ys none = let more = none_parts n xs ys none.1 in ((none.0, more.0), more.1)
 
-set_same : {X : Type 0} (due : ℕ) (qs : QueuesByTime X) (q new : VecDeque (Entry X) Global) → lookup (is_at (nat_cmp due)) qs ≡ Some q → new.items ≡ q.items
+pub new_found : {X : Type 0} (n due : ℕ) (qs : QueuesByTime X) (q : List (Entry X)) → HasNone n (in_row qs) → lookup (is_at (nat_cmp due)) qs ≡ Some q → HasNone n q
+new_found n due [] q none found = absurd (none_held q (sym found))
+new_found n due (p ∷ ps) q none found = by (bool_of (is_at (nat_cmp due) p.0)) (λ other. new_found n due ps q (none_parts n p.1 (in_row ps) none).1 other)
+  where
+    by : ((is_at (nat_cmp due) p.0 ≡ true) ⊎ (is_at (nat_cmp due) p.0 ≡ false)) → ((lookup (is_at (nat_cmp due)) ps ≡ Some q) → HasNone n q) → HasNone n q
+    by (inl here_is) more = subst (HasNone n) (found_here due p ps q here_is found) (none_parts n p.1 (in_row ps) none).0
+    by (inr not_here) more = more (found_there due p ps (Some q) not_here found)
+
+set_same : {X : Type 0} (due : ℕ) (qs : QueuesByTime X) (q new : List (Entry X)) → lookup (is_at (nat_cmp due)) qs ≡ Some q → new ≡ q
     → in_row (set_value (is_at (nat_cmp due)) qs new) ≡ in_row qs
 set_same due [] q new found is = refl
 set_same due (p ∷ ps) q new found is = by (bool_of (is_at (nat_cmp due) p.0)) (λ other. set_same due ps q new other is)
@@ -213,18 +221,18 @@ set_same due (p ∷ ps) q new found is = by (bool_of (is_at (nat_cmp due) p.0)) 
         → in_row (set_value (is_at (nat_cmp due)) (p ∷ ps) new) ≡ in_row (p ∷ ps)
     by (inl here_is) more =
         ap in_row (set_here due p ps new here_is)
-        ∙ ap (λ t. t ++ in_row ps) (is ∙ ap (λ v. v.items) (sym (found_here due p ps q here_is found)))
-    by (inr not_here) more = ap in_row (set_there due p ps new not_here) ∙ ap (λ t. p.1.items ++ t) (more (found_there due p ps (Some q) not_here found))
+        ∙ ap (λ t. t ++ in_row ps) (is ∙ ap (λ v. v) (sym (found_here due p ps q here_is found)))
+    by (inr not_here) more = ap in_row (set_there due p ps new not_here) ∙ ap (λ t. p.1 ++ t) (more (found_there due p ps (Some q) not_here found))
 
 -- what becomes of the row by a put into a queue, with room or without
-pub put_result : {X E : Type 0} (result : Result (Unit {0}) E) (due : ℕ) (qs now : QueuesByTime X) (q new : VecDeque (Entry X) Global) (e : Entry X)
+pub put_result : {X E : Type 0} (result : Result (Unit {0}) E) (due : ℕ) (qs now : QueuesByTime X) (q new : List (Entry X)) (e : Entry X)
     → now ≡ set_value (is_at (nat_cmp due)) qs new → AreQueues qs → e.due ≡ due → lookup (is_at (nat_cmp due)) qs ≡ Some q
-    → OnOk result (new.items ≡ put_entry e q.items) → OnErr result (new.items ≡ q.items)
+    → OnOk result (new ≡ put_entry e q) → OnErr result (new ≡ q)
     → OnOk result (in_row now ≡ put_entry e (in_row qs)) × OnErr result (in_row now ≡ in_row qs) × AreQueues now
 put_result (Ok x) due qs now q new e is queues here found ok err = (
   ap in_row is ∙ put_found due qs q new e queues here ok found,
   tt,
-  subst (λ t. AreQueues t) (sym is) (queues_found due qs q new queues (λ queue. queue_put due e q.items new.items queue here ok) found),
+  subst (λ t. AreQueues t) (sym is) (queues_found due qs q new queues (λ queue. queue_put due e q new queue here ok) found),
 )
 put_result (Err x) due qs now q new e is queues here found ok err = (
   tt,
@@ -238,11 +246,11 @@ later_all : {X : Type 0} (from due : ℕ) (qs : QueuesByTime X) → from < due �
 later_all from due [] less later = tt
 later_all from due (p ∷ ps) less later = (let here = later.0 in omega (arith, less, here), later_all from due ps less later.1)
 
-Inserted : {X : Type 0} (due : ℕ) (qs : QueuesByTime X) (new : VecDeque (Entry X) Global) (e : Entry X) (now : QueuesByTime X) → Type 0
+Inserted : {X : Type 0} (due : ℕ) (qs : QueuesByTime X) (new : List (Entry X)) (e : Entry X) (now : QueuesByTime X) → Type 0
 Inserted due qs new e now = (in_row now ≡ put_entry e (in_row qs)) × AreQueues now × ((from : ℕ) → from < due → AreLater from qs → AreLater from now)
 
-insert_case : {X : Type 0} (due : ℕ) (p : ℕ × VecDeque (Entry X) Global) (ps : QueuesByTime X) (new : VecDeque (Entry X) Global) (e : Entry X)
-    → AreQueues (p ∷ ps) → e.due ≡ due → new.items ≡ e ∷ [] → IsQueue due new.items
+insert_case : {X : Type 0} (due : ℕ) (p : ℕ × List (Entry X)) (ps : QueuesByTime X) (new : List (Entry X)) (e : Entry X)
+    → AreQueues (p ∷ ps) → e.due ≡ due → new ≡ e ∷ [] → IsQueue due new
     → lookup (is_at (nat_cmp due)) (p ∷ ps) ≡ None
     → (lookup (is_at (nat_cmp due)) ps ≡ None → Inserted due ps new e (insert_entry nat_cmp ps due new))
     → (order : Ordering) → nat_cmp due p.0 ≡ order
@@ -262,63 +270,69 @@ insert_case due p ps new e queues here one queue none next Equal is =
 insert_case due p ps new e queues here one queue none next Greater is =
     let less : p.0 < due = grind (arith, nat_tests) in
     let rest = next (found_there due p ps None (at_other due p.0 (λ same. omega (arith, same, less))) none) in (
-      ap (λ t. p.1.items ++ t) rest.0
-          ∙ sym (put_behind e p.1.items (in_row ps) (all_before_due e p.0 p.1.items queues.0.together (omega (arith, less, here)))),
+      ap (λ t. p.1 ++ t) rest.0
+          ∙ sym (put_behind e p.1 (in_row ps) (all_before_due e p.0 p.1 queues.0.together (omega (arith, less, here)))),
       (queues.0, rest.2 p.0 less queues.1, rest.1),
       (λ from under over. (over.0, rest.2 from under over.1)),
     )
 
-inserted : {X : Type 0} (due : ℕ) (qs : QueuesByTime X) (new : VecDeque (Entry X) Global) (e : Entry X) → AreQueues qs → e.due ≡ due
-    → new.items ≡ e ∷ [] → IsQueue due new.items → lookup (is_at (nat_cmp due)) qs ≡ None → Inserted due qs new e (insert_entry nat_cmp qs due new)
+inserted : {X : Type 0} (due : ℕ) (qs : QueuesByTime X) (new : List (Entry X)) (e : Entry X) → AreQueues qs → e.due ≡ due
+    → new ≡ e ∷ [] → IsQueue due new → lookup (is_at (nat_cmp due)) qs ≡ None → Inserted due qs new e (insert_entry nat_cmp qs due new)
 unfolding Inserted
-inserted due [] new e queues here one queue none = (append-nil new.items ∙ one, (queue, tt, tt), (λ from under over. (under, tt)))
+inserted due [] new e queues here one queue none = (append-nil new ∙ one, (queue, tt, tt), (λ from under over. (under, tt)))
 inserted due (p ∷ ps) new e queues here one queue none =
     insert_case due p ps new e queues here one queue none (λ other. inserted due ps new e queues.2 here one queue other) (nat_cmp due p.0) refl
 
-pub put_new : {X : Type 0} (due : ℕ) (qs : QueuesByTime X) (new : VecDeque (Entry X) Global) (e : Entry X) → AreQueues qs → e.due ≡ due
-    → new.items ≡ e ∷ [] → lookup (is_at (nat_cmp due)) qs ≡ None
+pub put_new : {X : Type 0} (due : ℕ) (qs : QueuesByTime X) (new : List (Entry X)) (e : Entry X) → AreQueues qs → e.due ≡ due
+    → new ≡ e ∷ [] → lookup (is_at (nat_cmp due)) qs ≡ None
     → (in_row (insert_entry nat_cmp qs due new) ≡ put_entry e (in_row qs)) × AreQueues (insert_entry nat_cmp qs due new)
 unfolding Inserted
 put_new due qs new e queues here one none =
-    let all = inserted due qs new e queues here one (subst (λ k. IsQueue k new.items) here (queue_one e new.items one)) none in (all.0, all.1)
+    let all = inserted due qs new e queues here one (subst (λ k. IsQueue k new) here (queue_one e new one)) none in (all.0, all.1)
 
 -- ---- one entry taken out
 
-none_remove : {X : Type 0} (e : Entry X) (es : List (Entry X)) (at : ℕ) → NoneBefore e es → NoneBefore e (remove es at)
-none_remove e [] zero none = tt
-none_remove e [] (suc at) none = tt
-none_remove e (x ∷ xs) zero none = none.1
-none_remove e (x ∷ xs) (suc at) none = (none.0, none_remove e xs at none.1)
+none_cut : {X : Type 0} (e : Entry X) (n : ℕ) (es : List (Entry X)) → NoneBefore e es → NoneBefore e (without_number n es)
+none_cut e n [] none = tt
+none_cut e n (x ∷ xs) none = by (nat_eq x.number n) (none_cut e n xs none.1)
+  where
+    by : (b : Bool) → NoneBefore e (without_number n xs) → NoneBefore e (if b then xs else x ∷ without_number n xs)
+    by true more = none.1
+    by false more = (none.0, more)
 
-sorted_remove : {X : Type 0} (es : List (Entry X)) (at : ℕ) → AreSorted es → AreSorted (remove es at)
-sorted_remove [] zero sorted = tt
-sorted_remove [] (suc at) sorted = tt
-sorted_remove (x ∷ xs) zero sorted = sorted.1
-sorted_remove (x ∷ xs) (suc at) sorted = (none_remove x xs at sorted.0, sorted_remove xs at sorted.1)
+sorted_cut : {X : Type 0} (n : ℕ) (es : List (Entry X)) → AreSorted es → AreSorted (without_number n es)
+sorted_cut n [] sorted = tt
+sorted_cut n (x ∷ xs) sorted = by (nat_eq x.number n) (sorted_cut n xs sorted.1)
+  where
+    by : (b : Bool) → AreSorted (without_number n xs) → AreSorted (if b then xs else x ∷ without_number n xs)
+    by true more = sorted.1
+    by false more = (none_cut x n xs sorted.0, more)
 
-due_remove : {X : Type 0} (due : ℕ) (es : List (Entry X)) (at : ℕ) → AreDue due es → AreDue due (remove es at)
-due_remove due [] zero dues = tt
-due_remove due [] (suc at) dues = tt
-due_remove due (x ∷ xs) zero dues = dues.1
-due_remove due (x ∷ xs) (suc at) dues = (dues.0, due_remove due xs at dues.1)
+due_cut : {X : Type 0} (due n : ℕ) (es : List (Entry X)) → AreDue due es → AreDue due (without_number n es)
+due_cut due n [] dues = tt
+due_cut due n (x ∷ xs) dues = by (nat_eq x.number n) (due_cut due n xs dues.1)
+  where
+    by : (b : Bool) → AreDue due (without_number n xs) → AreDue due (if b then xs else x ∷ without_number n xs)
+    by true more = dues.1
+    by false more = (dues.0, more)
 
-pub queue_remove : {X : Type 0} (due at : ℕ) (es now : List (Entry X)) → IsQueue due es → now ≡ remove es at → now ≢ [] → IsQueue due now
-queue_remove due at es now queue is filled = record {
+pub queue_cut : {X : Type 0} (due at : ℕ) (es now : List (Entry X)) → IsQueue due es → now ≡ without_number at es → now ≢ [] → IsQueue due now
+queue_cut due at es now queue is filled = record {
   filled = filled;
-  together = subst (λ t. AreDue due t) (sym is) (due_remove due es at queue.together);
-  sorted = subst (λ t. AreSorted t) (sym is) (sorted_remove es at queue.sorted);
+  together = subst (λ t. AreDue due t) (sym is) (due_cut due at es queue.together);
+  sorted = subst (λ t. AreSorted t) (sym is) (sorted_cut at es queue.sorted);
 }
 
-pub queue_at_is : {X : Type 0} (due : ℕ) (qs : QueuesByTime X) (q : VecDeque (Entry X) Global) → lookup (is_at (nat_cmp due)) qs ≡ Some q → queue_at due qs ≡ q.items
+pub queue_at_is : {X : Type 0} (due : ℕ) (qs : QueuesByTime X) (q : List (Entry X)) → lookup (is_at (nat_cmp due)) qs ≡ Some q → queue_at due qs ≡ q
 queue_at_is due [] q found = absurd (none_held q (sym found))
 queue_at_is due (p ∷ ps) q found = by (bool_of (is_at (nat_cmp due) p.0)) (λ other. queue_at_is due ps q other)
   where
-    by : ((is_at (nat_cmp due) p.0 ≡ true) ⊎ (is_at (nat_cmp due) p.0 ≡ false)) → ((lookup (is_at (nat_cmp due)) ps ≡ Some q) → queue_at due ps ≡ q.items)
-        → queue_at due (p ∷ ps) ≡ q.items
+    by : ((is_at (nat_cmp due) p.0 ≡ true) ⊎ (is_at (nat_cmp due) p.0 ≡ false)) → ((lookup (is_at (nat_cmp due)) ps ≡ Some q) → queue_at due ps ≡ q)
+        → queue_at due (p ∷ ps) ≡ q
     by (inl here_is) more =
-        ap (λ (b : Bool). if b then p.1.items else queue_at due ps) here_is ∙ ap (λ v. v.items) (found_here due p ps q here_is found)
+        ap (λ (b : Bool). if b then p.1 else queue_at due ps) here_is ∙ ap (λ v. v) (found_here due p ps q here_is found)
     by (inr not_here) more =
-        ap (λ (b : Bool). if b then p.1.items else queue_at due ps) not_here ∙ more (found_there due p ps (Some q) not_here found)
+        ap (λ (b : Bool). if b then p.1 else queue_at due ps) not_here ∙ more (found_there due p ps (Some q) not_here found)
 
 pub queue_at_none : {X : Type 0} (due : ℕ) (qs : QueuesByTime X) → lookup (is_at (nat_cmp due)) qs ≡ None → queue_at due qs ≡ []
 queue_at_none due [] none = refl
@@ -329,18 +343,18 @@ queue_at_none due (p ∷ ps) none = by (bool_of (is_at (nat_cmp due) p.0)) (λ o
     by (inl here_is) more =
         absurd (none_held p.1 (sym (ap (λ (b : Bool). if b then Some p.1 else lookup (is_at (nat_cmp due)) ps) here_is) ∙ none))
     by (inr not_here) more =
-        ap (λ (b : Bool). if b then p.1.items else queue_at due ps) not_here ∙ more (found_there due p ps None not_here none)
+        ap (λ (b : Bool). if b then p.1 else queue_at due ps) not_here ∙ more (found_there due p ps None not_here none)
 
-without_here : {X : Type 0} (due at : ℕ) (p : ℕ × VecDeque (Entry X) Global) (ps : QueuesByTime X) → is_at (nat_cmp due) p.0 ≡ true
-    → row_without due at (p ∷ ps) ≡ remove p.1.items at ++ in_row ps
-without_here due at p ps here_is = ap (λ (b : Bool). if b then remove p.1.items at ++ in_row ps else p.1.items ++ row_without due at ps) here_is
+without_here : {X : Type 0} (due at : ℕ) (p : ℕ × List (Entry X)) (ps : QueuesByTime X) → is_at (nat_cmp due) p.0 ≡ true
+    → row_without due at (p ∷ ps) ≡ without_number at p.1 ++ in_row ps
+without_here due at p ps here_is = ap (λ (b : Bool). if b then without_number at p.1 ++ in_row ps else p.1 ++ row_without due at ps) here_is
 
-without_there : {X : Type 0} (due at : ℕ) (p : ℕ × VecDeque (Entry X) Global) (ps : QueuesByTime X) → is_at (nat_cmp due) p.0 ≡ false
-    → row_without due at (p ∷ ps) ≡ p.1.items ++ row_without due at ps
-without_there due at p ps not_here = ap (λ (b : Bool). if b then remove p.1.items at ++ in_row ps else p.1.items ++ row_without due at ps) not_here
+without_there : {X : Type 0} (due at : ℕ) (p : ℕ × List (Entry X)) (ps : QueuesByTime X) → is_at (nat_cmp due) p.0 ≡ false
+    → row_without due at (p ∷ ps) ≡ p.1 ++ row_without due at ps
+without_there due at p ps not_here = ap (λ (b : Bool). if b then without_number at p.1 ++ in_row ps else p.1 ++ row_without due at ps) not_here
 
-taken_row : {X : Type 0} (due at : ℕ) (qs : QueuesByTime X) (q new : VecDeque (Entry X) Global) → lookup (is_at (nat_cmp due)) qs ≡ Some q
-    → new.items ≡ remove q.items at → in_row (set_value (is_at (nat_cmp due)) qs new) ≡ row_without due at qs
+taken_row : {X : Type 0} (due at : ℕ) (qs : QueuesByTime X) (q new : List (Entry X)) → lookup (is_at (nat_cmp due)) qs ≡ Some q
+    → new ≡ without_number at q → in_row (set_value (is_at (nat_cmp due)) qs new) ≡ row_without due at qs
 taken_row due at [] q new found is = refl
 taken_row due at (p ∷ ps) q new found is = by (bool_of (is_at (nat_cmp due) p.0)) (λ other. taken_row due at ps q new other is)
   where
@@ -349,23 +363,23 @@ taken_row due at (p ∷ ps) q new found is = by (bool_of (is_at (nat_cmp due) p.
         → in_row (set_value (is_at (nat_cmp due)) (p ∷ ps) new) ≡ row_without due at (p ∷ ps)
     by (inl here_is) more =
         ap in_row (set_here due p ps new here_is)
-        ∙ ap (λ t. t ++ in_row ps) (is ∙ ap (λ v. remove v.items at) (sym (found_here due p ps q here_is found)))
+        ∙ ap (λ t. t ++ in_row ps) (is ∙ ap (λ v. without_number at v) (sym (found_here due p ps q here_is found)))
         ∙ sym (without_here due at p ps here_is)
     by (inr not_here) more =
         ap in_row (set_there due p ps new not_here)
-        ∙ ap (λ t. p.1.items ++ t) (more (found_there due p ps (Some q) not_here found))
+        ∙ ap (λ t. p.1 ++ t) (more (found_there due p ps (Some q) not_here found))
         ∙ sym (without_there due at p ps not_here)
 
-cut_here : {X : Type 0} (due : ℕ) (p : ℕ × VecDeque (Entry X) Global) (ps : QueuesByTime X) → is_at (nat_cmp due) p.0 ≡ true
+cut_here : {X : Type 0} (due : ℕ) (p : ℕ × List (Entry X)) (ps : QueuesByTime X) → is_at (nat_cmp due) p.0 ≡ true
     → remove_entry (is_at (nat_cmp due)) (p ∷ ps) ≡ ps
 cut_here due p ps here_is = ap (λ (b : Bool). if b then ps else p ∷ remove_entry (is_at (nat_cmp due)) ps) here_is
 
-cut_there : {X : Type 0} (due : ℕ) (p : ℕ × VecDeque (Entry X) Global) (ps : QueuesByTime X) → is_at (nat_cmp due) p.0 ≡ false
+cut_there : {X : Type 0} (due : ℕ) (p : ℕ × List (Entry X)) (ps : QueuesByTime X) → is_at (nat_cmp due) p.0 ≡ false
     → remove_entry (is_at (nat_cmp due)) (p ∷ ps) ≡ p ∷ remove_entry (is_at (nat_cmp due)) ps
 cut_there due p ps not_here = ap (λ (b : Bool). if b then ps else p ∷ remove_entry (is_at (nat_cmp due)) ps) not_here
 
 -- a queue that was emptied and is taken out
-cut_set : {X : Type 0} (due : ℕ) (qs : QueuesByTime X) (q new : VecDeque (Entry X) Global) → lookup (is_at (nat_cmp due)) qs ≡ Some q
+cut_set : {X : Type 0} (due : ℕ) (qs : QueuesByTime X) (q new : List (Entry X)) → lookup (is_at (nat_cmp due)) qs ≡ Some q
     → remove_entry (is_at (nat_cmp due)) (set_value (is_at (nat_cmp due)) qs new) ≡ remove_entry (is_at (nat_cmp due)) qs
 cut_set due [] q new found = refl
 cut_set due (p ∷ ps) q new found = by (bool_of (is_at (nat_cmp due) p.0)) (λ other. cut_set due ps q new other)
@@ -383,8 +397,8 @@ cut_set due (p ∷ ps) q new found = by (bool_of (is_at (nat_cmp due) p.0)) (λ 
         ∙ ap (λ t. p ∷ t) (more (found_there due p ps (Some q) not_here found))
         ∙ sym (cut_there due p ps not_here)
 
-cut_row : {X : Type 0} (due at : ℕ) (qs : QueuesByTime X) (q : VecDeque (Entry X) Global) → lookup (is_at (nat_cmp due)) qs ≡ Some q
-    → remove q.items at ≡ [] → in_row (remove_entry (is_at (nat_cmp due)) qs) ≡ row_without due at qs
+cut_row : {X : Type 0} (due at : ℕ) (qs : QueuesByTime X) (q : List (Entry X)) → lookup (is_at (nat_cmp due)) qs ≡ Some q
+    → without_number at q ≡ [] → in_row (remove_entry (is_at (nat_cmp due)) qs) ≡ row_without due at qs
 cut_row due at [] q found is = refl
 cut_row due at (p ∷ ps) q found is = by (bool_of (is_at (nat_cmp due) p.0)) (λ other. cut_row due at ps q other is)
   where
@@ -393,11 +407,11 @@ cut_row due at (p ∷ ps) q found is = by (bool_of (is_at (nat_cmp due) p.0)) (�
         → in_row (remove_entry (is_at (nat_cmp due)) (p ∷ ps)) ≡ row_without due at (p ∷ ps)
     by (inl here_is) more =
         ap in_row (cut_here due p ps here_is)
-        ∙ ap (λ t. t ++ in_row ps) (sym is ∙ ap (λ v. remove v.items at) (sym (found_here due p ps q here_is found)))
+        ∙ ap (λ t. t ++ in_row ps) (sym is ∙ ap (λ v. without_number at v) (sym (found_here due p ps q here_is found)))
         ∙ sym (without_here due at p ps here_is)
     by (inr not_here) more =
         ap in_row (cut_there due p ps not_here)
-        ∙ ap (λ t. p.1.items ++ t) (more (found_there due p ps (Some q) not_here found))
+        ∙ ap (λ t. p.1 ++ t) (more (found_there due p ps (Some q) not_here found))
         ∙ sym (without_there due at p ps not_here)
 
 later_cut : {X : Type 0} (from due : ℕ) (qs : QueuesByTime X) → AreLater from qs → AreLater from (remove_entry (is_at (nat_cmp due)) qs)
@@ -416,172 +430,141 @@ queues_cut due (p ∷ ps) queues = by (is_at (nat_cmp due) p.0) (queues_cut due 
     by true more = queues.2
     by false more = (queues.0, later_cut p.0 due ps queues.1, more)
 
-pub cut_is : {X : Type 0} (due at : ℕ) (qs written now : QueuesByTime X) (q new : VecDeque (Entry X) Global) → AreQueues qs → lookup (is_at (nat_cmp due)) qs ≡ Some q
-    → new.items ≡ remove q.items at → new.items ≡ [] → written ≡ set_value (is_at (nat_cmp due)) qs new
+pub cut_is : {X : Type 0} (due at : ℕ) (qs written now : QueuesByTime X) (q new : List (Entry X)) → AreQueues qs → lookup (is_at (nat_cmp due)) qs ≡ Some q
+    → new ≡ without_number at q → new ≡ [] → written ≡ set_value (is_at (nat_cmp due)) qs new
     → now ≡ remove_entry (is_at (nat_cmp due)) written → (in_row now ≡ row_without due at qs) × AreQueues now
 cut_is due at qs written now q new queues found is empty written_is now_is =
     let whole = now_is ∙ ap (remove_entry (is_at (nat_cmp due))) written_is ∙ cut_set due qs q new found in
     (ap in_row whole ∙ cut_row due at qs q found (sym is ∙ empty), subst (λ t. AreQueues t) (sym whole) (queues_cut due qs queues))
 
-pub kept_is : {X : Type 0} (due at : ℕ) (qs now : QueuesByTime X) (q new : VecDeque (Entry X) Global) → AreQueues qs → lookup (is_at (nat_cmp due)) qs ≡ Some q
-    → new.items ≡ remove q.items at → new.items ≢ [] → now ≡ set_value (is_at (nat_cmp due)) qs new
+pub kept_is : {X : Type 0} (due at : ℕ) (qs now : QueuesByTime X) (q new : List (Entry X)) → AreQueues qs → lookup (is_at (nat_cmp due)) qs ≡ Some q
+    → new ≡ without_number at q → new ≢ [] → now ≡ set_value (is_at (nat_cmp due)) qs new
     → (in_row now ≡ row_without due at qs) × AreQueues now
 kept_is due at qs now q new queues found is filled now_is = (
   ap in_row now_is ∙ taken_row due at qs q new found is,
-  subst (λ t. AreQueues t) (sym now_is) (queues_found due qs q new queues (λ queue. queue_remove due at q.items new.items queue is filled) found),
+  subst (λ t. AreQueues t) (sym now_is) (queues_found due qs q new queues (λ queue. queue_cut due at q new queue is filled) found),
 )
 
 -- ---- the first queue
 
-pub first_is : {X : Type 0} (due : ℕ) (q : VecDeque (Entry X) Global) (qs : QueuesByTime X) → slice_get qs 0 ≡ Some (due, q) → IsFirst due qs
+pub first_is : {X : Type 0} (due : ℕ) (q : List (Entry X)) (qs : QueuesByTime X) → slice_get qs 0 ≡ Some (due, q) → IsFirst due qs
 first_is due q [] is = absurd (none_held (due, q) (sym is))
 first_is due q (p ∷ ps) is = ap (λ t. t.0) (held p (due, q) is)
 
-pub first_filled : {X : Type 0} (due : ℕ) (q : VecDeque (Entry X) Global) (qs : QueuesByTime X) → AreQueues qs → slice_get qs 0 ≡ Some (due, q) → q.items ≢ []
+pub first_filled : {X : Type 0} (due : ℕ) (q : List (Entry X)) (qs : QueuesByTime X) → AreQueues qs → slice_get qs 0 ≡ Some (due, q) → q ≢ []
 first_filled due q [] queues is = absurd (none_held (due, q) (sym is))
-first_filled due q (p ∷ ps) queues is = subst (λ t. t.1.items ≢ []) (held p (due, q) is) queues.0.filled
+first_filled due q (p ∷ ps) queues is = subst (λ t. t.1 ≢ []) (held p (due, q) is) queues.0.filled
 
-head_joined : {X : Type 0} (e : Entry X) (xs ys : List (Entry X)) → IsHead e xs → IsHead e (xs ++ ys)
-head_joined e [] ys head = absurd head
-head_joined e (x ∷ xs) ys head = head
+head_joined : {X : Type 0} (due number : ℕ) (xs ys : List (Entry X)) → IsHead due number xs → IsHead due number (xs ++ ys)
+head_joined due number [] ys head = absurd head
+head_joined due number (x ∷ xs) ys head = head
 
-pub head_is : {X : Type 0} (due : ℕ) (q : VecDeque (Entry X) Global) (e : Entry X) (qs : QueuesByTime X) → slice_get qs 0 ≡ Some (due, q) → IsHead e q.items → IsHead e (in_row qs)
-head_is due q e [] is head = absurd (none_held (due, q) (sym is))
-head_is due q e (p ∷ ps) is head = head_joined e p.1.items (in_row ps) (subst (λ t. IsHead e t.1.items) (sym (held p (due, q) is)) head)
+pub head_is : {X : Type 0} (due : ℕ) (q : List (Entry X)) (own number : ℕ) (qs : QueuesByTime X) → slice_get qs 0 ≡ Some (due, q) → IsHead own number q → IsHead own number (in_row qs)
+head_is due q own number [] is head = absurd (none_held (due, q) (sym is))
+head_is due q own number (p ∷ ps) is head = head_joined own number p.1 (in_row ps) (subst (λ t. IsHead own number t.1) (sym (held p (due, q) is)) head)
 
-at_first : {X : Type 0} (due : ℕ) (p : ℕ × VecDeque (Entry X) Global) (ps : QueuesByTime X) → p.0 ≡ due → queue_at due (p ∷ ps) ≡ p.1.items
-at_first due p ps first = ap (λ (b : Bool). if b then p.1.items else queue_at due ps) (at_same due p.0 first)
+at_first : {X : Type 0} (due : ℕ) (p : ℕ × List (Entry X)) (ps : QueuesByTime X) → p.0 ≡ due → queue_at due (p ∷ ps) ≡ p.1
+at_first due p ps first = ap (λ (b : Bool). if b then p.1 else queue_at due ps) (at_same due p.0 first)
 
-pub first_there : {X : Type 0} (due : ℕ) (qs : QueuesByTime X) → AreQueues qs → IsFirst due qs → 0 < length (queue_at due qs)
-first_there due [] queues first = absurd first
-first_there due (p ∷ ps) queues first =
-    subst (λ t. 0 < length t) (sym (at_first due p ps first)) (some_there p.1.items queues.0.filled)
+-- the head of the row is that of the first queue
+first_due_is : {X : Type 0} (k due number : ℕ) (es rest : List (Entry X)) → es ≢ [] → AreDue k es → IsHead due number (es ++ rest) → (k ≡ due) × IsHead due number es
+first_due_is k due number [] rest filled dues head = absurd (filled refl)
+first_due_is k due number (e ∷ es) rest filled dues head = (sym dues.0 ∙ head.0, head)
 
-head_of : {X : Type 0} (xs ys : List X) → xs ≢ [] → slice_get xs 0 ≡ slice_get (xs ++ ys) 0
-head_of [] ys filled = absurd (filled refl)
-head_of (x ∷ xs) ys filled = refl
+pub first_there : {X : Type 0} (due number : ℕ) (qs : QueuesByTime X) → AreQueues qs → IsHead due number (in_row qs) → queue_at due qs ≢ []
+first_there due number [] queues head = absurd head
+first_there due number (p ∷ ps) queues head =
+    let own = first_due_is p.0 due number p.1 (in_row ps) queues.0.filled queues.0.together head in
+    λ empty. queues.0.filled (sym (at_first due p ps own.0) ∙ empty)
 
-pub first_head : {X : Type 0} (due : ℕ) (qs : QueuesByTime X) → AreQueues qs → IsFirst due qs → slice_get (queue_at due qs) 0 ≡ slice_get (in_row qs) 0
-first_head due [] queues first = absurd first
-first_head due (p ∷ ps) queues first = ap (λ t. slice_get t 0) (at_first due p ps first) ∙ head_of p.1.items (in_row ps) queues.0.filled
+got_of : {X : Type 0} (xs ys : List X) → xs ≢ [] → slice_get xs 0 ≡ slice_get (xs ++ ys) 0
+got_of [] ys filled = absurd (filled refl)
+got_of (x ∷ xs) ys filled = refl
 
-tail_of : {X : Type 0} (xs ys : List X) → xs ≢ [] → remove xs 0 ++ ys ≡ drop 1 (xs ++ ys)
-tail_of [] ys filled = absurd (filled refl)
-tail_of (x ∷ xs) ys filled = refl
+pub first_head : {X : Type 0} (due number : ℕ) (qs : QueuesByTime X) → AreQueues qs → IsHead due number (in_row qs) → numbered number (queue_at due qs) ≡ slice_get (in_row qs) 0
+first_head due number [] queues head = absurd head
+first_head due number (p ∷ ps) queues head =
+    let own = first_due_is p.0 due number p.1 (in_row ps) queues.0.filled queues.0.together head in
+    ap (numbered number) (at_first due p ps own.0) ∙ head_numbered due number p.1 own.1 ∙ got_of p.1 (in_row ps) queues.0.filled
 
-pub first_left : {X : Type 0} (due : ℕ) (qs : QueuesByTime X) → AreQueues qs → IsFirst due qs → row_without due 0 qs ≡ drop 1 (in_row qs)
-first_left due [] queues first = absurd first
-first_left due (p ∷ ps) queues first =
-    without_here due 0 p ps (at_same due p.0 first) ∙ tail_of p.1.items (in_row ps) queues.0.filled
+tail_of : {X : Type 0} (due number : ℕ) (xs ys : List (Entry X)) → IsHead due number xs → without_number number xs ++ ys ≡ drop 1 (xs ++ ys)
+tail_of due number [] ys head = absurd head
+tail_of due number (x ∷ xs) ys head = ap (λ (b : Bool). (if b then xs else x ∷ without_number number xs) ++ ys) (eq-eqb x.number number head.1)
 
--- ---- whether a queue is empty
+pub first_left : {X : Type 0} (due number : ℕ) (qs : QueuesByTime X) → AreQueues qs → IsHead due number (in_row qs) → row_without due number qs ≡ drop 1 (in_row qs)
+first_left due number [] queues head = absurd head
+first_left due number (p ∷ ps) queues head =
+    let own = first_due_is p.0 due number p.1 (in_row ps) queues.0.filled queues.0.together head in
+    without_here due number p ps (at_same due p.0 own.0) ∙ tail_of due number p.1 (in_row ps) own.1
 
-pub empty_is : {X : Type 0} (n : ℕ) (xs : List X) → n ≡ length xs → (n == 0) ≡ true → xs ≡ []
-empty_is n [] is test = refl
-empty_is n (x ∷ xs) is test = absurd (let zero_is : n ≡ 0 = grind (arith, nat_tests) in omega (arith, is, zero_is))
+-- ---- an entry of the row in its queue
 
-pub filled_is : {X : Type 0} (n : ℕ) (xs : List X) → n ≡ length xs → (n == 0) ≡ false → xs ≢ []
-filled_is n xs is test empty =
-    let none = ap length empty in
-    let zero_is : n ≡ 0 = is ∙ none in
-    (let no_test : (n == 0) ≡ true = grind (arith, nat_tests) in cc)
-
--- ---- the Turn of an object
-
-pub count_row : {X : Type 0} (object due at : ℕ) (qs : QueuesByTime X) → IsTurnAt object at (queue_at due qs) → 0 < turn_count object (in_row qs)
-count_row object due at [] found = count_at object at [] found
-count_row object due at (p ∷ ps) found = by (bool_of (is_at (nat_cmp due) p.0)) (λ there. count_row object due at ps there)
+none_due : {X : Type 0} (due number : ℕ) (e : Entry X) (es : List (Entry X)) (k : ℕ) → AreDue k es → numbered number es ≡ Some e → e.due ≡ k
+none_due due number e [] k dues is = absurd cc
+none_due due number e (x ∷ xs) k dues is = by (nat_eq x.number number) is (none_due due number e xs k dues.1)
   where
-    by : ((is_at (nat_cmp due) p.0 ≡ true) ⊎ (is_at (nat_cmp due) p.0 ≡ false))
-        → (IsTurnAt object at (queue_at due ps) → 0 < turn_count object (in_row ps)) → 0 < turn_count object (in_row (p ∷ ps))
-    by (inl here_is) more =
-        let some = count_at object at p.1.items
-        (subst (λ t. IsTurnAt object at t) (ap (λ (b : Bool). if b then p.1.items else queue_at due ps) here_is) found) in
-        let sum = count_joined object p.1.items (in_row ps) in
-        omega (arith, sum, some)
-    by (inr not_here) more =
-        let some = more (subst (λ t. IsTurnAt object at t) (ap (λ (b : Bool). if b then p.1.items else queue_at due ps) not_here) found) in
-        let sum = count_joined object p.1.items (in_row ps) in
-        omega (arith, sum, some)
+    by : (b : Bool) → (if b then Some x else numbered number xs) ≡ Some e → (numbered number xs ≡ Some e → e.due ≡ k) → e.due ≡ k
+    by true here more = let same : x ≡ e = cc in ap (λ (t : Entry _). t.due) (sym same) ∙ dues.0
+    by false here more = more here
 
-pub turn_left : {X : Type 0} (object due at : ℕ) (qs : QueuesByTime X) → IsTurnAt object at (queue_at due qs) → turn_count object (in_row qs) ≤ 1
-    → row_without due at qs ≡ without_turns object (in_row qs)
-turn_left object due at [] found few = refl
-turn_left object due at (p ∷ ps) found few =
-    by (bool_of (is_at (nat_cmp due) p.0)) (λ there under. turn_left object due at ps there under)
+joined_numbered : {X : Type 0} (number : ℕ) (xs ys : List (Entry X)) (o : Option (Entry X)) → numbered number xs ≡ o → numbered number (xs ++ ys) ≡ option_or o (numbered number ys)
+joined_numbered number [] ys o is = ap (λ t. option_or t (numbered number ys)) is
+joined_numbered number (x ∷ xs) ys o is = by (nat_eq x.number number) is (λ e. joined_numbered number xs ys o e)
   where
-    by : ((is_at (nat_cmp due) p.0 ≡ true) ⊎ (is_at (nat_cmp due) p.0 ≡ false))
-        → (IsTurnAt object at (queue_at due ps) → turn_count object (in_row ps) ≤ 1 → row_without due at ps ≡ without_turns object (in_row ps))
-        → row_without due at (p ∷ ps) ≡ without_turns object (in_row (p ∷ ps))
-    by (inl here_is) more =
-        let there : IsTurnAt object at p.1.items =
-        subst (λ t. IsTurnAt object at t) (ap (λ (b : Bool). if b then p.1.items else queue_at due ps) here_is) found in
-        let sum = count_joined object p.1.items (in_row ps) in
-        let some = count_at object at p.1.items there in
-        without_here due at p ps here_is
-        ∙ ap (λ t. t ++ in_row ps) (sym (without_at object at p.1.items there (omega (arith, sum, few))))
-        ∙ ap (λ t. without_turns object p.1.items ++ t) (sym (without_none object (in_row ps) (omega (arith, sum, some, few))))
-        ∙ sym (without_joined object p.1.items (in_row ps))
-    by (inr not_here) more =
-        let there : IsTurnAt object at (queue_at due ps) =
-        subst (λ t. IsTurnAt object at t) (ap (λ (b : Bool). if b then p.1.items else queue_at due ps) not_here) found in
-        let sum = count_joined object p.1.items (in_row ps) in
-        let some = count_row object due at ps there in
-        without_there due at p ps not_here
-        ∙ ap (λ t. p.1.items ++ t) (more there (omega (arith, sum, few)))
-        ∙ ap (λ t. t ++ without_turns object (in_row ps)) (sym (without_none object p.1.items (omega (arith, sum, some, few))))
-        ∙ sym (without_joined object p.1.items (in_row ps))
+    by : (b : Bool) → (if b then Some x else numbered number xs) ≡ o → (numbered number xs ≡ o → numbered number (xs ++ ys) ≡ option_or o (numbered number ys))
+        → (if b then Some x else numbered number (xs ++ ys)) ≡ option_or o (numbered number ys)
+    by true here more = ap (λ t. option_or t (numbered number ys)) here
+    by false here more = more here
 
--- ---- the search for a Turn in the queues
+-- two lists without an entry, which stands in the first where it is found there
+abbrev joined_cut : {X : Type 0} → ℕ → List (Entry X) → List (Entry X) → Option (Entry X) → List (Entry X)
+joined_cut number xs ys None = xs ++ without_number number ys
+joined_cut number xs ys (Some e) = without_number number xs ++ ys
 
--- no Turn stands in the queues that were passed, and those that are left are in the row
-pub record IsLeft {X : Type 0} (object : ℕ) (rest qs : QueuesByTime X) : Type 0 where
-  pub queues : AreQueues rest
-  pub count : turn_count object (in_row rest) ≡ turn_count object (in_row qs)
-  pub same : (due : ℕ) → queue_at due rest ≢ [] → queue_at due qs ≡ queue_at due rest
-
-pub left_start : {X : Type 0} (object : ℕ) (qs : QueuesByTime X) → AreQueues qs → IsLeft object qs qs
-left_start object qs queues = record { queues = queues; count = refl; same = λ due filled. refl }
+joined_without : {X : Type 0} (number : ℕ) (xs ys : List (Entry X)) (o : Option (Entry X)) → numbered number xs ≡ o → without_number number (xs ++ ys) ≡ joined_cut number xs ys o
+joined_without number [] ys None is = refl
+joined_without number [] ys (Some e) is = absurd cc
+joined_without number (x ∷ xs) ys o is = by (nat_eq x.number number) refl o is (λ p e. joined_without number xs ys p e)
+  where
+    by : (b : Bool) → nat_eq x.number number ≡ b → (p : Option (Entry _)) → (if b then Some x else numbered number xs) ≡ p
+        → ((p : Option (Entry _)) → numbered number xs ≡ p → without_number number (xs ++ ys) ≡ joined_cut number xs ys p)
+        → (if b then xs ++ ys else x ∷ without_number number (xs ++ ys)) ≡ joined_cut number (x ∷ xs) ys p
+    by true same (Some e) here more = sym (ap (λ (b : Bool). (if b then xs else x ∷ without_number number xs) ++ ys) same)
+    by true same None here more = absurd cc
+    by false same (Some e) here more = ap (λ t. x ∷ t) (more (Some e) here) ∙ sym (ap (λ (b : Bool). (if b then xs else x ∷ without_number number xs) ++ ys) same)
+    by false same None here more = ap (λ t. x ∷ t) (more None here)
 
 later_none : {X : Type 0} (due : ℕ) (qs : QueuesByTime X) → AreLater due qs → queue_at due qs ≡ []
 later_none due [] later = refl
 later_none due (p ∷ ps) later =
-    ap (λ (b : Bool). if b then p.1.items else queue_at due ps) (at_other due p.0 (λ same. (let here = later.0 in omega (arith, same, here))))
+    ap (λ (b : Bool). if b then p.1 else queue_at due ps) (at_other due p.0 (λ same. (let here = later.0 in omega (arith, same, here))))
     ∙ later_none due ps later.1
 
-left_queue : {X : Type 0} (k due : ℕ) (q : VecDeque (Entry X) Global) (rest : QueuesByTime X) → AreLater k rest → queue_at due rest ≢ []
-    → queue_at due ((k, q) ∷ rest) ≡ queue_at due rest
-left_queue k due q rest later filled = by (bool_of (is_at (nat_cmp due) k))
+-- the entry of a number in the row stands in the queue of its due time
+pub row_numbered : {X : Type 0} (number : ℕ) (e : Entry X) (qs : QueuesByTime X) → AreQueues qs → numbered number (in_row qs) ≡ Some e
+    → (numbered number (queue_at e.due qs) ≡ Some e) × (row_without e.due number qs ≡ without_number number (in_row qs))
+row_numbered number e [] queues is = absurd cc
+row_numbered number e (p ∷ ps) queues is = by (numbered number p.1) refl (λ rest. row_numbered number e ps queues.2 rest)
   where
-    by : ((is_at (nat_cmp due) k ≡ true) ⊎ (is_at (nat_cmp due) k ≡ false)) → queue_at due ((k, q) ∷ rest) ≡ queue_at due rest
-    by (inl here_is) = absurd (filled (later_none due rest (subst (λ n. AreLater n rest) (same_due due k here_is) later)))
-    by (inr not_here) = ap (λ (b : Bool). if b then q.items else queue_at due rest) not_here
-
-pub left_next : {X : Type 0} (object k : ℕ) (q : VecDeque (Entry X) Global) (all rest qs : QueuesByTime X) → IsLeft object all qs → all ≡ (k, q) ∷ rest
-    → turn_count object q.items ≡ 0 → IsLeft object rest qs
-left_next object k q all rest qs left is none =
-    let queues = subst (λ t. AreQueues t) is left.queues in
-    let sum = count_joined object q.items (in_row rest) in
-    let held_count = ap (λ t. turn_count object (in_row t)) is in
-    let before = left.count in
-    record {
-      queues = queues.2;
-      count = omega (arith, sum, held_count, before, none);
-      same = λ due filled.
-          (let one = left_queue k due q rest queues.1 filled in
-          left.same due (λ empty. filled (sym one ∙ sym (ap (queue_at due) is) ∙ empty)) ∙ ap (queue_at due) is ∙ one);
-    }
-
-pub left_found : {X : Type 0} (object k at : ℕ) (q : VecDeque (Entry X) Global) (all rest qs : QueuesByTime X) → IsLeft object all qs → all ≡ (k, q) ∷ rest
-    → IsTurnAt object at q.items → IsTurnAt object at (queue_at k qs)
-left_found object k at q all rest qs left is found =
-    let here : queue_at k all ≡ q.items = ap (queue_at k) is ∙ ap (λ (b : Bool). if b then q.items else queue_at k rest) (at_same k k refl) in
-    let inside = found.inside in
-    let filled : queue_at k all ≢ [] = (λ empty. (let size = ap length (sym here ∙ empty) in omega (arith, size, inside))) in
-    subst (λ t. IsTurnAt object at t) (sym (left.same k filled ∙ here)) found
-
-pub left_none : {X : Type 0} (object : ℕ) (all qs : QueuesByTime X) → IsLeft object all qs → all ≡ [] → turn_count object (in_row qs) ≡ 0
-left_none object all qs left is = sym left.count ∙ ap (λ t. turn_count object (in_row t)) is
+    by : (o : Option (Entry _)) → numbered number p.1 ≡ o
+        → (numbered number (in_row ps) ≡ Some e → (numbered number (queue_at e.due ps) ≡ Some e) × (row_without e.due number ps ≡ without_number number (in_row ps)))
+        → (numbered number (queue_at e.due (p ∷ ps)) ≡ Some e) × (row_without e.due number (p ∷ ps) ≡ without_number number (in_row (p ∷ ps)))
+    by (Some f) here next =
+        let same : Some f ≡ Some e = sym (joined_numbered number p.1 (in_row ps) (Some f) here) ∙ is in
+        let found : numbered number p.1 ≡ Some e = here ∙ same in
+        let due = none_due e.due number e p.1 p.0 queues.0.together found in (
+          ap (numbered number) (at_first e.due p ps (sym due)) ∙ found,
+          without_here e.due number p ps (at_same e.due p.0 (sym due)) ∙ sym (joined_without number p.1 (in_row ps) (Some f) here),
+        )
+    by None here next =
+        let rest : numbered number (in_row ps) ≡ Some e = sym (joined_numbered number p.1 (in_row ps) None here) ∙ is in
+        let more = next rest in
+        let other : p.0 ≢ e.due = (λ same. (let none : queue_at e.due ps ≡ [] = later_none e.due ps (subst (λ k. AreLater k ps) same queues.1) in
+        let gone : None ≡ Some e = sym (ap (numbered number) none) ∙ more.0 in cc)) in
+        let not_here = at_other e.due p.0 other in (
+          ap (λ (b : Bool). numbered number (if b then p.1 else queue_at e.due ps)) not_here ∙ more.0,
+          without_there e.due number p ps not_here ∙ ap (λ t. p.1 ++ t) more.1 ∙ sym (joined_without number p.1 (in_row ps) None here),
+        )
 
 -- ---- the due time of the first entry
 
@@ -594,14 +577,7 @@ first_key [] None queues key = refl
 first_key [] (Some k) queues key = absurd key
 first_key (p ∷ ps) None queues key = cc
 first_key (p ∷ ps) (Some k) queues key =
-    key_due k p.1.items (in_row ps) queues.0.filled (subst (λ n. AreDue n p.1.items) key queues.0.together)
+    key_due k p.1 (in_row ps) queues.0.filled (subst (λ n. AreDue n p.1) key queues.0.together)
 
--- what the first queue gives, and the search for a Turn
+-- what the first queue gives
 pub ruleset first_facts = (first_there, first_head, first_left)
-
-pub ruleset left_facts = (left_start, left_none, left_found)
-
--- the entry of a queue of one
-pub only_front : {A : Type 0} (x : A) (rest all : List A) → all ≡ x ∷ rest → length all ≡ 1 → all ≡ x ∷ []
-only_front x [] all is one = is
-only_front x (y ∷ rest) all is one = absurd (omega (arith, one, ap length is))

@@ -207,7 +207,7 @@ pub none_left : {X : Type 0} (object : ℕ) (es : List (Entry X)) → turn_count
 none_left object [] = refl
 none_left object (e ∷ es) = left_if (is_turn_of object e) object e (without_turns object es) refl (none_left object es)
 
-same_object : {X : Type 0} (object : ℕ) (kind : Kind X) → is_turn_kind object kind ≡ true → (other : ℕ) → other ≢ object → is_turn_kind other kind ≡ false
+pub same_object : {X : Type 0} (object : ℕ) (kind : Kind X) → is_turn_kind object kind ≡ true → (other : ℕ) → other ≢ object → is_turn_kind other kind ≡ false
 same_object object (Turn o) is other apart = grind (arith, nat_tests)
 same_object object (Event o script user) is other apart = refl
 same_object object (Stored o action) is other apart = refl

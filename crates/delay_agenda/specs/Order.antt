@@ -6,9 +6,13 @@ use Rattle.delay_agenda.specs.declared.entry.Entry.{Entry}
 abbrev pub IsBefore : {X : Type 0} → Entry X → Entry X → Type 0
 IsBefore a b = (a.due < b.due) ⊎ ((a.due ≡ b.due) × (a.number < b.number))
 
--- the same as a test
+-- whether what is due then, under this number, is taken before b
+abbrev pub comes_before : {X : Type 0} → ℕ → ℕ → Entry X → Bool
+comes_before due number b = if nat_lt due b.due then true else (if nat_eq due b.due then nat_lt number b.number else false)
+
+-- a is taken before b, as a test
 abbrev pub is_before : {X : Type 0} → Entry X → Entry X → Bool
-is_before a b = if nat_lt a.due b.due then true else (if nat_eq a.due b.due then nat_lt a.number b.number else false)
+is_before a b = comes_before a.due a.number b
 
 -- the entry that is taken next: no member is due earlier, and none at its due time has a lesser
 -- number

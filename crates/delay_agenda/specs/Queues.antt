@@ -1,36 +1,48 @@
 -- How the entries are kept: in queues by due time, and in an inbox that moves into them. No public
 -- clause speaks of it.
-use Rattle.std.specs.Prelude.{◌≡◌, ◌≢◌, ◌<◌, ℕ, suc, nat_eq, Option, None, Some, true, false, List, [], ◌∷◌, ◌++◌, length, get_or, if◌then◌else◌}
-use Rattle.std.specs.List.{remove}
+use Rattle.std.specs.Prelude.{◌≡◌, ◌≢◌, ◌<◌, ℕ, nat_eq, Option, None, Some, true, false, List, [], ◌∷◌, ◌++◌, length, get_or, if◌then◌else◌}
 use Rattle.std.specs.Ordering.{nat_cmp}
 use Rattle.std.specs.BTreeMap.{BTreeMap, get, is_at}
-use Rattle.std.specs.Global.{Global}
-use Rattle.std.specs.declared.collections.VecDeque.{VecDeque}
 use Rattle.delay_agenda.specs.declared.entry.Entry.{Entry}
 use Rattle.delay_agenda.specs.declared.entry.Kind.{Kind}
 use Rattle.delay_agenda.specs.declared.entry.Kind.TheVariants.{Event, Stored, Turn, Unapply}
-use Rattle.delay_agenda.specs.declared.turn_index.Turns.{Turns}
-use Rattle.delay_agenda.specs.Order.{is_before, put_entry}
-use Rattle.delay_agenda.specs.Waiting.{is_turn_of, turn_count, IsAgenda}
+use Rattle.stamped_slots.specs.Stamps.{Stamps, at, put, without}
+use Rattle.delay_agenda.specs.Order.{is_before, put_entry, AreDistinct}
+use Rattle.delay_agenda.specs.Waiting.{is_turn_of, IsAgenda}
+
+-- what is to run at one time, each under its number, as entries
+abbrev pub entries_of : {X : Type 0} → ℕ → List (ℕ × Kind X) → List (Entry X)
+entries_of due [] = []
+entries_of due (k ∷ kinds) = record { due = due; number = k.0; kind = k.1 } ∷ entries_of due kinds
+
+-- the entry of a number
+abbrev pub numbered : {X : Type 0} → ℕ → List (Entry X) → Option (Entry X)
+numbered number [] = None
+numbered number (e ∷ es) = if nat_eq e.number number then Some e else numbered number es
+
+-- the entries without the one of a number
+abbrev pub without_number : {X : Type 0} → ℕ → List (Entry X) → List (Entry X)
+without_number number [] = []
+without_number number (e ∷ es) = if nat_eq e.number number then es else e ∷ without_number number es
 
 -- queues by due time, as a map has them
 abbrev pub QueuesByTime : Type 0 → Type 0
-QueuesByTime X = List (ℕ × VecDeque (Entry X) Global)
+QueuesByTime X = List (ℕ × List (Entry X))
 
 -- the entries of the queues, one queue after the other
 abbrev pub in_row : {X : Type 0} → QueuesByTime X → List (Entry X)
 in_row [] = []
-in_row (q ∷ qs) = q.1.items ++ in_row qs
+in_row (q ∷ qs) = q.1 ++ in_row qs
 
 -- the entries of one queue, none where there is no such queue
 abbrev pub queue_at : {X : Type 0} → ℕ → QueuesByTime X → List (Entry X)
 queue_at due [] = []
-queue_at due (q ∷ qs) = if is_at (nat_cmp due) q.0 then q.1.items else queue_at due qs
+queue_at due (q ∷ qs) = if is_at (nat_cmp due) q.0 then q.1 else queue_at due qs
 
--- the entries of the queues without the one at a place of a queue
+-- the entries of the queues without the one of a number in one queue
 abbrev pub row_without : {X : Type 0} → ℕ → ℕ → QueuesByTime X → List (Entry X)
-row_without due at [] = []
-row_without due at (q ∷ qs) = if is_at (nat_cmp due) q.0 then remove q.1.items at ++ in_row qs else q.1.items ++ row_without due at qs
+row_without due number [] = []
+row_without due number (q ∷ qs) = if is_at (nat_cmp due) q.0 then without_number number q.1 ++ in_row qs else q.1 ++ row_without due number qs
 
 -- entries, the first of them first, put among those that stand in order
 abbrev pub put_all : {X : Type 0} → List (Entry X) → List (Entry X) → List (Entry X)
@@ -71,12 +83,12 @@ AreLater due (q ∷ qs) = (due < q.0) × AreLater due qs
 -- each queue is of its time, and those behind it are of later ones
 abbrev pub AreQueues : {X : Type 0} → QueuesByTime X → Type 0
 AreQueues [] = Unit {0}
-AreQueues (q ∷ qs) = IsQueue q.0 q.1.items × AreLater q.0 qs × AreQueues qs
+AreQueues (q ∷ qs) = IsQueue q.0 q.1 × AreLater q.0 qs × AreQueues qs
 
--- e is the head
-abbrev pub IsHead : {X : Type 0} → Entry X → List (Entry X) → Type 0
-IsHead e [] = ⊥
-IsHead e (x ∷ xs) = x ≡ e
+-- the head is due at this time and has this number
+abbrev pub IsHead : {X : Type 0} → ℕ → ℕ → List (Entry X) → Type 0
+IsHead due number [] = ⊥
+IsHead due number (x ∷ xs) = (x.due ≡ due) × (x.number ≡ number)
 
 -- the first queue is of this time
 abbrev pub IsFirst : {X : Type 0} → ℕ → QueuesByTime X → Type 0
@@ -105,27 +117,6 @@ pub record IsTurnAt {X : Type 0} (object at : ℕ) (es : List (Entry X)) : Type 
   pub inside : at < length es
   pub turn : (d : Entry X) → is_turn_of object (get_or es at d) ≡ true
 
--- how many Turns a record says that there are
-abbrev pub count_in : Option Turns → ℕ
-count_in None = 0
-count_in (Some turns) = turns.count
-
--- how many Turns of an object there are, as an index of them says
-abbrev pub turns_of : ℕ → BTreeMap ℕ Turns → ℕ
-turns_of object index = count_in (get nat_cmp index object)
-
--- an index counts the Turns of these entries
-abbrev pub IsCounted : {X : Type 0} → BTreeMap ℕ Turns → List (Entry X) → Type 0
-IsCounted index es = (object : ℕ) → turns_of object index ≡ turn_count object es
-
--- the second index counts one Turn of the object more
-abbrev pub HasOneMore : ℕ → BTreeMap ℕ Turns → BTreeMap ℕ Turns → Type 0
-HasOneMore object few more = (other : ℕ) → turns_of other more ≡ (if nat_eq object other then suc (turns_of other few) else turns_of other few)
-
--- the second index counts this entry more
-abbrev pub HasEntryMore : {X : Type 0} → Entry X → BTreeMap ℕ Turns → BTreeMap ℕ Turns → Type 0
-HasEntryMore e few more = (other : ℕ) → turns_of other more ≡ (if is_turn_of other e then suc (turns_of other few) else turns_of other few)
-
 -- the object whose Turn this is
 abbrev pub turning : {X : Type 0} → Kind X → Option ℕ
 turning (Turn o) = Some o
@@ -133,12 +124,55 @@ turning (Event o script user) = None
 turning (Stored o action) = None
 turning (Unapply o) = None
 
+-- the Turns of an object under their numbers, each with its due time
+abbrev pub turns_in : {X : Type 0} → ℕ → List (Entry X) → List (ℕ × ℕ)
+turns_in object [] = []
+turns_in object (e ∷ es) = if is_turn_of object e then put e.number e.due (turns_in object es) else turns_in object es
+
+-- the Turns that are listed
+abbrev pub listed : Option (Stamps ℕ) → List (ℕ × ℕ)
+listed None = []
+listed (Some turns) = turns.items
+
+-- the Turns of an object, as an index lists them
+abbrev pub turns_of : ℕ → BTreeMap ℕ (Stamps ℕ) → List (ℕ × ℕ)
+turns_of object index = listed (get nat_cmp index object)
+
+-- an index leads to the Turns of these entries, no two of which have one number
+pub record IsIndexed {X : Type 0} (index : BTreeMap ℕ (Stamps ℕ)) (es : List (Entry X)) : Type 0 where
+  pub distinct : AreDistinct es
+  pub turns : (object : ℕ) → turns_of object index ≡ turns_in object es
+
+-- an index lists no Turn of this entry's object under its number
+abbrev pub IsNew : {X : Type 0} → Entry X → BTreeMap ℕ (Stamps ℕ) → Type 0
+IsNew e index = (object : ℕ) → turning e.kind ≡ Some object → at e.number (turns_of object index) ≡ None
+
+-- the second index lists this Turn of the object too
+abbrev pub HasTurnMore : ℕ → ℕ → ℕ → BTreeMap ℕ (Stamps ℕ) → BTreeMap ℕ (Stamps ℕ) → Type 0
+HasTurnMore object number due few more = (other : ℕ) → turns_of other more ≡ (if nat_eq object other then put number due (turns_of other few) else turns_of other few)
+
+-- the second index lists the object's Turn of this number no more
+abbrev pub HasTurnLess : ℕ → ℕ → BTreeMap ℕ (Stamps ℕ) → BTreeMap ℕ (Stamps ℕ) → Type 0
+HasTurnLess object number more few = (other : ℕ) → turns_of other few ≡ (if nat_eq object other then without number (turns_of other more) else turns_of other more)
+
+-- the second index lists this entry too, if it is a Turn
+abbrev pub HasEntryMore : {X : Type 0} → Entry X → BTreeMap ℕ (Stamps ℕ) → BTreeMap ℕ (Stamps ℕ) → Type 0
+HasEntryMore e few more = (other : ℕ) → turns_of other more ≡ (if is_turn_of other e then put e.number e.due (turns_of other few) else turns_of other few)
+
+-- the second index lists this entry no more
+abbrev pub HasEntryLess : {X : Type 0} → Entry X → BTreeMap ℕ (Stamps ℕ) → BTreeMap ℕ (Stamps ℕ) → Type 0
+HasEntryLess e more few = (other : ℕ) → turns_of other few ≡ (if is_turn_of other e then without e.number (turns_of other more) else turns_of other more)
+
+-- the second index lists no Turn of the object, and of all others the same
+abbrev pub HasNoTurn : ℕ → BTreeMap ℕ (Stamps ℕ) → BTreeMap ℕ (Stamps ℕ) → Type 0
+HasNoTurn object more few = (other : ℕ) → turns_of other few ≡ (if nat_eq object other then [] else turns_of other more)
+
 -- what an agenda keeps of its entries
 pub record IsKept {X : Type 0} (inbox : List (Entry X)) (queues : QueuesByTime X) (next : ℕ) : Type 0 where
   pub sorted : AreQueues queues
   pub agenda : IsAgenda (record { entries = put_all inbox (in_row queues); next = next })
 
 -- what an agenda keeps of its parts
-pub record IsWhole {X : Type 0} (inbox : List (Entry X)) (queues : QueuesByTime X) (index : BTreeMap ℕ Turns) (next : ℕ) : Type 0 where
+pub record IsWhole {X : Type 0} (inbox : List (Entry X)) (queues : QueuesByTime X) (index : BTreeMap ℕ (Stamps ℕ)) (next : ℕ) : Type 0 where
   pub kept : IsKept inbox queues next
-  pub counted : IsCounted index (in_row queues)
+  pub indexed : IsIndexed index (in_row queues)

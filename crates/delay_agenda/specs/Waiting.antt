@@ -10,10 +10,12 @@ pub record Waiting (X : Type 0) : Type 0 where
   pub entries : List (Entry X)
   pub next : ℕ
 
--- an agenda: what waits, and how many entries can be posted without memory
+-- an agenda: what waits, how many entries can be posted without memory, and how many were posted
+-- and stand in no queue yet
 pub record AgendaView (X : Type 0) : Type 0 where
   pub waiting : Waiting X
   pub room : ℕ
+  pub inbox : ℕ
 
 -- what waits once work is posted: one entry more, under the next number
 abbrev pub posted : {X : Type 0} → ℕ → Kind X → Waiting X → Waiting X

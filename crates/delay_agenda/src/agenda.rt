@@ -3,9 +3,9 @@ ghost use Rattle.std.specs.Prelude.{IsTrue, OnOk, OnErr};
 ghost use Rattle.delay_agenda.specs.Order.{first_due, put_entry, HasNone, IsNext};
 ghost use Rattle.delay_agenda.specs.Waiting.{posted, turn_count, without_turns, IsAgenda};
 
-use crate::counted::{cancel_counted, put_counted, take_counted};
 use crate::entry::{Entry, Kind};
 use crate::inbox::{empty_inbox, first_in_inbox};
+use crate::indexed::{cancel_indexed, put_indexed, take_indexed};
 use crate::queue::{place_of_turn, take_from};
 use crate::queues::{Queues, due_of_first};
 use crate::turn_index::TurnIndex;
@@ -27,7 +27,7 @@ pub struct Agenda<X> {
 }
 
 impl<X> Model for Agenda<X> {
-    ghost use Rattle.std.specs.Prelude.{◌-◌};
+    ghost use Rattle.std.specs.Prelude.{◌-◌, length};
     ghost use Rattle.std.specs.VecDeque.{deque_capacity, deque_len};
     ghost use Rattle.delay_agenda.specs.Queues.{in_row, put_all, IsWhole};
     ghost use Rattle.delay_agenda.specs.Waiting.{AgendaView};
@@ -37,6 +37,7 @@ impl<X> Model for Agenda<X> {
     ghost view = { λ a. record {
       waiting = record { entries = put_all a.inbox.items (in_row a.queues.entries); next = a.next };
       room = deque_capacity a.inbox - deque_len a.inbox;
+      inbox = length a.inbox.items;
     } };
 
     ghost invariant = { λ a. IsWhole a.inbox.items a.queues.entries a.turns a.next };
@@ -76,9 +77,11 @@ impl<X: Drop> Agenda<X> {
         }
     }
 
-    /// Makes room for `n` posts. After `NoMemory` there is at least the room that there was.
+    /// Sorts in what was posted, and makes room for `n` posts. After `NoMemory` there is at least the
+    /// room that there was.
     pub fn reserve(&mut self, n: u32) -> Result<(), NoMemory>
         ensures ok { OnOk result (n ≤ self.new.room) }
+        ensures sorted { OnOk result (self.new.inbox ≡ 0) }
         ensures room { self.old.room ≤ self.new.room }
         ensures same { self.new.waiting ≡ self.old.waiting }
     {
@@ -109,6 +112,7 @@ impl<X: Drop> Agenda<X> {
         requires new { HasNone entry.number self.old.waiting.entries }
         ensures ok { OnOk result (self.new.waiting
             ≡ record self.old.waiting { entries = put_entry entry self.old.waiting.entries }) }
+        ensures sorted { OnOk result (self.new.inbox ≡ 0) }
         ensures err { OnErr result (self.new.waiting ≡ self.old.waiting) }
         ensures room { self.old.room ≤ self.new.room }
     {
@@ -119,7 +123,7 @@ impl<X: Drop> Agenda<X> {
             }
             Ok(()) => {
                 let alloc = *self.inbox.allocator();
-                put_counted(&mut self.queues, &mut self.turns, alloc, entry)?;
+                put_indexed(&mut self.queues, &mut self.turns, alloc, entry)?;
                 Ok(())
             }
         }
@@ -136,7 +140,7 @@ impl<X: Drop> Agenda<X> {
     {
         match first_in_inbox(&self.inbox, &self.queues) {
             Some(at) => take_from(&mut self.inbox, at),
-            None => take_counted(&mut self.queues, &mut self.turns),
+            None => take_indexed(&mut self.queues, &mut self.turns),
         }
     }
 
@@ -159,7 +163,7 @@ impl<X: Drop> Agenda<X> {
         ensures room { self.old.room ≤ self.new.room }
     {
         match place_of_turn(&self.inbox, object) {
-            None => cancel_counted(&mut self.queues, &mut self.turns, object),
+            None => cancel_indexed(&mut self.queues, &mut self.turns, object),
             Some(at) => {
                 drop(take_from(&mut self.inbox, at));
                 true

@@ -1,5 +1,5 @@
 ghost use Rattle.std.specs.Prelude.{◌≡◌};
-ghost use Rattle.delay_agenda.specs.Order.{is_before};
+ghost use Rattle.delay_agenda.specs.Order.{comes_before, is_before};
 ghost use Rattle.delay_agenda.specs.Queues.{turning};
 ghost use Rattle.delay_agenda.specs.Waiting.{is_turn_of};
 
@@ -38,13 +38,20 @@ pub struct Entry<X> {
     pub kind: Kind<X>,
 }
 
+/// Whether what is due then, under this number, is taken before an entry.
+pub(crate) fn comes_before<X>(due: u64, number: u64, other: &Entry<X>) -> bool
+    ensures test { result ≡ comes_before due number other.now }
+{
+    due < other.due || due == other.due && number < other.number
+}
+
 impl<X> Entry<X> {
     /// Whether this entry is taken before the other: it is due earlier, or at one time has the
     /// lesser number.
     pub(crate) fn comes_before(&self, other: &Entry<X>) -> bool
         ensures test { result ≡ is_before self.now other.now }
     {
-        self.due < other.due || self.due == other.due && self.number < other.number
+        comes_before(self.due, self.number, other)
     }
 
     /// The object whose Turn this is.

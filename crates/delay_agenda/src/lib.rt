@@ -13,9 +13,10 @@
 #![tactic(auto)]
 
 mod agenda;
-mod counted;
+mod due_queue;
 mod entry;
 mod inbox;
+mod indexed;
 mod laws;
 mod queue;
 mod queues;

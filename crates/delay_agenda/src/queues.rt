@@ -1,19 +1,18 @@
 //! Calls on the queues of entries, an ordered map from due times.
-ghost use Rattle.std.specs.Prelude.{◌≡◌, ◌<◌, ◌≤◌, None, [], ◌∷◌, length, drop, slice_get, Some};
-ghost use Rattle.std.specs.Prelude.{IfErr, IfSome, MatchOption, IfOk, IsTrue, ◌↔◌, OnOk, OnErr};
+ghost use Rattle.std.specs.Prelude.{◌≡◌, ◌≢◌, None, [], drop, slice_get, IfErr, MatchOption};
+ghost use Rattle.std.specs.Prelude.{OnOk, OnErr};
 ghost use Rattle.std.specs.Ordering.{nat_cmp};
 ghost use Rattle.std.specs.BTreeMap.{get};
-ghost use Rattle.delay_agenda.specs.Order.{put_entry};
-ghost use Rattle.delay_agenda.specs.Waiting.{turn_count, without_turns};
-ghost use Rattle.delay_agenda.specs.Queues.{AreQueues, IsFirst, IsHead, IsTurnAt, in_row, queue_at};
+ghost use Rattle.delay_agenda.specs.Order.{put_entry, HasNone};
+ghost use Rattle.delay_agenda.specs.Queues.{AreQueues, IsFirst, IsHead, in_row, numbered, queue_at};
 ghost use Rattle.delay_agenda.specs.Queues.{row_without};
 
+use crate::due_queue::DueQueue;
 use crate::entry::Entry;
-use crate::queue::{front_of, place_of_number, place_of_turn, put_in_queue, take_from};
 use std::alloc::{AllocFailed, Global};
-use std::collections::{BTreeMap, VecDeque};
+use std::collections::BTreeMap;
 
-pub(crate) type Queues<X> = BTreeMap<u64, VecDeque<Entry<X>>>;
+pub(crate) type Queues<X> = BTreeMap<u64, DueQueue<X>>;
 
 /// The due time of the first queue.
 #[tactic(auto, using(crate::proofs::Rows::first_is))]
@@ -27,16 +26,16 @@ pub(crate) fn due_of_first<X>(queues: &Queues<X>) -> Option<u64>
     }
 }
 
-/// The entry of the queues that is taken first.
+/// Due time and number of the entry that is taken first.
 #[tactic(auto, using(crate::proofs::Rows::first_filled, crate::proofs::Rows::head_is))]
-pub(crate) fn first_of<X>(queues: &Queues<X>) -> Option<&Entry<X>>
+pub(crate) fn first_of<X: Drop>(queues: &Queues<X>) -> Option<(u64, u64)>
     requires queues { AreQueues queues.now.entries }
     ensures first { MatchOption result (in_row queues.now.entries ≡ [])
-        (λ e. IsHead e.now (in_row queues.now.entries)) }
+        (λ first. IsHead first.0 first.1 (in_row queues.now.entries)) }
 {
     match queues.first_key_value() {
         None => None,
-        Some((_, queue)) => Some(front_of(queue)),
+        Some((_, queue)) => Some(queue.front()),
     }
 }
 
@@ -47,6 +46,7 @@ pub(crate) fn put_in<X: Drop>(
     entry: Entry<X>,
 ) -> Result<(), AllocFailed<Entry<X>>>
     requires queues { AreQueues queues.old.entries }
+    requires new { HasNone entry.number (in_row queues.old.entries) }
     ensures ok { OnOk result
         (in_row queues.new.entries ≡ put_entry entry (in_row queues.old.entries)) }
     ensures err { OnErr result (in_row queues.new.entries ≡ in_row queues.old.entries) }
@@ -55,7 +55,7 @@ pub(crate) fn put_in<X: Drop>(
 {
     let due = entry.due;
     match queues.get_mut(&due) {
-        Some(queue) => put_in_queue(queue, entry),
+        Some(queue) => queue.put(entry),
         None => put_alone(queues, alloc, entry),
     }
 }
@@ -75,62 +75,31 @@ fn put_alone<X: Drop>(
     ensures queues { AreQueues queues.new.entries }
 {
     let due = entry.due;
-    match queue_of(alloc, entry) {
+    match DueQueue::of(alloc, entry) {
         Err(failed) => Err(failed),
         Ok(queue) => match queues.insert(due, queue) {
             Ok(_) => Ok(()),
             Err(failed) => Err(AllocFailed {
-                value: only_of(failed.value.1),
+                value: failed.value.1.only(),
             }),
         },
     }
 }
 
-/// The queue of one entry, which has no room for more.
-fn queue_of<X: Drop>(
-    alloc: Global,
-    entry: Entry<X>,
-) -> Result<VecDeque<Entry<X>>, AllocFailed<Entry<X>>>
-    ensures ok { IfOk result (λ queue. queue.items ≡ entry ∷ []) }
-    ensures back { IfErr result (λ failed. failed.value ≡ entry) }
-{
-    match VecDeque::with_capacity(alloc, 1) {
-        Err(_) => Err(AllocFailed { value: entry }),
-        Ok(queue) => {
-            let mut queue = queue;
-            match queue.push_back(entry) {
-                Err(failed) => Err(failed),
-                Ok(()) => Ok(queue),
-            }
-        }
-    }
-}
-
-/// The entry of a queue of one.
-fn only_of<X: Drop>(queue: VecDeque<Entry<X>>) -> Entry<X>
-    requires one { length queue.items ≡ 1 }
-    ensures entry { queue.items ≡ result ∷ [] }
-{
-    let mut queue = queue;
-    match queue.pop_front() {
-        Some(entry) => entry,
-        None => unreachable!(),
-    }
-}
-
-/// Takes the entry at a place of a queue out, and the queue too where it was the only one.
+/// Takes the entry of a number out of the queue of its due time, and the queue too where it was the
+/// only one.
 #[tactic(auto, using(crate::proofs::Rows::queue_at_none))]
-pub(crate) fn remove_at<X: Drop>(queues: &mut Queues<X>, due: u64, at: usize) -> Option<Entry<X>>
+pub(crate) fn take_at<X: Drop>(queues: &mut Queues<X>, due: u64, number: u64) -> Option<Entry<X>>
     requires queues { AreQueues queues.old.entries }
-    requires there { at < length (queue_at due queues.old.entries) }
-    ensures entry { result ≡ slice_get (queue_at due queues.old.entries) at }
-    ensures left { in_row queues.new.entries ≡ row_without due at queues.old.entries }
+    requires there { queue_at due queues.old.entries ≢ [] }
+    ensures entry { result ≡ numbered number (queue_at due queues.old.entries) }
+    ensures left { in_row queues.new.entries ≡ row_without due number queues.old.entries }
     ensures queues { AreQueues queues.new.entries }
 {
     match queues.get_mut(&due) {
         None => unreachable!(),
         Some(queue) => {
-            let entry = take_from(queue, at);
+            let entry = queue.take(number);
             if queue.is_empty() {
                 drop(queues.remove(&due));
             }
@@ -147,75 +116,8 @@ pub(crate) fn take_first<X: Drop>(queues: &mut Queues<X>) -> Option<Entry<X>>
     ensures left { in_row queues.new.entries ≡ drop 1 (in_row queues.old.entries) }
     ensures queues { AreQueues queues.new.entries }
 {
-    match due_of_first(queues) {
+    match first_of(queues) {
         None => None,
-        Some(due) => remove_at(queues, due, 0),
-    }
-}
-
-/// Where a Turn of the object stands: the due time of its queue, and its place there.
-#[tactic(auto, using(crate::proofs::Rows::left_facts))]
-fn find_turn<X>(queues: &Queues<X>, object: u32) -> Option<(u64, usize)>
-    requires queues { AreQueues queues.now.entries }
-    ensures turn { MatchOption result (turn_count object (in_row queues.now.entries) ≡ 0)
-        (λ found. IsTurnAt object found.1 (queue_at found.0 queues.now.entries)) }
-{
-    for (due, queue) in queues.iter() {
-        match place_of_turn(queue, object) {
-            Some(at) => return Some((*due, at)),
-            None => {}
-        }
-    }
-    None
-}
-
-/// The place of the Turn of the object in the queue of a due time, if the entry of that number
-/// there is one.
-#[tactic(auto, using(crate::proofs::Rows::queue_at_is))]
-fn turn_at<X>(queues: &Queues<X>, object: u32, due: u64, number: u64) -> Option<usize>
-    ensures turn { IfSome result (λ at. IsTurnAt object at (queue_at due queues.now.entries)) }
-{
-    match queues.get(&due) {
-        None => None,
-        Some(queue) => {
-            let at = place_of_number(queue, number);
-            if at < queue.len() && queue[at].is_turn_of(object) {
-                Some(at)
-            } else {
-                None
-            }
-        }
-    }
-}
-
-/// Where a Turn of the object stands. The entry of that due time and number is looked at first, and
-/// all others only where it is none.
-fn find_near<X>(queues: &Queues<X>, object: u32, due: u64, number: u64) -> Option<(u64, usize)>
-    requires queues { AreQueues queues.now.entries }
-    ensures turn { MatchOption result (turn_count object (in_row queues.now.entries) ≡ 0)
-        (λ found. IsTurnAt object found.1 (queue_at found.0 queues.now.entries)) }
-{
-    match turn_at(queues, object, due, number) {
-        Some(at) => Some((due, at)),
-        None => find_turn(queues, object),
-    }
-}
-
-/// Takes the Turn of the object off the queues; whether there was one. It is found at once where it
-/// has this due time and number.
-#[tactic(auto, using(crate::proofs::Rows::turn_left, crate::proofs::Rows::count_row))]
-pub(crate) fn cancel_in<X: Drop>(queues: &mut Queues<X>, object: u32, due: u64, number: u64) -> bool
-    requires queues { AreQueues queues.old.entries }
-    requires one { turn_count object (in_row queues.old.entries) ≤ 1 }
-    ensures found { IsTrue result ↔ (0 < turn_count object (in_row queues.old.entries)) }
-    ensures left { in_row queues.new.entries ≡ without_turns object (in_row queues.old.entries) }
-    ensures queues { AreQueues queues.new.entries }
-{
-    match find_near(queues, object, due, number) {
-        None => false,
-        Some((due, at)) => {
-            drop(remove_at(queues, due, at));
-            true
-        }
+        Some((due, number)) => take_at(queues, due, number),
     }
 }

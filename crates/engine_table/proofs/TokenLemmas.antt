@@ -5,7 +5,7 @@ use Rattle.nwq_value.specs.Engine.{EngineTable}
 use Rattle.engine_table.specs.Known.{Known}
 use Rattle.engine_table.specs.declared.fault.HeaderFault.{HeaderFault}
 use Rattle.engine_table.specs.declared.fault.HeaderFault.TheVariants.{Bad, Header, Twice, Many, NoMemory}
-use Rattle.engine_table.specs.declared.reader.Reader.{Reader}
+use Rattle.engine_table.specs.declared.known.Known.{Known as KnownLines}
 use Rattle.engine_table.specs.declared.stage.Stage.{Stage}
 use Rattle.engine_table.specs.declared.stage.Stage.TheVariants as stage
 use Rattle.engine_table.specs.declared.stage.Turn.{Turn}
@@ -45,6 +45,11 @@ pub falls : (bytes : List ℕ) (at : ℕ) (t : Lexeme) → IsFirst bytes 0 at (F
 falls bytes at t first = omega (arith, first.from, first.some, first.within)
 
 -- ---- reading
+
+-- a header while it is read: what its lines made known, and how far the line has come that is read
+pub record Reader : Type 0 where
+  pub known : KnownLines
+  pub stage : Stage
 
 -- with these tokens left, the text has tokens that come to what these come to from here on
 pub record ReadsOn (bytes : List ℕ) (r : Reader) (left : List Lexeme) (ending : Option ℕ) : Type 0 where

@@ -22,113 +22,88 @@ use nss_lexer::{Lexed, Token, next};
 use nwq_value::header::built_in_is_the_header;
 use nwq_value::{BUILT_IN, NoMemory, Table};
 use std::alloc::Global;
-use std::mem;
 
-/// A header while it is read: what its lines made known, and how far the line has come that is
-/// being read.
-#[derive(Drop)]
-pub struct Reader {
-    known: Known,
-    stage: Stage,
+/// Goes on by a turn: how far the line has come then.
+fn go(known: &mut Known, turn: Turn) -> Result<Stage, NoMemory>
+    requires keeps { KeepsTurn (known_of known.old) turn }
+    requires counted { IsCounted known.old }
+    ensures counted { OnOk result (IsCounted known.new) }
+    ensures keeps { IfOk result (λ stage. KeepsStage (known_of known.new) stage) }
+    ensures goes { IfOk result (λ stage.
+        Leads (known_of known.old) turn (known_of known.new) stage) }
+{
+    match turn {
+        Turn::Goes(stage) => Ok(stage),
+        Turn::Gives(declaration) => {
+            known.declare(declaration)?;
+            Ok(Stage::Start)
+        }
+    }
 }
 
-impl Reader {
-    fn new(alloc: Global) -> Reader
-        ensures known { known_of result.known ≡ nothing }
-        ensures stage { result.stage ≡ stage.Start }
-        ensures counted { IsCounted result.known }
-    {
-        Reader {
-            known: Known::new(alloc),
-            stage: Stage::Start,
-        }
+/// Takes one token more: how far the line has come then.
+fn take(
+    known: &mut Known,
+    alloc: Global,
+    stage: Stage,
+    place: u32,
+    symbol: Symbol,
+) -> Result<Stage, HeaderFault>
+    requires keeps { KeepsStage (known_of known.old) stage }
+    requires few { depth_of stage < 4294967295 }
+    requires counted { IsCounted known.old }
+    requires bounds { IsSymbol symbol }
+    ensures counted { OnOk result (IsCounted known.new) }
+    ensures keeps { IfOk result (λ next. KeepsStage (known_of known.new) next) }
+    ensures goes { IfOk result (λ next. Follows (known_of known.old) stage
+        (placed place symbol) (known_of known.new) next) }
+    ensures fails { IfErr result (λ fault. Answers
+        (turn_at (known_of known.old) stage (placed place symbol)) (Err fault)) }
+{
+    known.table.keeps();
+    match known.turn(alloc, stage, place, symbol) {
+        Err(fault) => Err(fault),
+        Ok(turn) => Ok(go(known, turn)?),
     }
+}
 
-    /// Goes on by a turn. The old stage is dropped by a call: dropped by the assignment it would be
-    /// proved anew here.
-    fn go(&mut self, turn: Turn) -> Result<(), NoMemory>
-        requires keeps { KeepsTurn (known_of self.old.known) turn }
-        requires counted { IsCounted self.old.known }
-        ensures counted { OnOk result (IsCounted self.new.known) }
-        ensures keeps { OnOk result (KeepsStage (known_of self.new.known) self.new.stage) }
-        ensures goes { OnOk result (Leads (known_of self.old.known) turn
-            (known_of self.new.known) self.new.stage) }
-    {
-        match turn {
-            Turn::Goes(stage) => {
-                drop(mem::replace(&mut self.stage, stage));
-                Ok(())
-            }
-            Turn::Gives(declaration) => {
-                drop(mem::replace(&mut self.stage, Stage::Start));
-                self.known.declare(declaration)
-            }
-        }
-    }
+/// Takes one token more, as the grammar sees it.
+fn read(
+    known: &mut Known,
+    alloc: Global,
+    stage: Stage,
+    token: &Token<'_>,
+) -> Result<Stage, HeaderFault>
+    requires keeps { KeepsStage (known_of known.old) stage }
+    requires few { depth_of stage < 4294967295 }
+    requires counted { IsCounted known.old }
+    requires token { IsToken token.now }
+    ensures counted { OnOk result (IsCounted known.new) }
+    ensures keeps { IfOk result (λ next. KeepsStage (known_of known.new) next) }
+    ensures goes { IfOk result (λ next. Follows (known_of known.old) stage
+        (placed_of (plain token.now)) (known_of known.new) next) }
+    ensures fails { IfErr result (λ fault. Answers
+        (turn_at (known_of known.old) stage (placed_of (plain token.now))) (Err fault)) }
+{
+    let symbol = symbol_of(alloc, token)?;
+    take(known, alloc, stage, token.start, symbol)
+}
 
-    /// Takes one token more.
-    fn take(&mut self, alloc: Global, place: u32, symbol: Symbol) -> Result<(), HeaderFault>
-        requires keeps { KeepsStage (known_of self.old.known) self.old.stage }
-        requires few { depth_of self.old.stage < 4294967295 }
-        requires counted { IsCounted self.old.known }
-        requires bounds { IsSymbol symbol }
-        ensures counted { OnOk result (IsCounted self.new.known) }
-        ensures keeps { OnOk result (KeepsStage (known_of self.new.known) self.new.stage) }
-        ensures goes { OnOk result (Follows (known_of self.old.known) self.old.stage
-            (placed place symbol) (known_of self.new.known) self.new.stage) }
-        ensures fails { IfErr result (λ fault. Answers
-            (turn_at (known_of self.old.known) self.old.stage (placed place symbol))
-            (Err fault)) }
-    {
-        self.known.table.keeps();
-        let stage = mem::replace(&mut self.stage, Stage::Start);
-        match self.known.turn(alloc, stage, place, symbol) {
-            Err(fault) => Err(fault),
-            Ok(turn) => {
-                self.go(turn)?;
-                Ok(())
-            }
-        }
-    }
-
-    /// Takes one token more, as the grammar sees it.
-    fn read(&mut self, alloc: Global, token: &Token<'_>) -> Result<(), HeaderFault>
-        requires keeps { KeepsStage (known_of self.old.known) self.old.stage }
-        requires few { depth_of self.old.stage < 4294967295 }
-        requires counted { IsCounted self.old.known }
-        requires token { IsToken token.now }
-        ensures counted { OnOk result (IsCounted self.new.known) }
-        ensures keeps { OnOk result (KeepsStage (known_of self.new.known) self.new.stage) }
-        ensures goes { OnOk result (Follows (known_of self.old.known) self.old.stage
-            (placed_of (plain token.now)) (known_of self.new.known) self.new.stage) }
-        ensures fails { IfErr result (λ fault. Answers
-            (turn_at (known_of self.old.known) self.old.stage (placed_of (plain token.now)))
-            (Err fault)) }
-    {
-        let symbol = symbol_of(alloc, token)?;
-        match self.take(alloc, token.start, symbol) {
-            Err(fault) => Err(fault),
-            Ok(()) => Ok(()),
-        }
-    }
-
-    /// The table, where no line is left open.
-    fn finish(self, end: u32) -> Result<Table, HeaderFault>
-        requires counted { IsCounted self.known }
-        ensures ended { result ≡ ended end (known_of self.known) self.stage }
-        ensures budget { IfOk result (λ table. held table ≤ held_limit) }
-    {
-        let Reader { known, stage } = self;
-        let is_whole = matches!(&stage, Stage::Start);
-        drop(stage);
-        let Known { words, table, .. } = known;
-        drop(words);
-        if is_whole {
-            Ok(table)
-        } else {
-            drop(table);
-            Err(HeaderFault::Header(end))
-        }
+/// The table, where no line is left open.
+fn finish(known: Known, stage: Stage, end: u32) -> Result<Table, HeaderFault>
+    requires counted { IsCounted known }
+    ensures ended { result ≡ ended end (known_of known) stage }
+    ensures budget { IfOk result (λ table. held table ≤ held_limit) }
+{
+    let is_whole = matches!(&stage, Stage::Start);
+    drop(stage);
+    let Known { words, table, .. } = known;
+    drop(words);
+    if is_whole {
+        Ok(table)
+    } else {
+        drop(table);
+        Err(HeaderFault::Header(end))
     }
 }
 
@@ -155,24 +130,29 @@ fn read_lines(alloc: Global, bytes: &[u8]) -> Result<Table, HeaderFault>
     ensures budget { IfOk result (λ table. held table ≤ held_limit) }
     ensures refused { IfErr result (IsRefused bytes.now) }
 {
-    let mut reader = Reader::new(alloc);
+    let mut known = Known::new(alloc);
+    let mut stage = Stage::Start;
     let mut at = 0;
     loop {
         match next(bytes, 0, at) {
-            Lexed::End => return reader.finish(bytes.len() as u32),
+            Lexed::End => return finish(known, stage, bytes.len() as u32),
             Lexed::Bad(place) => {
-                drop(reader);
+                drop(stage);
+                drop(known);
                 return Err(HeaderFault::Bad(place));
             }
-            Lexed::Token(token) => match reader.read(alloc, &token) {
+            Lexed::Token(token) => match read(&mut known, alloc, stage, &token) {
                 Err(fault) => {
-                    drop(reader);
+                    drop(known);
                     return match first_bad(bytes, token.end) {
                         Some(place) => Err(HeaderFault::Bad(place)),
                         None => Err(fault),
                     };
                 }
-                Ok(()) => at = token.end,
+                Ok(next) => {
+                    stage = next;
+                    at = token.end;
+                }
             },
         }
     }

@@ -1,5 +1,5 @@
 use crate::files::{BASE, MOVED, WRITTEN, tree_of};
-use gff_write::{size, write};
+use gff_write::{size as size_of, write};
 
 #[test]
 fn a_tree_is_written_as_its_one_file(rt: HostRuntime) {
@@ -12,6 +12,7 @@ fn a_tree_is_written_as_its_one_file(rt: HostRuntime) {
         let tree = tree_of(rt.alloc(), *bytes).expect(&rt, "a tree");
         let written = write(rt.alloc(), &tree).ok().expect(&rt, "a file");
         assert_eq!(rt; written.as_slice(), *wanted);
-        assert_eq!(rt; size(&tree), wanted.len() as u64);
+        let size = size_of(rt.alloc(), &tree).ok().expect(&rt, "a size");
+        assert_eq!(rt; size, wanted.len() as u64);
     }
 }

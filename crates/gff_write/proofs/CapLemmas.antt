@@ -1,5 +1,5 @@
 -- Sums that stay at the greatest number compose.
-use Rattle.std.proofs.Common.{◌≡◌, ℕ, suc, ◌+◌, ◌≤◌, ◌<◌, List, [], ◌∷◌, ◌++◌, length, drop, get_or, refl, sym, ap, subst, arith, add-one, drop-cons, length-append}
+use Rattle.std.proofs.Common.{◌≡◌, ℕ, zero, suc, ◌+◌, ◌≤◌, ◌<◌, List, [], ◌∷◌, ◌++◌, length, drop, get_or, refl, sym, ap, subst, arith, add-one, drop-cons, length-append}
 use Rattle.std.specs.List.{flat_map}
 use Rattle.gff_tree.specs.declared.tree.Field.{Field}
 use Rattle.gff_tree.specs.declared.tree.Node.{Node}
@@ -7,6 +7,7 @@ use Rattle.gff_tree.specs.declared.tree.LocPart.{LocPart}
 use Rattle.gff_tree.specs.Tree.{plain_node, plain_leaf, fields_list, nodes_list}
 use Rattle.std.specs.Int.{w32, cast_unsigned}
 use Rattle.gff_tree.specs.declared.tree.Loc.{Loc}
+use Rattle.gff_write.specs.File.{joined}
 use Rattle.gff_write.specs.Flat.{word, wide, part_bytes, length_prefixed, localized_bytes}
 use Rattle.gff_write.specs.Size.{capped, index_bytes, own_count, node_bytes, leaf_bytes, fields_bytes, nodes_bytes}
 
@@ -75,6 +76,26 @@ parts_turn total mid now whole i items item lt is before first third =
     let next : drop i items ≡ item ∷ drop (i + 1) items = rw (add-one, drop-cons items i item) (ap (λ (p : LocPart). p ∷ drop (suc i) items) (sym is)) in
     let at : capped (total + length (part_bytes item ++ flat_map part_bytes (drop (i + 1) items))) ≡ whole = subst (λ (ps : List LocPart). capped (total + length (flat_map part_bytes ps)) ≡ whole) next before in
     omega (arith, at, first, third, part_length item, length-append (part_bytes item) (flat_map part_bytes (drop (i + 1) items)))
+
+labels_turn : (total now whole i : ℕ) (items : List (List ℕ)) (item : List ℕ) → i < length items → item ≡ get_or items i item
+    → capped (total + length (joined (drop i items))) ≡ whole → now ≡ capped (total + length item)
+    → capped (now + length (joined (drop (i + 1) items))) ≡ whole
+unfolding capped
+labels_turn total now whole i items item lt is before got =
+    let next : drop i items ≡ item ∷ drop (i + 1) items = rw (add-one, drop-cons items i item) (ap (λ (l : List ℕ). l ∷ drop (suc i) items) (sym is)) in
+    let at : capped (total + length (item ++ joined (drop (i + 1) items))) ≡ whole = subst (λ (ls : List (List ℕ)). capped (total + length (joined ls)) ≡ whole) next before in
+    omega (arith, at, got, length-append item (joined (drop (i + 1) items)))
+
+got_same : (xs : List (List ℕ)) (i : ℕ) (d e : List ℕ) → i < length xs → get_or xs i d ≡ get_or xs i e
+got_same [] i d e h = absurd (omega arith)
+got_same (x ∷ xs) zero d e h = refl
+got_same (x ∷ xs) (suc i) d e h = got_same xs i d e (omega arith)
+
+-- the same of a label that is read by any default
+pub labels_by : (total now whole i : ℕ) (items : List (List ℕ)) (d : List ℕ) → i < length items
+    → capped (total + length (joined (drop i items))) ≡ whole → now ≡ capped (total + length (get_or items i d))
+    → capped (now + length (joined (drop (i + 1) items))) ≡ whole
+labels_by total now whole i items d lt before got = labels_turn total now whole i items (get_or items i d) lt (got_same items i d (get_or items i d) lt) before got
 
 pub localized_length : (loc : Loc) → length (localized_bytes loc) ≡ 12 + length (flat_map part_bytes loc.parts)
 localized_length loc =

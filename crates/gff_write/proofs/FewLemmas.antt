@@ -1,5 +1,5 @@
 -- A tree of few bytes has few structs and fields, and one of more is too large for a file.
-use Rattle.std.proofs.Common.{◌≡◌, ◌≤◌, ◌<◌, ◌+◌, ◌-◌, ◌^◌, ℕ, zero, suc, min, true, List, [], ◌∷◌, ◌++◌, length, length-append, get_or, drop, drop-cons, add-one, Err, nat_lt, refl, sym, ap, subst, arith}
+use Rattle.std.proofs.Common.{◌≡◌, ◌≤◌, ◌<◌, ◌+◌, ◌-◌, ◌^◌, ℕ, zero, suc, min, true, false, List, [], ◌∷◌, ◌++◌, length, length-append, get_or, drop, drop-cons, add-one, Ok, Err, nat_lt, refl, sym, ap, subst, arith}
 use Rattle.std.proofs.lemmas.Bool.Decides.{nat_tests}
 use Rattle.nwq_value.specs.Limits.{file_limit}
 use Rattle.gff_tree.specs.declared.tree.Field.{Field}
@@ -11,7 +11,7 @@ use Rattle.gff_write.specs.declared.flat.Entry.{Entry}
 use Rattle.gff_write.specs.declared.flat.FlatStruct.{FlatStruct}
 use Rattle.gff_write.specs.Flat.{node_count, fields_count, leaf_count, nodes_count, rows_of, rows_below, list_rows, tree_limit}
 use Rattle.gff_write.specs.File.{field_count, outcome_of, written}
-use Rattle.gff_write.specs.Size.{capped, node_bytes, fields_bytes, leaf_bytes, nodes_bytes}
+use Rattle.gff_write.specs.Size.{node_bytes, fields_bytes, leaf_bytes, nodes_bytes}
 use Rattle.gff_write.proofs.FlatLemmas.{below_length, list_length}
 use Rattle.gff_write.proofs.SizeLemmas.{entries_total, rows_total, node_total, written_length}
 
@@ -110,28 +110,28 @@ list_within rows initial items i item lt is before =
 
 -- ---- the whole tree
 
-small_bytes : (n size : ℕ) → size ≡ capped n → size ≤ tree_limit → n ≤ tree_limit
-unfolding capped
-small_bytes n size is small = omega (arith, is, small)
+-- a file that isn't too large has few structs and fields
+node_within_file : (gff : PlainGff) → node_bytes gff.top ≤ length (written gff)
+node_within_file gff = omega (arith, written_length gff)
 
-pub few_structs : (top : PlainNode) (size : ℕ) → size ≡ capped (node_bytes top) → size ≤ tree_limit → node_count top ≤ tree_limit
-few_structs top size is small = omega (arith, small_bytes (node_bytes top) size is small, node_few top)
+pub few_structs : (gff : PlainGff) → length (written gff) ≤ file_limit → node_count gff.top ≤ tree_limit
+few_structs gff small = omega (arith, node_within_file gff, node_few gff.top, small)
 
-pub few_fields : (top : PlainNode) (size : ℕ) → size ≡ capped (node_bytes top) → size ≤ tree_limit → field_count (rows_of 0 top) ≤ tree_limit
-few_fields top size is small = omega (arith, small_bytes (node_bytes top) size is small, rows_few (rows_of 0 top), node_total 0 top)
+pub few_fields : (gff : PlainGff) → length (written gff) ≤ file_limit → field_count (rows_of 0 gff.top) ≤ tree_limit
+few_fields gff small = omega (arith, node_within_file gff, rows_few (rows_of 0 gff.top), node_total 0 gff.top, small)
 
-large_bytes : (n size : ℕ) → size ≡ capped n → tree_limit < size → tree_limit < n
-unfolding capped
-large_bytes n size is large = omega (arith, is, large)
-
-refused : (bytes : List ℕ) (n : ℕ) → file_limit < length bytes → n ≡ min (length bytes) (2 ^ 64 - 1) → outcome_of bytes ≡ Err (fault.Large n)
+-- the size tells whether a file is too large
+pub too_large : (bytes : List ℕ) (n : ℕ) → n ≡ min (length bytes) (2 ^ 64 - 1) → file_limit < n → outcome_of bytes ≡ Err (fault.Large n)
 unfolding outcome_of
-refused bytes n lt is =
-    let past : nat_lt file_limit (length bytes) ≡ true = grind (arith, nat_tests) in
+too_large bytes n is lt =
+    let past : nat_lt file_limit (length bytes) ≡ true = grind (arith, nat_tests, is, lt) in
     rw past (ap (λ (m : ℕ). Err (fault.Large m)) (sym is))
 
-pub too_large : (gff : PlainGff) (size told : ℕ) → size ≡ capped (node_bytes gff.top) → tree_limit < size → told ≡ min (length (written gff)) (2 ^ 64 - 1)
-    → outcome_of (written gff) ≡ Err (fault.Large told)
-too_large gff size told is large told-is =
-    let much = large_bytes (node_bytes gff.top) size is large in
-    refused (written gff) told (omega (arith, much, written_length gff)) told-is
+pub within : (bytes : List ℕ) (n : ℕ) → n ≡ min (length bytes) (2 ^ 64 - 1) → n ≤ file_limit → length bytes ≤ file_limit
+within bytes n is le = omega (arith, is, le)
+
+pub fits : (bytes : List ℕ) → length bytes ≤ file_limit → outcome_of bytes ≡ Ok bytes
+unfolding outcome_of
+fits bytes le =
+    let past : nat_lt file_limit (length bytes) ≡ false = grind (arith, nat_tests, le) in
+    rw past refl

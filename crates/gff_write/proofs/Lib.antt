@@ -9,7 +9,6 @@ pub mod WrittenLaws
 pub mod LabelLemmas
 pub mod SizeLemmas
 pub mod CapLemmas
-pub mod NextLemmas
 pub mod WalkLemmas
 pub mod TableLemmas
 pub mod FewLemmas

@@ -4,8 +4,7 @@ use Rattle.gff_tree.specs.Tree.{PlainNode, PlainFields, PlainLeaf, PlainNodes, S
 use Rattle.gff_write.specs.declared.flat.FlatStruct.{FlatStruct}
 use Rattle.gff_write.specs.File.{with_label, entry_labels, row_labels}
 use Rattle.gff_write.specs.Flat.{padded, node_count, leaf_count, entries_from, rows_of, rows_below, leaf_rows, list_rows}
-use Rattle.gff_write.specs.Size.{own_labels, node_labels, labels_below, leaf_labels, list_labels}
-use Rattle.gff_write.proofs.NextLemmas.{with_labels}
+use Rattle.gff_write.specs.Size.{own_labels, node_labels, labels_below, leaf_labels, list_labels, with_labels}
 
 entries_table : (table : List (List ℕ)) (n : ℕ) (fields : PlainFields) → entry_labels table (entries_from n fields) ≡ with_labels table (own_labels fields)
 entries_table table n NoField = refl
@@ -15,7 +14,7 @@ rows_append : (table : List (List ℕ)) (first rows : List FlatStruct) → row_l
 rows_append table [] rows = refl
 rows_append table (row ∷ first) rows = rows_append (entry_labels table row.fields) first rows
 
-with_append : (table first labels : List (List ℕ)) → with_labels table (first ++ labels) ≡ with_labels (with_labels table first) labels
+pub with_append : (table first labels : List (List ℕ)) → with_labels table (first ++ labels) ≡ with_labels (with_labels table first) labels
 with_append table [] labels = refl
 with_append table (x ∷ xs) labels = with_append (with_label table x) xs labels
 

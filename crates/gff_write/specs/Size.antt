@@ -1,10 +1,8 @@
 -- How many bytes the file of a tree has, by its structs, fields and labels.
-use Rattle.std.specs.Prelude.{ℕ, ◌+◌, ◌*◌, min, Bool, true, ◌&&◌, nat_lt, if◌then◌else◌, List, [], ◌∷◌, ◌++◌, length, Option, Some, None}
-use Rattle.std.specs.Ordering.{nat_cmp, is_lt}
-use Rattle.std.specs.Cmp.Lexicographic.{slice_cmp}
+use Rattle.std.specs.Prelude.{ℕ, ◌+◌, ◌*◌, min, nat_lt, if◌then◌else◌, List, [], ◌∷◌, ◌++◌, length}
 use Rattle.gff_tree.specs.Tree.{Scalar, PlainNode, PlainFields, PlainLeaf, PlainNodes, Struct, NoField, MoreFields, Holds, Child, Children, NoNode, MoreNodes}
 use Rattle.gff_write.specs.Flat.{padded, scalar_content}
-use Rattle.gff_write.specs.File.{data_of}
+use Rattle.gff_write.specs.File.{data_of, with_label}
 
 -- the number, or the greatest one of 64 bits where that is less
 unfoldable pub capped : ℕ → ℕ
@@ -64,24 +62,7 @@ abbrev mutual
   list_labels NoNode = []
   list_labels (MoreNodes node rest) = node_labels node ++ list_labels rest
 
--- is a label less than another, by their bytes?
-unfoldable pub comes_before : List ℕ → List ℕ → Bool
-comes_before a b = is_lt (slice_cmp nat_cmp a b)
-
--- is a label greater than this one? Where there is none, each is
-abbrev pub is_past : Option (List ℕ) → List ℕ → Bool
-is_past None label = true
-is_past (Some past) label = comes_before past label
-
--- is a label less than this one? Where there is none, each is
-abbrev pub is_nearer : Option (List ℕ) → List ℕ → Bool
-is_nearer None label = true
-is_nearer (Some best) label = comes_before label best
-
-abbrev pub nearer : Option (List ℕ) → Option (List ℕ) → List ℕ → Option (List ℕ)
-nearer past best label = if is_past past label && is_nearer best label then Some label else best
-
--- the least of the labels past this one, if it is less than the best so far
-abbrev pub next_label : Option (List ℕ) → Option (List ℕ) → List (List ℕ) → Option (List ℕ)
-next_label past best [] = best
-next_label past best (label ∷ labels) = next_label past (nearer past best label) labels
+-- a table of labels, with these behind it, each if it is new
+abbrev pub with_labels : List (List ℕ) → List (List ℕ) → List (List ℕ)
+with_labels table [] = table
+with_labels table (label ∷ labels) = with_labels (with_label table label) labels

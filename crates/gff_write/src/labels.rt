@@ -5,10 +5,14 @@
 ghost use Rattle.std.specs.Prelude.{◌≡◌, ◌++◌, ◌∷◌, [], None, length, IfOk, OnOk};
 ghost use Rattle.std.specs.Map.{values_of};
 ghost use Rattle.nwq_value.specs.Index.{number_under};
-ghost use Rattle.gff_write.specs.File.{label_index, with_label, entry_labels, row_labels, joined};
+ghost use Rattle.gff_tree.specs.Tree.{plain_node, plain_leaf, fields_list};
+ghost use Rattle.gff_write.specs.Flat.{rows_of};
+ghost use Rattle.gff_write.specs.File.{label_index, with_label, row_labels, joined};
 ghost use Rattle.gff_write.specs.Labels.{IsTable};
+ghost use Rattle.gff_write.specs.Size.{own_labels, node_labels, leaf_labels, with_labels};
 
-use crate::flat::{Entry, FlatStruct};
+use crate::encode::filled;
+use gff_tree::{Field, Leaf, Node, readings_tell};
 use indexmap::IndexMap;
 use nwq_value::{Items, NameIndex, NoMemory};
 use std::alloc::Global;
@@ -100,31 +104,62 @@ fn add_label(
     Ok(())
 }
 
-fn add_labels(
-    rows: &mut LabelRows,
-    numbers: &mut NameIndex,
-    entries: &[Entry],
-) -> Result<(), NoMemory>
+/// Puts the labels of a struct's own fields last that are new.
+fn add_own(rows: &mut LabelRows, numbers: &mut NameIndex, fields: &[Field]) -> Result<(), NoMemory>
     requires table { IsTable rows.old.entries numbers.old }
     ensures table { OnOk result (IsTable rows.new.entries numbers.new) }
     ensures rows { OnOk result (values_of rows.new.entries
-        ≡ entry_labels (values_of rows.old.entries) entries.now) }
+        ≡ with_labels (values_of rows.old.entries) (own_labels (fields_list fields.now))) }
 {
-    for entry in entries {
-        add_label(rows, numbers, &entry.label)?;
+    for field in fields {
+        add_label(rows, numbers, &filled(&field.label))?;
     }
     Ok(())
 }
 
-/// The labels of all fields once each, in the order of their first use.
-pub fn label_table(alloc: Global, structs: &[FlatStruct]) -> Result<Labels, NoMemory>
-    ensures { IfOk result (λ table. table ≡ row_labels [] structs.now) }
+/// Puts the labels of a struct and of all below it last that are new.
+#[cycle(add)]
+fn add_labels(rows: &mut LabelRows, numbers: &mut NameIndex, node: &Node) -> Result<(), NoMemory>
+    requires table { IsTable rows.old.entries numbers.old }
+    ensures table { OnOk result (IsTable rows.new.entries numbers.new) }
+    ensures rows { OnOk result (values_of rows.new.entries
+        ≡ with_labels (values_of rows.old.entries) (node_labels (plain_node node.now))) }
+{
+    readings_tell();
+    add_own(rows, numbers, &node.fields)?;
+    for field in &node.fields {
+        add_below(rows, numbers, &field.leaf)?;
+    }
+    Ok(())
+}
+
+#[cycle(add)]
+fn add_below(rows: &mut LabelRows, numbers: &mut NameIndex, leaf: &Leaf) -> Result<(), NoMemory>
+    requires table { IsTable rows.old.entries numbers.old }
+    ensures table { OnOk result (IsTable rows.new.entries numbers.new) }
+    ensures rows { OnOk result (values_of rows.new.entries
+        ≡ with_labels (values_of rows.old.entries) (leaf_labels (plain_leaf leaf.now))) }
+{
+    readings_tell();
+    match leaf {
+        Leaf::Struct(node) => add_labels(rows, numbers, node),
+        Leaf::List(nodes) => {
+            for node in nodes {
+                add_labels(rows, numbers, node)?;
+            }
+            Ok(())
+        }
+        _ => Ok(()),
+    }
+}
+
+/// The labels of all fields of a tree once each, in the order of their first use in the file.
+pub fn label_table(alloc: Global, top: &Node) -> Result<Labels, NoMemory>
+    ensures { IfOk result (λ table. table ≡ row_labels [] (rows_of 0 (plain_node top.now))) }
 {
     let mut rows = LabelRows::new(alloc);
     let mut numbers = NameIndex::new(alloc);
-    for row in structs {
-        add_labels(&mut rows, &mut numbers, row.fields.as_slice())?;
-    }
+    add_labels(&mut rows, &mut numbers, top)?;
     Ok(Labels { rows, numbers })
 }
 

@@ -1,18 +1,17 @@
-//! How many bytes the file of a tree has, counted over the tree without memory.
+//! How many bytes the file of a tree has, counted over the tree.
 
-ghost use Rattle.std.specs.Prelude.{◌≡◌, ◌+◌, ◌-◌, ◌^◌, min, length, []};
+ghost use Rattle.std.specs.Prelude.{◌≡◌, ◌+◌, ◌-◌, ◌^◌, min, length, [], IfOk};
 ghost use Rattle.std.specs.List.{flat_map};
-ghost use Rattle.gff_tree.specs.Tree.{plain_node, plain_leaf, fields_list};
+ghost use Rattle.gff_tree.specs.Tree.{plain_node, plain_leaf};
 ghost use Rattle.gff_tree.specs.Whole.{plain_gff};
-ghost use Rattle.gff_write.specs.Flat.{padded, part_bytes, rows_of};
+ghost use Rattle.gff_write.specs.Flat.{part_bytes, rows_of};
 ghost use Rattle.gff_write.specs.File.{joined, row_labels, written};
-ghost use Rattle.gff_write.specs.Size.{capped, index_bytes, node_bytes, leaf_bytes, own_labels};
-ghost use Rattle.gff_write.specs.Size.{node_labels, leaf_labels, comes_before, nearer, next_label};
+ghost use Rattle.gff_write.specs.Size.{capped, index_bytes, node_bytes, leaf_bytes};
 
-use crate::encode::filled;
-use crate::labels::LabelRow;
-use gff_tree::{Field, Gff, Label, Leaf, LocPart, Node, readings_tell};
-use std::cmp::Ordering;
+use crate::labels::{LabelRow, Labels, label_table};
+use gff_tree::{Gff, Leaf, LocPart, Node, readings_tell};
+use nwq_value::NoMemory;
+use std::alloc::Global;
 
 /// The bytes of the header: the file type and what follows it.
 fn header_size(file_type: &[u8; 4]) -> u64
@@ -92,102 +91,38 @@ fn leaf_size(leaf: &Leaf) -> u64
     }
 }
 
-fn comes_before(a: &LabelRow, b: &LabelRow) -> bool
-    ensures { result ≡ comes_before a.now b.now }
-{
-    a.as_slice().cmp(b.as_slice()) == Ordering::Less
-}
-
-/// The label, if it is past the one and before the other; else the other.
-fn nearer(past: Option<LabelRow>, best: Option<LabelRow>, label: &Label) -> Option<LabelRow>
-    ensures { result ≡ nearer past best (padded label.now) }
-{
-    let row = filled(label);
-    if let Some(past) = past {
-        if !comes_before(&past, &row) {
-            return best;
-        }
-    }
-    match best {
-        Some(least) if !comes_before(&row, &least) => best,
-        _ => Some(row),
-    }
-}
-
-fn next_own(fields: &[Field], past: Option<LabelRow>, best: Option<LabelRow>) -> Option<LabelRow>
-    ensures { result ≡ next_label past best (own_labels (fields_list fields.now)) }
-{
-    let mut best = best;
-    for field in fields {
-        best = nearer(past, best, &field.label);
-    }
-    best
-}
-
-/// The least label past this one in a struct and below it, if it is less than the best so far.
-#[cycle(next)]
-fn next_in(node: &Node, past: Option<LabelRow>, best: Option<LabelRow>) -> Option<LabelRow>
-    ensures { result ≡ next_label past best (node_labels (plain_node node.now)) }
-{
-    readings_tell();
-    let mut best = next_own(&node.fields, past, best);
-    for field in &node.fields {
-        best = next_below(&field.leaf, past, best);
-    }
-    best
-}
-
-#[cycle(next)]
-fn next_below(leaf: &Leaf, past: Option<LabelRow>, best: Option<LabelRow>) -> Option<LabelRow>
-    ensures { result ≡ next_label past best (leaf_labels (plain_leaf leaf.now)) }
-{
-    readings_tell();
-    match leaf {
-        Leaf::Struct(node) => next_in(node, past, best),
-        Leaf::List(nodes) => {
-            let mut best = best;
-            for node in nodes {
-                best = next_in(node, past, best);
-            }
-            best
-        }
-        _ => best,
-    }
-}
-
-/// The bytes of a label in the file.
 fn row_size(row: &LabelRow) -> u64
     ensures size { result ≡ length row.now }
-    ensures sixteen { result ≡ 16 }
 {
     row.as_slice().len() as u64
 }
 
-/// The labels of a tree once each. They are met from the least to the greatest, each by a walk over
-/// the tree.
-fn labels_size(top: &Node) -> u64
-    ensures { result ≡ capped (length (joined (row_labels [] (rows_of 0 (plain_node top.now))))) }
+fn labels_size(labels: &[LabelRow]) -> u64
+    ensures { result ≡ capped (length (joined labels.now)) }
 {
-    let mut past = None;
     let mut total = 0;
-    for _round in 0..u64::MAX {
-        match next_in(top, past, None) {
-            None => return total,
-            Some(label) => {
-                total = plus(total, row_size(&label));
-                past = Some(label);
-            }
-        }
+    for label in labels {
+        total = plus(total, row_size(label));
     }
-    u64::MAX
+    total
 }
 
-/// How many bytes the one file of a tree has, or 2^64 - 1 where these are more. It takes no memory:
-/// the labels, which the file has once each, are met in the order of their bytes by one walk over
-/// the tree for each, so the time is the tree's fields times its distinct labels.
-pub fn size(tree: &Gff) -> u64
+/// How many bytes the one file of a tree has whose labels are given, or 2^64 - 1 where these are
+/// more. It takes no memory.
+pub fn size_with(tree: &Gff, labels: &Labels) -> u64
+    requires labels { labels.now ≡ row_labels [] (rows_of 0 (plain_node tree.now.top)) }
     ensures size { result ≡ min (length (written (plain_gff tree.now))) (2 ^ 64 - 1) }
 {
     let structs = plus(header_size(&tree.file_type), node_size(&tree.top));
-    plus(structs, labels_size(&tree.top))
+    plus(structs, labels_size(labels.rows()))
+}
+
+/// How many bytes the one file of a tree has, or 2^64 - 1 where these are more. It takes memory for
+/// the distinct labels alone, and their number times its logarithm in time.
+pub fn size(alloc: Global, tree: &Gff) -> Result<u64, NoMemory>
+    ensures size { IfOk result (λ size. size
+        ≡ min (length (written (plain_gff tree.now))) (2 ^ 64 - 1)) }
+{
+    let labels = label_table(alloc, &tree.top)?;
+    Ok(size_with(tree, &labels))
 }

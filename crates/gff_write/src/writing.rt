@@ -7,12 +7,13 @@ ghost use Rattle.gff_tree.specs.Tree.{plain_node};
 ghost use Rattle.gff_write.specs.Flat.{node_count, rows_of, tree_limit};
 ghost use Rattle.gff_write.specs.File.{Gives, field_count, row_labels, section_words, header_of};
 ghost use Rattle.gff_write.specs.File.{body_of, written_rows, written, outcome_of};
+ghost use Rattle.nwq_value.specs.Limits.{file_limit};
 
 use crate::fault::WriteFault;
 use crate::flat::FlatStruct;
 use crate::flatten::flatten_node;
 use crate::labels::{Labels, label_table};
-use crate::measure::{node_size, size};
+use crate::measure::size_with;
 use crate::put::{put_place, put_word};
 use crate::ranges::tree_ranges;
 use crate::sections::{Sections, sections_of};
@@ -20,9 +21,6 @@ use gff_read::one_tree;
 use gff_tree::Gff;
 use nwq_value::{FILE_BYTES, Items, NoMemory};
 use std::alloc::Global;
-
-/// A tree of more bytes isn't written: its size alone tells that it is too large.
-const TREE_BYTES: u64 = 4_611_686_018_427_387_904;
 
 /// Puts the offset and the count of a section last.
 fn put_section(out: &mut Items<u8>, offset: u128, count: u64) -> Result<(), NoMemory>
@@ -128,16 +126,6 @@ fn labelled(
     )
 }
 
-/// The file of these structs.
-fn file(alloc: Global, file_type: &[u8; 4], rows: &[FlatStruct]) -> Result<Items<u8>, NoMemory>
-    requires few { field_count rows.now ≤ tree_limit }
-    ensures { IfOk result (λ bytes. bytes ≡ written_rows file_type.now rows.now) }
-{
-    let fields = count_fields(rows);
-    let labels = label_table(alloc, rows)?;
-    labelled(alloc, file_type, rows, &labels, fields)
-}
-
 /// The structs of a tree in preorder.
 fn rows_in(alloc: Global, tree: &Gff) -> Result<Items<FlatStruct>, NoMemory>
     requires few { node_count (plain_node tree.now.top) ≤ tree_limit }
@@ -148,28 +136,28 @@ fn rows_in(alloc: Global, tree: &Gff) -> Result<Items<FlatStruct>, NoMemory>
     Ok(rows)
 }
 
-/// The bytes, unless a file may not have so many.
-#[tactic(auto, unfolding(crate::specs::File::outcome_of))]
-fn bounded(bytes: Items<u8>) -> Result<Vec<u8>, WriteFault>
-    ensures { Gives (λ v. v.items) result (outcome_of bytes) }
+/// The file of a tree that is no larger than a file may be, whose labels are given.
+fn file(alloc: Global, tree: &Gff, labels: &Labels) -> Result<Items<u8>, NoMemory>
+    requires labels { labels.now ≡ row_labels [] (rows_of 0 (plain_node tree.now.top)) }
+    requires small { length (written (plain_gff tree.now)) ≤ file_limit }
+    ensures { IfOk result (λ bytes. bytes ≡ written (plain_gff tree.now)) }
 {
-    let size = bytes.len();
-    if size > FILE_BYTES {
-        return Err(WriteFault::Large(size as u64));
-    }
-    Ok(bytes.into_vec())
+    let rows = rows_in(alloc, tree)?;
+    let fields = count_fields(rows.as_slice());
+    labelled(alloc, &tree.file_type, rows.as_slice(), labels, fields)
 }
 
-/// The file of a tree, unless it is too large.
+/// The file of a tree, unless it is too large: that is decided before anything is copied.
 fn outcome(alloc: Global, tree: &Gff) -> Result<Vec<u8>, WriteFault>
     ensures { Gives (λ v. v.items) result (outcome_of (written (plain_gff tree.now))) }
 {
-    if node_size(&tree.top) > TREE_BYTES {
-        return Err(WriteFault::Large(size(tree)));
+    let labels = label_table(alloc, &tree.top)?;
+    let size = size_with(tree, &labels);
+    if size > FILE_BYTES as u64 {
+        return Err(WriteFault::Large(size));
     }
-    let rows = rows_in(alloc, tree)?;
-    let bytes = file(alloc, &tree.file_type, rows.as_slice())?;
-    bounded(bytes)
+    let bytes = file(alloc, tree, &labels)?;
+    Ok(bytes.into_vec())
 }
 
 /// The one file of a tree, or its size where it has more than 16,777,216 bytes.

@@ -51,9 +51,10 @@ impl Hook {
         Hook { known, call }
     }
 
-    /// The function's value for these arguments.
+    /// The function's value for these arguments, as the closure answers it.
     pub fn answer(&self, args: &Args) -> Result<Value, NoMemory>
         requires types { types_of_values args.now ≡ self.now.known.params }
+        ensures asked { Call.post self.now.call args.entry result }
         ensures answer { IfOk result (λ v. IsAnswer
             self.now.known.tables self.now.known.name self.now.known.result args.now v) }
     {

@@ -4,7 +4,7 @@ ghost use Rattle.std.specs.Option.{ForSome};
 ghost use Rattle.std.specs.Str.{bytes_eq};
 ghost use Rattle.hook_table.specs.Standard.{types_of_values, IsAnswer};
 
-use crate::hook::Hook;
+use crate::hook::{Call, Hook};
 use nwq_value::{Args, NoMemory, Value};
 use std::alloc::Global;
 
@@ -61,13 +61,15 @@ impl Hooks {
         find_in(self.all.as_slice(), name)
     }
 
-    /// The value of hook `i`'s function for these arguments.
+    /// The value of hook `i`'s function for these arguments, as its closure answers it.
     pub fn call(&self, i: usize, args: &Args) -> Result<Value, NoMemory>
         requires hook { i < length self.now.all.items }
         requires types { ForSome (slice_get self.now.all.items i)
             (λ h. types_of_values args.now ≡ h.known.params) }
         ensures answer { IfOk result (λ v. IfSome (slice_get self.now.all.items i)
             (λ h. IsAnswer h.known.tables h.known.name h.known.result args.now v)) }
+        ensures asked { ForSome (slice_get self.now.all.items i)
+            (λ h. Call.post h.call args.entry result) }
     {
         self.all[i].answer(args)
     }

@@ -1,5 +1,5 @@
 -- Values on top of cells.
-use Rattle.std.proofs.Common.{arith, ◌≡◌, ◌≢◌, ◌≤◌, ◌+◌, ◌++◌, ℕ, suc, List, [], ◌∷◌, length, take, drop, replicate, Option, Some, None, Bool, true, inl, inr, sym, ap, ◌∙◌, refl}
+use Rattle.std.proofs.Common.{arith, ◌≡◌, ◌≢◌, ◌<◌, ◌≤◌, ◌+◌, ◌++◌, ℕ, suc, List, [], ◌∷◌, length, take, drop, replicate, Option, Some, None, Bool, true, inl, inr, sym, ap, ◌∙◌, refl}
 use Rattle.std.specs.Prelude.{ℤ, slice_get, slice_set, nat_lt, if◌then◌else◌}
 use Rattle.std.proofs.lemmas.Bool.{cases_lt}
 use Rattle.std.proofs.lemmas.Bool.Decides.{nat_tests}
@@ -44,12 +44,7 @@ drop_two : (cells : List Cell) → drop 1 (drop 1 cells) ≡ drop 2 cells
 drop_two [] = refl
 drop_two (c ∷ cells) = refl
 
-within : (cells : List Cell) (c : Cell) → slice_get cells 1 ≡ Some c → 2 ≤ length cells
-within [] c h = absurd cc
-within (a ∷ []) c h = absurd cc
-within (a ∷ b ∷ cells) c h = omega arith
-
-within_one : (cells : List Cell) (c : Cell) → slice_get cells 0 ≡ Some c → 1 ≤ length cells
+within_one : (cells : List Cell) (c : Cell) → slice_get cells 0 ≡ Some c → 0 < length cells
 within_one [] c h = absurd cc
 within_one (a ∷ cells) c h = omega arith
 
@@ -63,15 +58,28 @@ second_int f cells h = let top = first_int f cells h in
     has_lower cells (on_int_has (drop 1 cells) (λ x below. Some (Holds (Int (f x top.int)) ∷ below))
     (λ none. h (on_int_is cells (λ y rest. on_int rest (λ x below. Some (Holds (Int (f x y)) ∷ below))) top.int top.is ∙ none)))
 
-pub two_lie : (f : ℤ → ℤ → ℤ) (cells : List Cell) → of_ints f cells ≢ None → 2 ≤ length cells
-two_lie f cells h = let second = second_int f cells h in within cells (Holds (Int second.int)) second.is
+pub two_lie : (f : ℤ → ℤ → ℤ) (cells : List Cell) → of_ints f cells ≢ None → 0 < length cells
+two_lie f cells h = let first = first_int f cells h in within_one cells (Holds (Int first.int)) first.is
 
-pub two_is : (f : ℤ → ℤ → ℤ) (cells : List Cell) (x y : ℤ) → slice_get cells 0 ≡ Some (Holds (Int y)) → slice_get cells 1 ≡ Some (Holds (Int x))
+two_is : (f : ℤ → ℤ → ℤ) (cells : List Cell) (x y : ℤ) → slice_get cells 0 ≡ Some (Holds (Int y)) → slice_get cells 1 ≡ Some (Holds (Int x))
     → of_ints f cells ≡ Some (Holds (Int (f x y)) ∷ drop 2 cells)
 two_is f cells x y a b =
     on_int_is cells (λ y rest. on_int rest (λ x below. Some (Holds (Int (f x y)) ∷ below))) y a
     ∙ on_int_is (drop 1 cells) (λ x below. Some (Holds (Int (f x y)) ∷ below)) x (lower cells 0 ∙ b)
     ∙ ap (λ (below : List Cell). Some (Holds (Int (f x y)) ∷ below)) (drop_two cells)
+
+-- the answer stands in place of the first operand
+pub two_value : (f : ℤ → ℤ → ℤ) (cells : List Cell) → of_ints f cells ≢ None → HasValue 0 (drop 1 cells)
+two_value f cells h = let second = second_int f cells h in record { value = Int second.int; is = lower cells 0 ∙ second.is }
+
+set_lower : (cells : List Cell) (c new : Cell) → slice_get cells 1 ≡ Some c → slice_set (drop 1 cells) 0 new ≡ new ∷ drop 2 cells
+set_lower [] c new h = absurd cc
+set_lower (a ∷ []) c new h = absurd cc
+set_lower (a ∷ b ∷ cells) c new h = refl
+
+pub two_set : (f : ℤ → ℤ → ℤ) (cells : List Cell) (x y : ℤ) → slice_get cells 0 ≡ Some (Holds (Int y)) → slice_get cells 1 ≡ Some (Holds (Int x))
+    → of_ints f cells ≡ Some (slice_set (drop 1 cells) 0 (Holds (Int (f x y))))
+two_set f cells x y a b = two_is f cells x y a b ∙ sym (ap Some (set_lower cells (Holds (Int x)) (Holds (Int (f x y))) b))
 
 pub zero_is : (cells : List Cell) (y : ℤ) → slice_get cells 0 ≡ Some (Holds (Int y)) → zero_on_top cells ≡ is_zero y
 zero_is [] y h = absurd cc
@@ -80,7 +88,7 @@ zero_is (c ∷ cells) y h = ap (λ (c : Cell). zero_on_top (c ∷ cells)) (same 
     same : slice_get (c ∷ cells) 0 ≡ Some (Holds (Int y)) → c ≡ Holds (Int y)
     same h = cc
 
-pub ruleset two_lemmas = (first_int, second_int, two_lie, two_is, zero_is)
+pub ruleset two_lemmas = (first_int, second_int, two_lie, two_value, two_set, zero_is)
 
 -- ---- one int
 
@@ -96,13 +104,16 @@ one_is f (c ∷ cells) x h = on_int_is (c ∷ cells) (λ x rest. Some (Holds (In
 
 pub ruleset one_lemmas = (one_has, one_value, one_is)
 
-pub dropped_lies : (cells : List Cell) → int_dropped cells ≢ None → 1 ≤ length cells
+pub dropped_has : (cells : List Cell) → int_dropped cells ≢ None → HasInt 0 cells
+dropped_has cells h = on_int_has cells (λ n rest. Some rest) h
+
+pub dropped_lies : (cells : List Cell) → int_dropped cells ≢ None → 0 < length cells
 dropped_lies cells h = let top = on_int_has cells (λ n rest. Some rest) h in within_one cells (Holds (Int top.int)) top.is
 
 pub dropped_is : (cells : List Cell) → int_dropped cells ≢ None → int_dropped cells ≡ Some (drop 1 cells)
 dropped_is cells h = let top = on_int_has cells (λ n rest. Some rest) h in on_int_is cells (λ n rest. Some rest) top.int top.is
 
-pub ruleset drop_lemmas = (dropped_lies, dropped_is)
+pub ruleset drop_lemmas = (dropped_has, dropped_lies, dropped_is, zero_is)
 
 -- ---- two texts
 
@@ -132,17 +143,24 @@ second_text f cells h =
     (λ none. h (on_text_is cells (λ b rest. on_text rest (λ a below. Some (Holds (Text (f a b)) ∷ below))) top.text top.is ∙ none)) in
     record { text = next.text; is = sym (lower cells 0) ∙ next.is }
 
-pub texts_lie : (f : List ℕ → List ℕ → List ℕ) (cells : List Cell) → of_texts f cells ≢ None → 2 ≤ length cells
-texts_lie f cells h = let second = second_text f cells h in within cells (Holds (Text second.text)) second.is
+pub texts_lie : (f : List ℕ → List ℕ → List ℕ) (cells : List Cell) → of_texts f cells ≢ None → 0 < length cells
+texts_lie f cells h = let first = first_text f cells h in within_one cells (Holds (Text first.text)) first.is
 
-pub texts_is : (f : List ℕ → List ℕ → List ℕ) (cells : List Cell) (a b : List ℕ) → slice_get cells 0 ≡ Some (Holds (Text b)) → slice_get cells 1 ≡ Some (Holds (Text a))
+pub texts_value : (f : List ℕ → List ℕ → List ℕ) (cells : List Cell) → of_texts f cells ≢ None → HasValue 0 (drop 1 cells)
+texts_value f cells h = let second = second_text f cells h in record { value = Text second.text; is = lower cells 0 ∙ second.is }
+
+texts_is : (f : List ℕ → List ℕ → List ℕ) (cells : List Cell) (a b : List ℕ) → slice_get cells 0 ≡ Some (Holds (Text b)) → slice_get cells 1 ≡ Some (Holds (Text a))
     → of_texts f cells ≡ Some (Holds (Text (f a b)) ∷ drop 2 cells)
 texts_is f cells a b h i =
     on_text_is cells (λ b rest. on_text rest (λ a below. Some (Holds (Text (f a b)) ∷ below))) b h
     ∙ on_text_is (drop 1 cells) (λ a below. Some (Holds (Text (f a b)) ∷ below)) a (lower cells 0 ∙ i)
     ∙ ap (λ (below : List Cell). Some (Holds (Text (f a b)) ∷ below)) (drop_two cells)
 
-pub ruleset text_lemmas = (first_text, second_text, texts_lie, texts_is)
+pub texts_set : (f : List ℕ → List ℕ → List ℕ) (cells : List Cell) (a b : List ℕ) → slice_get cells 0 ≡ Some (Holds (Text b)) → slice_get cells 1 ≡ Some (Holds (Text a))
+    → of_texts f cells ≡ Some (slice_set (drop 1 cells) 0 (Holds (Text (f a b))))
+texts_set f cells a b h i = texts_is f cells a b h i ∙ sym (ap Some (set_lower cells (Holds (Text a)) (Holds (Text (f a b))) i))
+
+pub ruleset text_lemmas = (first_text, second_text, texts_lie, texts_value, texts_set)
 
 -- ---- a constant string
 

@@ -234,74 +234,55 @@ onto_fits from onto count left len k first now c e size =
 
 pub ruleset copy_lemmas = (reads, writes, copied, copy_begins, copy_ends, from_fits, onto_fits)
 
--- ---- copies that are pushed, the lowest first
+-- ---- copies that are pushed
 
-pub record PushedCopies (above count left : ℕ) (first now : StackView) : Type 0 where
-  pub source : There count (drop above first.cells)
-  pub few : left ≤ count
-  pub bp : now.bp ≡ first.bp
-  pub cells : now.cells ≡ with_values (drop left source.vs) first.cells
+values_taken : (n : ℕ) (cells : List Cell) (vs : List Value) → values_on n cells ≡ Some vs → take n cells ≡ map Holds vs
+values_taken zero cells vs h = let e : [] ≡ vs = cc in ap (map Holds) e
+values_taken (suc n) [] vs h = absurd cc
+values_taken (suc n) (Base bp ∷ cells) vs h = absurd cc
+values_taken (suc n) (Holds v ∷ cells) vs h =
+    let m = on_map (λ (vs : List Value). v ∷ vs) (values_on n cells) vs h in
+    ap (λ (t : List Cell). Holds v ∷ t) (values_taken n cells m.0 m.1) ∙ ap (map Holds) m.2
 
--- the value that is read next lies as far down as the lowest one did
-next_is : (above count left : ℕ) (first now : StackView) (k : ℕ) (p : PushedCopies above count left first now) → left ≡ suc k
-    → (v : Value) × (slice_get p.source.vs k ≡ Some v) × (slice_get now.cells (above + (count - 1)) ≡ Some (Holds v))
-next_is above count left first now k p e =
-    let few = p.few in
-    let g = got_below count above first.cells p.source.vs p.source.are k (omega arith) in
-    let size = (length_is count (drop above first.cells) p.source.vs p.source.are).0 in
-    let pushed : length (map Holds (drop left p.source.vs)) ≡ count - left = length_map (drop left p.source.vs) ∙ length-drop left p.source.vs ∙ ap (λ n. n - left) size in
-    let where_is : above + (count - 1) ≡ length (map Holds (drop left p.source.vs)) + (above + k) = omega (arith, pushed, few) in (
-      g.0,
-      g.1,
-      ap (λ t. slice_get t (above + (count - 1))) p.cells
-          ∙ ap (slice_get (with_values (drop left p.source.vs) first.cells)) where_is
-          ∙ get_behind (map Holds (drop left p.source.vs)) first.cells (above + k) ∙ g.2,
-    )
+pub none_pushed : (above count : ℕ) (first : StackView) → count ≤ 0
+    → IfSome (values_on count (drop above first.cells)) (λ vs. first ≡ record first { cells = with_values vs first.cells })
+none_pushed above count first none =
+    let e : count ≡ 0 = omega (arith, none) in
+    subst (λ (n : ℕ). IfSome (values_on n (drop above first.cells)) (λ vs. first ≡ record first { cells = with_values vs first.cells })) (sym e) refl
+
+pub one_has : (above count : ℕ) (cells : List Cell) → AreValues count (drop above cells) → 0 < count → HasValue above cells
+one_has above count cells h some =
+    let t = there count (drop above cells) h in
+    let g = got_below count above cells t.vs t.are 0 some in
+    record { value = g.0; is = ap (slice_get cells) here ∙ g.2 }
   where
-    length_map : (vs : List Value) → length (map Holds vs) ≡ length vs
-    length_map [] = refl
-    length_map (v ∷ vs) = ap suc (length_map vs)
+    here : above ≡ above + 0
+    here = omega arith
 
-pub next_has : (above count left : ℕ) (first now : StackView) (k : ℕ) → PushedCopies above count left first now → left ≡ suc k → HasValue (above + (count - 1)) now.cells
-next_has above count left first now k p e = let n = next_is above count left first now k p e in record { value = n.0; is = n.2 }
-
-pub next_pushed : (above count left : ℕ) (first now : StackView) (k : ℕ) (v : Value) → PushedCopies above count left first now → left ≡ suc k
-    → slice_get now.cells (above + (count - 1)) ≡ Some (Holds v) → PushedCopies above count k first (record now { cells = Holds v ∷ now.cells })
-next_pushed above count left first now k v p e read =
-    let few = p.few in
-    let n = next_is above count left first now k p e in
-    record { source = p.source; few = omega arith; bp = p.bp; cells = step (same read n.2 n.1) }
-  where
-    same : {w : Value} → slice_get now.cells (above + (count - 1)) ≡ Some (Holds v) → slice_get now.cells (above + (count - 1)) ≡ Some (Holds w)
-        → slice_get p.source.vs k ≡ Some w → slice_get p.source.vs k ≡ Some v
-    same a b d = cc
-
-    step : slice_get p.source.vs k ≡ Some v → Holds v ∷ now.cells ≡ with_values (drop k p.source.vs) first.cells
-    step is =
-        let values : drop k p.source.vs ≡ v ∷ drop left p.source.vs = drop_is p.source.vs k v is ∙ ap (λ n. v ∷ drop n p.source.vs) (sym e) in
-        ap (λ t. Holds v ∷ t) p.cells ∙ ap (λ vs. with_values vs first.cells) (sym values)
-
-pub push_begins : (above count : ℕ) (first : StackView) → AreValues count (drop above first.cells) → PushedCopies above count count first first
-push_begins above count first h = let s = there count (drop above first.cells) h in record {
-  source = s;
-  few = omega arith;
-  bp = refl;
-  cells = sym (ap (λ vs. with_values vs first.cells) (drop_all s.vs count (sym (length_is count (drop above first.cells) s.vs s.are).0)));
-}
-
-pub push_ends : (above count left : ℕ) (first now : StackView) → PushedCopies above count left first now → left ≡ 0
+pub one_pushed : (above count : ℕ) (first now : StackView) (v w : Value) → 0 < count → count ≤ 1 → slice_get first.cells above ≡ Some (Holds v) → w ≡ v
+    → now ≡ record first { cells = Holds w ∷ first.cells }
     → IfSome (values_on count (drop above first.cells)) (λ vs. now ≡ record first { cells = with_values vs first.cells })
-push_ends above count left first now p e =
-    let cells : now.cells ≡ with_values p.source.vs first.cells = p.cells ∙ ap (λ n. with_values (drop n p.source.vs) first.cells) e in
-    subst (λ o. IfSome o (λ vs. now ≡ record first { cells = with_values vs first.cells })) (sym p.source.are) (both cells p.bp)
-  where
-    both : now.cells ≡ with_values p.source.vs first.cells → now.bp ≡ first.bp → now ≡ record first { cells = with_values p.source.vs first.cells }
-    both a b = ap (λ (cells : List Cell). record now { cells = cells }) a ∙ ap (λ (bp : ℕ). record first { cells = with_values p.source.vs first.cells; bp = bp }) b
+one_pushed above count first now v w some most is same put =
+    let e : count ≡ 1 = omega (arith, some, most) in
+    let whole : values_on 1 (drop above first.cells) ≡ Some (v ∷ []) = ap (values_on 1) (drop_is first.cells above (Holds v) is) in
+    let after : now ≡ record first { cells = Holds v ∷ first.cells } = put ∙ ap (λ (u : Value). record first { cells = Holds u ∷ first.cells }) same in
+    subst (λ (n : ℕ). IfSome (values_on n (drop above first.cells)) (λ vs. now ≡ record first { cells = with_values vs first.cells })) (sym e)
+    (subst (λ o. IfSome o (λ vs. now ≡ record first { cells = with_values vs first.cells })) (sym whole) after)
 
-pub push_fits : (above count left len k : ℕ) (first now : StackView) → PushedCopies above count left first now → left ≡ suc k → len ≡ length first.cells → above + (count - 1) < len
-push_fits above count left len k first now p e size =
-    let few = p.few in
-    let g = got_below count above first.cells p.source.vs p.source.are (count - 1) (omega arith) in
-    let inside = slice_get_within first.cells (above + (count - 1)) (Holds g.0) g.2 in omega arith
+pub many_fit : (above count : ℕ) (cells : List Cell) → AreValues count (drop above cells) → 1 < count → above + count ≤ length cells
+many_fit above count cells h some =
+    let t = there count (drop above cells) h in
+    let less = (length_is count (drop above cells) t.vs t.are).1 in
+    let size = length-drop above cells in
+    omega (arith, less, size, some)
 
-pub ruleset push_lemmas = (next_has, next_pushed, push_begins, push_ends, push_fits)
+pub many_pushed : (above count : ℕ) (first now : StackView) → AreValues count (drop above first.cells)
+    → now ≡ record first { cells = take count (drop above first.cells) ++ first.cells }
+    → IfSome (values_on count (drop above first.cells)) (λ vs. now ≡ record first { cells = with_values vs first.cells })
+many_pushed above count first now h put =
+    let t = there count (drop above first.cells) h in
+    let after : now ≡ record first { cells = with_values t.vs first.cells } =
+    put ∙ ap (λ (c : List Cell). record first { cells = c ++ first.cells }) (values_taken count (drop above first.cells) t.vs t.are) in
+    subst (λ o. IfSome o (λ vs. now ≡ record first { cells = with_values vs first.cells })) (sym t.are) after
+
+pub ruleset push_lemmas = (none_pushed, one_has, one_pushed, many_fit, many_pushed)

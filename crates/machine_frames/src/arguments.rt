@@ -63,7 +63,7 @@ impl Frame {
     {
         let copy = value(&self.stack, 0).copy(alloc)?;
         args.values.push(copy)?;
-        self.stack.drop_top(1);
+        self.stack.drop_one();
         Ok(())
     }
 

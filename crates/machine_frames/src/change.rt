@@ -11,17 +11,17 @@ ghost use Rattle.machine_frames.specs.Operations.{binary_of, divides};
 
 use crate::operation::{Binary, Unary};
 use crate::ranges::{
-    bp_range, cells, change_int, compare, drop_values, keep_range, one_cell, push_range,
-    write_range,
+    cells, change_bp, change_int, change_sp, compare, drop_values, keep_range, one_cell, push_bp,
+    push_range, push_sp, write_bp, write_range, write_sp,
 };
 use crate::top::cell;
 use crate::values::{
-    add, drop_int, kind_ints, negate, one_int, push_object, push_start, push_text,
+    add, kind_ints, negate, one_int, push_object, push_start, push_text, take_zero,
 };
 use decoded_code::Step;
 use nwq_value::{NoMemory, Value};
 use saved_state::{Cell, Stack};
-use stack_shape::{depth_of, range_at};
+use stack_shape::depth_of;
 use std::alloc::Global;
 
 /// Whether an int that is 0 is on top.
@@ -72,10 +72,24 @@ pub fn operate(stack: &mut Stack, kind: u8, op: Binary, at: u32) -> Result<u32, 
     Ok(at + 2)
 }
 
+/// The same by a call of its own, for those that are rare: the way of the others stays short.
+#[inline(never)]
+fn operate_apart(stack: &mut Stack, kind: u8, op: Binary, at: u32) -> Result<u32, NoMemory>
+    requires case { if_ints kind (of_ints (binary_of op) stack.old.cells) ≢ None }
+    requires divisor { (divides op && zero_on_top stack.old.cells) ≡ false }
+    requires small { at + 2 ≤ file_limit }
+    ensures cells { OnOk result
+        (if_ints kind (of_ints (binary_of op) stack.old.cells) ≡ Some stack.new.cells) }
+    ensures bp { OnOk result (stack.new.bp ≡ stack.old.bp) }
+    ensures place { IfOk result (λ place. place ≡ at + 2) }
+{
+    operate(stack, kind, op, at)
+}
+
 /// The cells after an instruction at a place that doesn't divide, in a script that runs with the
 /// object `own` as self, and the place that follows.
 #[inline(always)]
-#[tactic(auto, using(crate::proofs::RangeLemmas::reach_lemmas), unfolding(machine_rules::specs::Act::cells_after))]
+#[tactic(auto, unfolding(machine_rules::specs::Act::cells_after))]
 pub fn change(
     alloc: Global,
     stack: &mut Stack,
@@ -115,20 +129,20 @@ pub fn change(
         }
         Step::LogAnd => operate(stack, 0x20, Binary::LogAnd, at),
         Step::LogOr => operate(stack, 0x20, Binary::LogOr, at),
-        Step::IncOr => operate(stack, 0x20, Binary::IncOr, at),
-        Step::ExcOr => operate(stack, 0x20, Binary::ExcOr, at),
-        Step::BoolAnd => operate(stack, 0x20, Binary::BoolAnd, at),
+        Step::IncOr => operate_apart(stack, 0x20, Binary::IncOr, at),
+        Step::ExcOr => operate_apart(stack, 0x20, Binary::ExcOr, at),
+        Step::BoolAnd => operate_apart(stack, 0x20, Binary::BoolAnd, at),
         Step::Geq { kind } => operate(stack, *kind, Binary::Geq, at),
         Step::Gt { kind } => operate(stack, *kind, Binary::Gt, at),
         Step::Lt { kind } => operate(stack, *kind, Binary::Lt, at),
         Step::Leq { kind } => operate(stack, *kind, Binary::Leq, at),
-        Step::ShLeft => operate(stack, 0x20, Binary::ShLeft, at),
-        Step::ShRight => operate(stack, 0x20, Binary::ShRight, at),
-        Step::UshRight => operate(stack, 0x20, Binary::UshRight, at),
+        Step::ShLeft => operate_apart(stack, 0x20, Binary::ShLeft, at),
+        Step::ShRight => operate_apart(stack, 0x20, Binary::ShRight, at),
+        Step::UshRight => operate_apart(stack, 0x20, Binary::UshRight, at),
         Step::Sub { kind } => operate(stack, *kind, Binary::Sub, at),
         Step::Mul { kind } => operate(stack, *kind, Binary::Mul, at),
         Step::CpDownSp { offset, size } => {
-            write_range(alloc, stack, range_at(*offset, *size))?;
+            write_sp(alloc, stack, *offset, *size)?;
             Ok(at + 8)
         }
         Step::RsAdd { kind } => {
@@ -136,7 +150,7 @@ pub fn change(
             Ok(at + 2)
         }
         Step::CpTopSp { offset, size } => {
-            push_range(alloc, stack, range_at(*offset, *size))?;
+            push_sp(alloc, stack, *offset, *size)?;
             Ok(at + 8)
         }
         Step::ConstInt(n) => {
@@ -177,8 +191,7 @@ pub fn change(
         }
         Step::Jmp { offset } => Ok(jump(at, *offset)),
         Step::Jz { offset } => {
-            let zero = zero_on_top(stack);
-            drop_int(stack);
+            let zero = take_zero(stack);
             Ok(if zero { jump(at, *offset) } else { at + 6 })
         }
         Step::Destruct {
@@ -194,36 +207,31 @@ pub fn change(
             Ok(at + 2)
         }
         Step::DecISp { offset } => {
-            change_int(stack, range_at(*offset, 4), Unary::Dec)?;
+            change_sp(stack, *offset, Unary::Dec)?;
             Ok(at + 6)
         }
         Step::IncISp { offset } => {
-            change_int(stack, range_at(*offset, 4), Unary::Inc)?;
+            change_sp(stack, *offset, Unary::Inc)?;
             Ok(at + 6)
         }
         Step::Jnz { offset } => {
-            let zero = zero_on_top(stack);
-            drop_int(stack);
+            let zero = take_zero(stack);
             Ok(if zero { at + 6 } else { jump(at, *offset) })
         }
         Step::CpDownBp { offset, size } => {
-            let range = bp_range(stack, *offset, *size);
-            write_range(alloc, stack, range)?;
+            write_bp(alloc, stack, *offset, *size)?;
             Ok(at + 8)
         }
         Step::CpTopBp { offset, size } => {
-            let range = bp_range(stack, *offset, *size);
-            push_range(alloc, stack, range)?;
+            push_bp(alloc, stack, *offset, *size)?;
             Ok(at + 8)
         }
         Step::DecIBp { offset } => {
-            let range = bp_range(stack, *offset, 4);
-            change_int(stack, range, Unary::Dec)?;
+            change_bp(stack, *offset, Unary::Dec)?;
             Ok(at + 6)
         }
         Step::IncIBp { offset } => {
-            let range = bp_range(stack, *offset, 4);
-            change_int(stack, range, Unary::Inc)?;
+            change_bp(stack, *offset, Unary::Inc)?;
             Ok(at + 6)
         }
         Step::Nop => Ok(at + 2),

@@ -222,7 +222,7 @@ impl Frame {
         ensures script { self.new.script ≡ self.old.script }
     {
         let bp = self.kept_bp();
-        self.stack.drop_top(1);
+        self.stack.drop_one();
         self.stack.set_bp(bp);
         self.place += size;
     }

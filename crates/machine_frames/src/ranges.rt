@@ -128,6 +128,81 @@ pub fn bp_range(stack: &Stack, offset: i32, size: u16) -> Option<CellRange>
     }
 }
 
+/// CPTOPSP of any cells: a call of its own, as are those that follow, so that the way of one cell
+/// stays short.
+#[inline(never)]
+pub fn push_sp(alloc: Global, stack: &mut Stack, offset: i32, size: u16) -> Result<(), NoMemory>
+    requires case { range_pushed (range_at offset size) stack.old.cells ≢ None }
+    ensures cells { OnOk result
+        (range_pushed (range_at offset size) stack.old.cells ≡ Some stack.new.cells) }
+    ensures bp { OnOk result (stack.new.bp ≡ stack.old.bp) }
+{
+    push_range(alloc, stack, range_at(offset, size))
+}
+
+/// CPTOPBP.
+#[inline(never)]
+#[tactic(auto, using(crate::proofs::RangeLemmas::reach_lemmas))]
+pub fn push_bp(alloc: Global, stack: &mut Stack, offset: i32, size: u16) -> Result<(), NoMemory>
+    requires case { range_pushed (bp_range stack.old offset size) stack.old.cells ≢ None }
+    ensures cells { OnOk result
+        (range_pushed (bp_range stack.old offset size) stack.old.cells ≡ Some stack.new.cells) }
+    ensures bp { OnOk result (stack.new.bp ≡ stack.old.bp) }
+{
+    let range = bp_range(stack, offset, size);
+    push_range(alloc, stack, range)
+}
+
+/// CPDOWNSP of any cells.
+#[inline(never)]
+pub fn write_sp(alloc: Global, stack: &mut Stack, offset: i32, size: u16) -> Result<(), NoMemory>
+    requires case { range_written (range_at offset size) stack.old.cells ≢ None }
+    ensures cells { OnOk result
+        (range_written (range_at offset size) stack.old.cells ≡ Some stack.new.cells) }
+    ensures bp { OnOk result (stack.new.bp ≡ stack.old.bp) }
+{
+    write_range(alloc, stack, range_at(offset, size))
+}
+
+/// CPDOWNBP.
+#[inline(never)]
+#[tactic(auto, using(crate::proofs::RangeLemmas::reach_lemmas))]
+pub fn write_bp(alloc: Global, stack: &mut Stack, offset: i32, size: u16) -> Result<(), NoMemory>
+    requires case { range_written (bp_range stack.old offset size) stack.old.cells ≢ None }
+    ensures cells { OnOk result
+        (range_written (bp_range stack.old offset size) stack.old.cells ≡ Some stack.new.cells) }
+    ensures bp { OnOk result (stack.new.bp ≡ stack.old.bp) }
+{
+    let range = bp_range(stack, offset, size);
+    write_range(alloc, stack, range)
+}
+
+/// DECISP and INCISP at any offset.
+#[inline(never)]
+pub fn change_sp(stack: &mut Stack, offset: i32, op: Unary) -> Result<(), NoMemory>
+    requires case { int_changed (unary_of op) (range_at offset 4) stack.old.cells ≢ None }
+    ensures cells { OnOk result
+        (int_changed (unary_of op) (range_at offset 4) stack.old.cells ≡ Some stack.new.cells) }
+    ensures bp { OnOk result (stack.new.bp ≡ stack.old.bp) }
+{
+    change_int(stack, range_at(offset, 4), op)
+}
+
+/// DECIBP and INCIBP.
+#[inline(never)]
+#[tactic(auto, using(crate::proofs::RangeLemmas::reach_lemmas))]
+pub fn change_bp(stack: &mut Stack, offset: i32, op: Unary) -> Result<(), NoMemory>
+    requires case { int_changed (unary_of op) (bp_range stack.old offset 4) stack.old.cells
+        ≢ None }
+    ensures cells { OnOk result
+        (int_changed (unary_of op) (bp_range stack.old offset 4) stack.old.cells
+        ≡ Some stack.new.cells) }
+    ensures bp { OnOk result (stack.new.bp ≡ stack.old.bp) }
+{
+    let range = bp_range(stack, offset, 4);
+    change_int(stack, range, op)
+}
+
 /// So many values are popped.
 #[inline(always)]
 #[tactic(auto, using(crate::proofs::RangeLemmas::dropped_lemmas))]
@@ -138,6 +213,7 @@ pub fn drop_values(stack: &mut Stack, count: Option<usize>)
 {
     match count {
         None => unreachable!(),
+        Some(1) => stack.drop_one(),
         Some(count) => stack.drop_top(count),
     }
 }
@@ -165,6 +241,7 @@ fn keep_values(
 }
 
 /// DESTRUCT, whose three numbers are of bytes.
+#[inline(never)]
 pub fn keep_range(
     alloc: Global,
     stack: &mut Stack,
@@ -223,6 +300,7 @@ fn compare_runs(stack: &mut Stack, count: usize, negated: bool) -> Result<(), No
 }
 
 /// EQUAL and NEQUAL.
+#[inline(never)]
 #[tactic(auto, using(crate::proofs::RangeLemmas::pair_lemmas))]
 pub fn compare(stack: &mut Stack, kind: u8, size: u16, negated: bool) -> Result<(), NoMemory>
     requires case { compared (answer_of negated) kind size stack.old.cells ≢ None }

@@ -13,6 +13,14 @@ use nwq_value::{NoMemory, Value};
 use saved_state::{Cell, Stack};
 use std::alloc::Global;
 
+/// An equal value: a call of its own, so that the way of ints stays short.
+#[inline(never)]
+fn copied_apart(alloc: Global, value: &Value) -> Result<Value, NoMemory>
+    ensures ok { IfOk result (λ copy. copy ≡ value.now) }
+{
+    value.copy(alloc)
+}
+
 /// An equal value. Most are ints, which are copied here.
 #[inline(always)]
 fn copied(alloc: Global, value: &Value) -> Result<Value, NoMemory>
@@ -20,7 +28,7 @@ fn copied(alloc: Global, value: &Value) -> Result<Value, NoMemory>
 {
     match value {
         Value::Int(n) => Ok(Value::Int(*n)),
-        _ => value.copy(alloc),
+        _ => copied_apart(alloc, value),
     }
 }
 
@@ -64,12 +72,14 @@ pub fn push_copies(
     ensures cells { OnOk result (IfSome (values_on count (drop above stack.old.cells))
         (λ vs. stack.new ≡ record stack.old { cells = with_values vs stack.old.cells })) }
 {
-    let len = stack.len();
-    let mut left = count;
-    while left > 0 {
-        left -= 1;
-        let copy = copied(alloc, value(stack, above + (count - 1)))?;
+    if count > 1 {
+        stack.push_copies(above, count)?;
+        Ok(())
+    } else if count > 0 {
+        let copy = copied(alloc, value(stack, above))?;
         stack.push(Cell::Value(copy))?;
+        Ok(())
+    } else {
+        Ok(())
     }
-    Ok(())
 }

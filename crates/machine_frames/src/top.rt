@@ -10,13 +10,11 @@ use saved_state::{Cell, Stack};
 
 /// The cell that lies so many others down.
 #[inline(always)]
-#[tactic(auto, using(crate::proofs::Depths::cell_down))]
 pub fn cell(stack: &Stack, depth: usize) -> &Cell
     requires inside { depth < length stack.now.cells }
     ensures cell { slice_get stack.now.cells depth ≡ Some result.now }
 {
-    let place = stack.len() - 1 - depth;
-    stack.at(place)
+    stack.down(depth)
 }
 
 /// The value there.
@@ -65,12 +63,11 @@ pub fn text(stack: &Stack, depth: usize) -> &Text
 
 /// Puts a value in the place of the one there.
 #[inline(always)]
-#[tactic(auto, using(crate::proofs::Depths::value_lies, crate::proofs::Depths::put_down, crate::proofs::Depths::no_base))]
+#[tactic(auto, using(crate::proofs::Depths::value_lies, crate::proofs::Depths::value_held))]
 pub fn put(stack: &mut Stack, depth: usize, value: Value) -> Result<(), NoMemory>
     requires value { HasValue depth stack.old.cells }
     ensures put { OnOk result (stack.new
         ≡ record stack.old { cells = slice_set stack.old.cells depth (Holds value) }) }
 {
-    let place = stack.len() - 1 - depth;
-    stack.set(place, value)
+    stack.set_down(depth, value)
 }

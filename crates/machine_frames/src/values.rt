@@ -27,8 +27,8 @@ pub fn two_ints(stack: &mut Stack, op: Binary) -> Result<(), NoMemory>
 {
     let y = int(stack, 0);
     let x = int(stack, 1);
-    stack.drop_top(2);
-    stack.push(Cell::Value(Value::Int(of_two(op, x, y))))
+    stack.drop_one();
+    put(stack, 0, Value::Int(of_two(op, x, y)))
 }
 
 /// The same of an instruction whose type byte says that it is of ints.
@@ -60,6 +60,7 @@ pub fn one_int(stack: &mut Stack, op: Unary) -> Result<(), NoMemory>
 }
 
 /// NEG.
+#[inline(never)]
 pub fn negate(stack: &mut Stack, kind: u8) -> Result<(), NoMemory>
     requires case { negated kind stack.old.cells ≢ None }
     ensures cells { OnOk result (negated kind stack.old.cells ≡ Some stack.new.cells) }
@@ -73,6 +74,7 @@ pub fn negate(stack: &mut Stack, kind: u8) -> Result<(), NoMemory>
 }
 
 /// The two texts on top become one.
+#[inline(never)]
 #[tactic(auto, using(crate::proofs::Popped::text_lemmas))]
 fn two_texts(alloc: Global, stack: &mut Stack) -> Result<(), NoMemory>
     requires case { of_texts joined_texts stack.old.cells ≢ None }
@@ -80,11 +82,12 @@ fn two_texts(alloc: Global, stack: &mut Stack) -> Result<(), NoMemory>
     ensures bp { OnOk result (stack.new.bp ≡ stack.old.bp) }
 {
     let joined = text(stack, 1).join(alloc, text(stack, 0))?;
-    stack.drop_top(2);
-    stack.push(Cell::Value(Value::Text(joined)))
+    stack.drop_one();
+    put(stack, 0, Value::Text(joined))
 }
 
 /// ADD, of ints or of texts.
+#[inline(always)]
 pub fn add(alloc: Global, stack: &mut Stack, kind: u8) -> Result<(), NoMemory>
     requires case { added kind stack.old.cells ≢ None }
     ensures cells { OnOk result (added kind stack.old.cells ≡ Some stack.new.cells) }
@@ -99,18 +102,22 @@ pub fn add(alloc: Global, stack: &mut Stack, kind: u8) -> Result<(), NoMemory>
     }
 }
 
-/// Pops an int.
+/// Pops an int, and says whether it is 0.
 #[inline(always)]
 #[tactic(auto, using(crate::proofs::Popped::drop_lemmas))]
-pub fn drop_int(stack: &mut Stack)
+pub fn take_zero(stack: &mut Stack) -> bool
     requires case { int_dropped stack.old.cells ≢ None }
+    ensures test { result ≡ zero_on_top stack.old.cells }
     ensures cells { int_dropped stack.old.cells ≡ Some stack.new.cells }
     ensures bp { stack.new.bp ≡ stack.old.bp }
 {
-    stack.drop_top(1);
+    let n = int(stack, 0);
+    stack.drop_one();
+    n == 0
 }
 
 /// RSADD.
+#[inline(never)]
 pub fn push_start(alloc: Global, stack: &mut Stack, kind: u8) -> Result<(), NoMemory>
     requires case { value_pushed (starting_value kind) stack.old.cells ≢ None }
     ensures cells { OnOk result
@@ -124,6 +131,7 @@ pub fn push_start(alloc: Global, stack: &mut Stack, kind: u8) -> Result<(), NoMe
 }
 
 /// CONST of a string, of which so many bytes are left out behind the text.
+#[inline(never)]
 #[tactic(auto, using(crate::proofs::Popped::text_pushed))]
 pub fn push_text(
     alloc: Global,
@@ -141,6 +149,7 @@ pub fn push_text(
 }
 
 /// CONST of an object, in a script that runs with the object `own` as self.
+#[inline(never)]
 pub fn push_object(stack: &mut Stack, own: u32, object: u32) -> Result<(), NoMemory>
     ensures cells { OnOk result
         (value_pushed (literal_value own (ObjectLit object)) stack.old.cells

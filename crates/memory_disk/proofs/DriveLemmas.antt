@@ -1,11 +1,13 @@
 -- What each change of the disk leaves, as its names tell it.
-use Rattle.std.proofs.Common.{◌≡◌, ◌≢◌, ◌∙◌, ℕ, Bool, true, List, [], Option, None, Some, refl, sym, ap, subst}
+use Rattle.std.proofs.Common.{◌≡◌, ◌≢◌, ◌∙◌, ℕ, Bool, true, false, true≢false, List, [], ◌∷◌, ◌++◌, bytes_eq, Option, None, Some, refl, sym, ap, subst}
+use Rattle.std.proofs.lemmas.Slice.Eq.{bytes_eq-Decides}
 use Rattle.std.specs.FinMap as names
 use Rattle.std.specs.FinMap.{insert, remove}
 use Rattle.std.specs.Option.{option_and_then, unwrap_or}
-use Rattle.real_files.specs.Disk.{Names, SameKind, SameOthers, HasMode, MakesWhole, MakesPart, Renames, Removes, WritesInto, WritesPart}
+use Rattle.nwq_outside.specs.ContentLemmas.{put_there}
+use Rattle.real_files.specs.Disk.{Names, SameKind, SameOthers, HasMode, MakesWhole, MakesPart, Renames, Removes, Syncs, WritesInto, WritesPart, folder_of}
 use Rattle.memory_disk.proofs.EachLemmas.{bytes_at, mode_at, link_at, put_at, put_apart, put_same, put_inserts, out_at, out_apart, out_same}
-use Rattle.memory_disk.specs.Drive.{Nodes, Drive, bytes_in, mode_in, text_in, files_of, modes_of, links_of, names_of}
+use Rattle.memory_disk.specs.Drive.{Nodes, Drive, bytes_in, mode_in, text_in, files_of, modes_of, links_of, is_among, is_held, names_of}
 use Rattle.memory_disk.specs.declared.node.Node.{Node}
 use Rattle.memory_disk.specs.declared.node.Node.TheVariants.{File, Link, Device}
 
@@ -56,22 +58,68 @@ module _ (before after : Drive) (name : List ℕ) (mode : ℕ) (bytes : List ℕ
   has_mode None other is = tt
   has_mode (Some asked) other is = λ _. put_at mode_in 0 before.nodes name (File mode bytes) ∙ ap Some is
 
-  pub makes_whole : (like : Option ℕ) (other : ℕ) → mode ≡ unwrap_or like other → MakesWhole (names_of before) (names_of after) name like bytes
+  pub makes_whole : (like : Option ℕ) (other : ℕ) → mode ≡ unwrap_or like other → MakesWhole (names_of before) (names_of after) name like bytes false
   makes_whole like other is =
-      subst (λ d. MakesWhole (names_of before) (names_of d) name like bytes) (sym put)
+      subst (λ d. MakesWhole (names_of before) (names_of d) name like bytes false) (sym put)
       (record {
         was_none = no_file;
         files = put_inserts bytes_in [] before.nodes name (File mode bytes) bytes refl;
         mode = has_mode like other is;
+        written = λ lasts. absurd (true≢false (sym lasts));
         others = put_others before name (File mode bytes) room refl no_link;
       })
+
+-- ---- what the disk has for good
+
+among_last : (list : List (List ℕ)) (bytes : List ℕ) → is_among (list ++ bytes ∷ []) bytes ≡ true
+among_last [] bytes = rw ((bytes_eq-Decides bytes bytes).1 refl) refl
+among_last (first ∷ list) bytes = by_test (bytes_eq first bytes) refl (among_last list bytes)
+  where
+    by_test : (t : Bool) → bytes_eq first bytes ≡ t → is_among (list ++ bytes ∷ []) bytes ≡ true → is_among (first ∷ (list ++ bytes ∷ [])) bytes ≡ true
+    by_test true is rest = rw is refl
+    by_test false is rest = rw is rest
+
+still_mode : (d : Drive) (more : List (List ℕ)) (name : List ℕ) (like : Option ℕ) → HasMode (names_of d) name like
+    → HasMode (names_of (record d { written = more })) name like
+still_mode d more name None has = tt
+still_mode d more name (Some mode) has = has
+
+module _ (before mid after : Drive) (new bytes : List ℕ) (like : Option ℕ) (made : MakesWhole (names_of before) (names_of mid) new like bytes false) where
+  pub bytes_kept : (lasting : Bool) → after ≡ record mid { written = mid.written ++ bytes ∷ [] }
+      → MakesWhole (names_of before) (names_of after) new like bytes lasting
+  bytes_kept lasting kept =
+      subst (λ d. MakesWhole (names_of before) (names_of d) new like bytes lasting) (sym kept)
+      (record {
+        was_none = made.was_none;
+        files = made.files;
+        mode = still_mode mid (mid.written ++ bytes ∷ []) new like made.mode;
+        written = λ lasts.
+            ap (λ held. is_held (mid.written ++ bytes ∷ []) (names.get held new)) made.files
+            ∙ ap (is_held (mid.written ++ bytes ∷ [])) (put_there (files_of before.nodes) new bytes)
+            ∙ among_last mid.written bytes;
+        others = record { kind = record { links = made.others.kind.links; fixed = made.others.kind.fixed; has_modes = refl }; files = made.others.files; modes = made.others.modes };
+      })
+
+  pub bytes_lost : after ≡ mid → MakesPart (names_of before) (names_of after) new
+  bytes_lost same =
+      subst (λ d. MakesPart (names_of before) (names_of d) new) (sym same)
+      (record { was_none = made.was_none; others = made.others })
+
+  pub bytes_brief : (lasting : Bool) → lasting ≡ false → MakesWhole (names_of before) (names_of mid) new like bytes lasting
+  bytes_brief lasting is = subst (MakesWhole (names_of before) (names_of mid) new like bytes) (sym is) made
+
+pub folder_kept : (before after : Drive) (name : List ℕ) → after ≡ record before { listed = before.listed ++ folder_of name ∷ [] }
+    → Syncs (names_of before) (names_of after) name
+folder_kept before after name kept =
+    subst (λ d. Syncs (names_of before) (names_of d) name) (sym kept)
+    (record { same = refl; listed = among_last before.listed (folder_of name) })
 
 -- ---- a file under another name
 
 module _ (before mid after : Drive) (from to : List ℕ) (mode : ℕ) (bytes : List ℕ) (room less : ℕ)
     (is : names.get before.nodes from ≡ Some (File mode bytes)) (no_link_there : names.get (links_of before.nodes) to ≡ None) (apart : from ≢ to)
     (put : mid ≡ record before { nodes = insert before.nodes to (File mode bytes); room = room })
-    (out : after ≡ record mid { nodes = remove mid.nodes from; room = less }) where
+    (out : after ≡ record mid { nodes = remove mid.nodes from; room = less; listed = [] }) where
   abbrev put_nodes : Nodes
   put_nodes = insert before.nodes to (File mode bytes)
 
@@ -85,16 +133,21 @@ module _ (before mid after : Drive) (from to : List ℕ) (mode : ℕ) (bytes : L
   no_link_here = sym (ap (λ l. names.get l from) links_put ∙ link_at before.nodes from ∙ ap (option_and_then text_in) is)
 
   abbrev renamed : Drive
-  renamed = record before { nodes = remove put_nodes from; room = less }
+  renamed = record before { nodes = remove put_nodes from; room = less; listed = [] }
 
   same : after ≡ renamed
-  same = out ∙ ap (λ (d : Drive). record d { nodes = remove d.nodes from; room = less }) put
+  same = out ∙ ap (λ (d : Drive). record d { nodes = remove d.nodes from; room = less; listed = [] }) put
+
+  moved_bytes : names.get (files_of renamed.nodes) to ≡ names.get (files_of before.nodes) from
+  moved_bytes =
+      out_apart bytes_in [] put_nodes from to back ∙ put_at bytes_in [] before.nodes to (File mode bytes)
+      ∙ sym (bytes_at before.nodes from ∙ ap (option_and_then bytes_in) is)
 
   renames_so : Renames (names_of before) (names_of renamed) from to
   renames_so = record {
     kind = record { links = out_same text_in [] put_nodes from no_link_here ∙ links_put; fixed = refl; has_modes = refl };
-    moved = out_apart bytes_in [] put_nodes from to back ∙ put_at bytes_in [] before.nodes to (File mode bytes)
-        ∙ sym (bytes_at before.nodes from ∙ ap (option_and_then bytes_in) is);
+    moved = moved_bytes;
+    written = ap (is_held before.written) moved_bytes;
     mode = out_apart mode_in 0 put_nodes from to back ∙ put_at mode_in 0 before.nodes to (File mode bytes)
         ∙ sym (mode_at before.nodes from ∙ ap (option_and_then mode_in) is);
     gone = λ _. out_at bytes_in [] put_nodes from;
@@ -113,6 +166,7 @@ renames_same d from to same = record {
   kind = stays (names_of d);
   moved = ap (names.get (files_of d.nodes)) (sym same);
   mode = ap (names.get (modes_of d.nodes)) (sym same);
+  written = ap (λ name. is_held d.written (names.get (files_of d.nodes) name)) (sym same);
   gone = λ apart. absurd (apart same);
   files = λ other a b. refl;
   modes = λ other a b. refl;
@@ -121,7 +175,7 @@ renames_same d from to same = record {
 -- ---- a file that is taken out
 
 module _ (before after : Drive) (name : List ℕ) (mode room : ℕ) (is : names.get (modes_of before.nodes) name ≡ Some mode)
-    (out : after ≡ record before { nodes = remove before.nodes name; room = room }) where
+    (out : after ≡ record before { nodes = remove before.nodes name; room = room; listed = [] }) where
   no_link_out : None ≡ names.get (links_of before.nodes) name
   no_link_out = no_link_of_mode (names.get before.nodes name) mode (sym (mode_at before.nodes name) ∙ is) ∙ sym (link_at before.nodes name)
 

@@ -1,5 +1,5 @@
 -- What a disk in memory holds, and what its names tell of it.
-use Rattle.std.specs.Prelude.{◌≡◌, ◌<◌, ℕ, zero, suc, Bool, true, List, [], map, All, Option, Some, None, is_some, unwrap_or, refl}
+use Rattle.std.specs.Prelude.{◌≡◌, ◌<◌, ℕ, zero, suc, Bool, true, false, not, ◌||◌, ◌==◌, bit_and, List, [], map, All, Option, Some, None, is_some, unwrap_or, refl}
 use Rattle.std.specs.Coded.{Coded, code_by, coded×, coded_ℕ, coded_list}
 use Rattle.std.specs.FinMap as names
 use Rattle.std.specs.Option.{option_and_then}
@@ -8,7 +8,7 @@ use Rattle.std.specs.Cmp.Lexicographic.{slice_cmp}
 use Rattle.std.specs.Ordering.{nat_cmp}
 use Rattle.std.specs.Str.{bytes_eq}
 use Rattle.nwq_outside.specs.Outside.{Held}
-use Rattle.real_files.specs.Disk.{Names, Modes, folder_of, either}
+use Rattle.real_files.specs.Disk.{Names, Modes, folder_of}
 use Rattle.memory_disk.specs.declared.node.Node.{Node}
 use Rattle.memory_disk.specs.declared.node.Node.TheVariants.{File, Link, Device}
 
@@ -78,32 +78,40 @@ unfoldable pub AreBytes : Nodes → Type 0
 AreBytes nodes = (name bytes : List ℕ) → names.get (files_of nodes) name ≡ Some bytes → All (λ b. b < 256) bytes
 
 -- a disk in memory: what stands under its names, which of them and which folders are marked so that
--- they stay as they are, how many bytes there is room for, which calls fail, which of these break
--- off, and how many calls there were
+-- they stay as they are, how many bytes there is room for, which contents it was told to have for
+-- good, and which folders since a file was taken out, which calls fail, which of these break off,
+-- and how many calls there were
 pub record Drive : Type 0 where
   pub nodes : Nodes
   pub marked : List (List ℕ)
   pub closed : List (List ℕ)
   pub room : ℕ
+  pub written : List (List ℕ)
+  pub listed : List (List ℕ)
   pub failing : List ℕ
   pub breaking : List ℕ
   pub calls : ℕ
 
+abbrev pub coded_names : Coded (List (List ℕ))
+coded_names = coded_list (coded_list coded_ℕ)
+
 -- a disk is told from others as the tuple of its fields
 abbrev pub drive_code : Coded Drive
 drive_code =
-    code_by (Nodes × (List (List ℕ) × (List (List ℕ) × (ℕ × (List ℕ × (List ℕ × ℕ))))))
-    (coded× nodes_code (coded× (coded_list (coded_list coded_ℕ)) (coded× (coded_list (coded_list coded_ℕ))
-    (coded× coded_ℕ (coded× (coded_list coded_ℕ) (coded× (coded_list coded_ℕ) coded_ℕ))))))
-    (λ d. (d.nodes, (d.marked, (d.closed, (d.room, (d.failing, (d.breaking, d.calls)))))))
+    code_by (Nodes × (List (List ℕ) × (List (List ℕ) × (ℕ × (List (List ℕ) × (List (List ℕ) × (List ℕ × (List ℕ × ℕ))))))))
+    (coded× nodes_code (coded× coded_names (coded× coded_names (coded× coded_ℕ (coded× coded_names (coded× coded_names
+    (coded× (coded_list coded_ℕ) (coded× (coded_list coded_ℕ) coded_ℕ))))))))
+    (λ d. (d.nodes, (d.marked, (d.closed, (d.room, (d.written, (d.listed, (d.failing, (d.breaking, d.calls)))))))))
     (λ p. record {
       nodes = p.0;
       marked = p.1.0;
       closed = p.1.1.0;
       room = p.1.1.1.0;
-      failing = p.1.1.1.1.0;
-      breaking = p.1.1.1.1.1.0;
-      calls = p.1.1.1.1.1.1;
+      written = p.1.1.1.1.0;
+      listed = p.1.1.1.1.1.0;
+      failing = p.1.1.1.1.1.1.0;
+      breaking = p.1.1.1.1.1.1.1.0;
+      calls = p.1.1.1.1.1.1.1.1;
     })
     (λ _. refl)
 
@@ -113,7 +121,17 @@ is_among list name = list_any (λ other. bytes_eq other name) list
 
 -- whether what has a name can't be replaced: it is marked, or its folder is closed
 abbrev pub is_fixed : (marked closed : List (List ℕ)) → List ℕ → Bool
-is_fixed marked closed name = either (is_among marked name) (is_among closed (folder_of name))
+is_fixed marked closed name = is_among marked name || is_among closed (folder_of name)
+
+-- whether a file of this mode may be written by its owner
+abbrev pub may_write : Option ℕ → Bool
+may_write None = false
+may_write (Some mode) = not (bit_and mode 128 == 0)
+
+-- whether these are bytes that are among those
+abbrev pub is_held : List (List ℕ) → Option (List ℕ) → Bool
+is_held contents None = false
+is_held contents (Some bytes) = is_among contents bytes
 
 -- what the disk tells of its names
 abbrev pub names_of : Drive → Names
@@ -122,5 +140,8 @@ names_of d = record {
   modes = modes_of d.nodes;
   links = links_of d.nodes;
   fixed = is_fixed d.marked d.closed;
+  writable = λ name. may_write (names.get (modes_of d.nodes) name);
   has_modes = true;
+  written = λ name. is_held d.written (names.get (files_of d.nodes) name);
+  listed = λ name. is_among d.listed (folder_of name);
 }

@@ -1,11 +1,12 @@
 //! The calls of a disk, on the one in memory.
 
-ghost use Rattle.std.specs.Prelude.{◌≡◌, ℕ, List, Option, None, Some, OnErr, IfOk, IfErr};
-ghost use Rattle.std.specs.Prelude.{IsSomeAnd, take, true};
+ghost use Rattle.std.specs.Prelude.{◌≡◌, ℕ, Bool, List, Option, None, Some, OnErr, IfOk, IfErr};
+ghost use Rattle.std.specs.Prelude.{IsSomeAnd, take, true, false};
 ghost use Rattle.std.specs.FinMap as map;
-ghost use Rattle.real_files.specs.Disk.{IsThing, Makes, Moves, Removes, WritesInto, WritesPart};
+ghost use Rattle.real_files.specs.Disk.{IsThing, Makes, Moves, Removes, Syncs};
+ghost use Rattle.real_files.specs.Disk.{WritesInto, WritesPart};
 ghost use Rattle.memory_disk.specs.declared.node.Node.TheVariants as node;
-ghost use Rattle.memory_disk.specs.Drive.{files_of, modes_of, names_of};
+ghost use Rattle.memory_disk.specs.Drive.{files_of, may_write, modes_of, names_of};
 
 use crate::drive::{Going, MemoryDisk};
 use crate::node::Node;
@@ -77,7 +78,10 @@ impl MemoryDisk {
     }
 
     /// Whether the regular file of this name may be written by its owner.
-    fn may_write_at(&self, name: &[u8]) -> Result<(), Failure> {
+    fn may_write_at(&self, name: &[u8]) -> Result<(), Failure>
+        ensures may { IfOk result (λ done.
+            may_write (map.get (modes_of self.now.nodes) name.now) ≡ true) }
+    {
         match self.nodes().mode(name) {
             None => Err(Failure::Absent),
             Some(mode) => {
@@ -93,8 +97,9 @@ impl MemoryDisk {
     /// Makes a file of only some bytes.
     #[tactic(auto, using(crate::proofs::DriveLemmas::makes_part))]
     fn make_part(&mut self, new: &[u8], part: &[u8], why: Failure) -> Made
-        ensures part { (name bytes : List ℕ) (like : Option ℕ) →
-            Makes (names_of self.old) (names_of self.new) new.now name like bytes result }
+        ensures part { (name bytes : List ℕ) (like : Option ℕ) (lasting : Bool) →
+            Makes (names_of self.old) (names_of self.new) new.now name like bytes lasting
+            result }
     {
         let None = self.nodes().get(new) else {
             return Made::Taken;
@@ -110,7 +115,8 @@ impl MemoryDisk {
     #[tactic(auto, using(crate::proofs::DriveLemmas::makes_whole))]
     fn make_file(&mut self, new: &[u8], like: Option<u32>, bytes: &[u8]) -> Made
         ensures makes { (name : List ℕ) →
-            Makes (names_of self.old) (names_of self.new) new.now name like bytes.now result }
+            Makes (names_of self.old) (names_of self.new) new.now name like bytes.now false
+            result }
     {
         let room = self.room();
         if room < bytes.len() {
@@ -125,6 +131,25 @@ impl MemoryDisk {
         }
     }
 
+    /// Makes a file, and has its bytes for good if they are to last.
+    fn make_kept(&mut self, new: &[u8], like: Option<u32>, bytes: &[u8], lasting: bool) -> Made
+        ensures makes { (name : List ℕ) →
+            Makes (names_of self.old) (names_of self.new) new.now name like bytes.now lasting
+            result }
+    {
+        match self.make_file(new, like, bytes) {
+            Made::Whole if lasting => match self.keep_bytes(bytes) {
+                Ok(()) => Made::Whole,
+                Err(NoMemory) => Made::Broken(Failure::NoMemory),
+            },
+            Made::Whole => Made::Whole,
+            Made::Taken => Made::Taken,
+            Made::Closed => Made::Closed,
+            Made::Refused(why) => Made::Refused(why),
+            Made::Broken(why) => Made::Broken(why),
+        }
+    }
+
     /// Makes a file, or a part of it where the call breaks off.
     fn make_so(
         &mut self,
@@ -133,9 +158,10 @@ impl MemoryDisk {
         name: &[u8],
         like: Option<u32>,
         bytes: &[u8],
+        lasting: bool,
     ) -> Made
         ensures makes { Makes (names_of self.old) (names_of self.new)
-            new.now name.now like bytes.now result }
+            new.now name.now like bytes.now lasting result }
     {
         if self.is_closed(name) {
             return Made::Closed;
@@ -143,7 +169,7 @@ impl MemoryDisk {
         if breaks {
             return self.make_part(new, &bytes[..bytes.len() / 2], FAILED);
         }
-        self.make_file(new, like, bytes)
+        self.make_kept(new, like, bytes, lasting)
     }
 
     /// Gives a copy of a file another name, and takes the file out.
@@ -302,14 +328,21 @@ impl Disk for MemoryDisk {
         name: &str,
         like: Option<u32>,
         bytes: &[u8],
-        _lasting: bool,
+        lasting: bool,
     ) -> Made {
         let breaks = match self.begin() {
             Going::Runs => false,
             Going::Fails => return Made::Refused(FAILED),
             Going::Breaks => true,
         };
-        self.make_so(breaks, new.as_bytes(), name.as_bytes(), like, bytes)
+        self.make_so(
+            breaks,
+            new.as_bytes(),
+            name.as_bytes(),
+            like,
+            bytes,
+            lasting,
+        )
     }
 
     fn rename(&mut self, from: &str, to: &str) -> Moved {
@@ -335,10 +368,13 @@ impl Disk for MemoryDisk {
         }
     }
 
-    fn sync_folder(&mut self, _name: &str) -> Result<(), Failure> {
-        match self.begin() {
-            Going::Runs => Ok(()),
-            _ => Err(FAILED),
+    fn sync_folder(&mut self, name: &str) -> Result<(), Failure> {
+        let Going::Runs = self.begin() else {
+            return Err(FAILED);
+        };
+        match self.keep_folder(name.as_bytes()) {
+            Ok(()) => Ok(()),
+            Err(NoMemory) => Err(Failure::NoMemory),
         }
     }
 }

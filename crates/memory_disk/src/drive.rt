@@ -9,8 +9,8 @@ ghost use Rattle.memory_disk.specs.declared.node.Node.TheVariants as node;
 ghost use Rattle.memory_disk.specs.Drive.{files_of, modes_of, links_of, is_among, is_fixed};
 
 use crate::nodes::NodeTable;
-use crate::paths::folder_of;
 use nwq_value::{Items, NoMemory};
+use real_files::paths::folder_of;
 use std::alloc::Global;
 use std::marker::Model;
 
@@ -32,6 +32,8 @@ pub struct MemoryDisk {
     marked: Items<Items<u8>>,
     closed: Items<Items<u8>>,
     room: usize,
+    written: Items<Items<u8>>,
+    listed: Items<Items<u8>>,
     failing: Items<u64>,
     breaking: Items<u64>,
     calls: u64,
@@ -49,6 +51,8 @@ impl Model for MemoryDisk {
       marked = d.marked;
       closed = d.closed;
       room = d.room;
+      written = d.written;
+      listed = d.listed;
       failing = d.failing;
       breaking = d.breaking;
       calls = d.calls;
@@ -70,6 +74,8 @@ impl MemoryDisk {
           marked = [];
           closed = [];
           room = 2 ^ 64 - 1;
+          written = [];
+          listed = [];
           failing = [];
           breaking = [];
           calls = 0;
@@ -81,6 +87,8 @@ impl MemoryDisk {
             marked: Items::new(alloc),
             closed: Items::new(alloc),
             room: usize::MAX,
+            written: Items::new(alloc),
+            listed: Items::new(alloc),
             failing: Items::new(alloc),
             breaking: Items::new(alloc),
             calls: 0,
@@ -280,14 +288,37 @@ impl MemoryDisk {
         self.nodes.put_device(name, bytes)
     }
 
-    /// Takes out what is under the name, and leaves so much room.
+    /// Takes out what is under the name, and leaves so much room. Each folder is to be told anew
+    /// that it is to last.
     pub(crate) fn take_out(&mut self, name: &[u8], room: usize)
         ensures gone { self.new ≡ record self.old {
           nodes = map.remove self.old.nodes name.now;
           room = room;
+          listed = [];
         } }
     {
         self.nodes.remove(name);
         self.room = room;
+        self.listed.clear();
+    }
+
+    /// Has these bytes for good.
+    pub(crate) fn keep_bytes(&mut self, bytes: &[u8]) -> Result<(), NoMemory>
+        ensures ok { OnOk result
+            (self.new ≡ record self.old { written = self.old.written ++ bytes.now ∷ [] }) }
+        ensures err { OnErr result (self.new ≡ self.old) }
+    {
+        let copy = Items::of_slice(self.alloc, bytes)?;
+        self.written.push(copy)
+    }
+
+    /// Has the folder of this name as it is.
+    pub(crate) fn keep_folder(&mut self, name: &[u8]) -> Result<(), NoMemory>
+        ensures ok { OnOk result (self.new
+            ≡ record self.old { listed = self.old.listed ++ folder_of name.now ∷ [] }) }
+        ensures err { OnErr result (self.new ≡ self.old) }
+    {
+        let copy = Items::of_slice(self.alloc, folder_of(name))?;
+        self.listed.push(copy)
     }
 }

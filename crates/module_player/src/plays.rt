@@ -152,8 +152,8 @@ fn play_from<S: Sink>(
 }
 
 /// Plays on: `taken` entries were taken before and `done` instructions executed, and the call ends
-/// once `stop` entries were taken in all. Each entry's lines are put in one piece when it is over,
-/// and an entry without lines puts nothing. The first put that fails ends the call.
+/// once `stop` entries were taken in all. Each entry's lines are put in one piece when it is over.
+/// The first put that fails ends the call.
 pub fn play_on<S: Sink>(
     alloc: Global,
     setting: &PlaySetting<'_>,

@@ -3,5 +3,4 @@ pub mod Counting
 pub mod Placing
 pub mod Putting
 pub mod Standing
-mod Walks
 pub mod Leading

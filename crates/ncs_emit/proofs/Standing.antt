@@ -1,5 +1,6 @@
 -- Each line of a program stands at its place, and parts of lines put together.
 use Rattle.std.proofs.Common.{◌≡◌, ◌+◌, ◌++◌, ◌∷◌, [], ℕ, List, sym, ◌∙◌, ap, arith, refl, subst, true, false, Bool, eqb, cond, Some, append_assoc}
+use Rattle.std.specs.Prelude.{map}
 use Rattle.ncs_code.specs.Plain.{PlainOp}
 use Rattle.ncs_code.specs.Spelling.{op_size}
 use Rattle.ncs_code.specs.File.{header_size, ops_size, op_at, file_length, distance}
@@ -8,6 +9,8 @@ use Rattle.ncs_emit.specs.declared.jump.Jump.{Jump}
 use Rattle.ncs_emit.specs.Labelled.{Line, Instruction, JumpTo, Label, placements, jump_over, line_size, lines_size, ops_from, place_from, place_of_label, program}
 use Rattle.ncs_emit.specs.Leading.{IsPlacedOnce}
 use Rattle.ncs_emit.specs.Standing.{LinesStand}
+use Rattle.ncs_emit.specs.Telling.{line_of}
+use Rattle.ncs_emit.specs.declared.told.Note.{Note}
 use Rattle.ncs_emit.proofs.Lines.{placements_add}
 use Rattle.ncs_emit.proofs.Putting.{size_jump}
 
@@ -16,6 +19,11 @@ use Rattle.ncs_emit.proofs.Putting.{size_jump}
 pub lines_size_adds : (before behind : List Line) → lines_size (before ++ behind) ≡ lines_size before + lines_size behind
 lines_size_adds [] behind = omega arith
 lines_size_adds (line ∷ before) behind = omega (arith, lines_size_adds before behind)
+
+-- a note more adds its line
+pub told_size_adds : (told : List Note) (note : Note) → lines_size (map line_of (told ++ note ∷ [])) ≡ lines_size (map line_of told) + line_size (line_of note)
+told_size_adds [] note = omega arith
+told_size_adds (one ∷ told) note = omega (arith, told_size_adds told note)
 
 pub ops_as_lines : (places : ℕ → ℕ) (at : ℕ) (lines : List Line) → ops_size (ops_from places at lines) ≡ lines_size lines
 ops_as_lines places at [] = refl

@@ -3,28 +3,30 @@ ghost use Rattle.ncs_code.specs.File.{header_size};
 ghost use Rattle.ncs_emit.specs.Labelled.{line_size, lines_size};
 ghost use Rattle.ncs_emit.specs.Telling.{line_of};
 
-use crate::told::{Note, Told};
+use crate::told::Note;
 use ncs_code::HEADER_BYTES;
 use nwq_value::NoMemory;
+use proof_notes::Notes;
 use std::marker::Model;
 
 /// The lines that an emitter was told, of which the size of their file is kept.
 #[derive(Drop)]
 pub(crate) struct Tally {
     size: u64,
-    told: Told,
+    told: Notes<Note<'static>>,
 }
 
 impl Model for Tally {
-    ghost use Rattle.std.specs.Prelude.{◌≡◌, ◌+◌, List};
+    ghost use Rattle.std.specs.Prelude.{◌≡◌, ◌+◌, List, map};
     ghost use Rattle.ncs_code.specs.File.{header_size};
     ghost use Rattle.ncs_emit.specs.Labelled.{Line, lines_size};
+    ghost use Rattle.ncs_emit.specs.Telling.{line_of};
 
     ghost Value = { List Line };
 
-    ghost view = { λ t. t.told.lines };
+    ghost view = { λ t. map line_of t.told.all };
 
-    ghost invariant = { λ t. t.size ≡ header_size + lines_size t.told.lines };
+    ghost invariant = { λ t. t.size ≡ header_size + lines_size (map line_of t.told.all) };
 }
 
 impl Tally {
@@ -34,7 +36,7 @@ impl Tally {
     {
         Tally {
             size: HEADER_BYTES as u64,
-            told: Told::new(),
+            told: Notes::new(),
         }
     }
 
@@ -54,7 +56,7 @@ impl Tally {
     }
 
     /// Tells a line more, with which the file is so large.
-    #[tactic(auto, using(crate::proofs::Standing::lines_size_adds))]
+    #[tactic(auto, using(crate::proofs::Standing::told_size_adds))]
     pub(crate) fn tell(&mut self, note: &Note<'_>, size: u64)
         requires { size ≡ header_size + lines_size self.old + line_size (line_of note.now) }
         ensures { self.new ≡ self.old ++ line_of note.now ∷ [] }

@@ -14,9 +14,6 @@ use Rattle.delay_agenda.specs.declared.entry.Kind.{Kind}
 use Rattle.delay_agenda.specs.declared.entry.Kind.TheVariants.{Event, Stored, Turn, Unapply}
 use Rattle.nwq_value.specs.declared.value.Value.{Value}
 use Rattle.nwq_value.specs.Effect.{Effect}
-use Rattle.nwq_value.specs.declared.engine.Role.{Role}
-use Rattle.nwq_value.specs.declared.engine.Role.TheVariants as role
-use Rattle.nwq_value.specs.declared.engine.Routine.{Routine}
 use Rattle.saved_state.specs.declared.saved.Saved.{Saved}
 use Rattle.machine_rules.specs.Machine.{Script}
 use Rattle.stack_rules.specs.Fits.{Tables, FitsAction}
@@ -28,8 +25,8 @@ use Rattle.world_rules.specs.Arguments.{int_at, text_at, object_at, effect_at, e
 use Rattle.world_rules.specs.AlikeLaws.{call}
 use Rattle.world_rules.specs.World.{World, is_valid, queue_in, queue_of, effects_of, things_at}
 use Rattle.world_rules.specs.Changes.{told, post, later, changed_at, changed_object, with_queue, with_effects, with_actions, with_busy, with_action, with_variables, has_turn, without_turn, without_first, is_effect, is_numbered}
-use Rattle.world_rules.specs.Rows.{Call, Row, rows, drawn_from, drawn, assigned, delayed, awake, appended, appended_do, at_rest, cleared, changed_variables, applied, applied_to, removed, event_script, signalled}
-use Rattle.world_rules.specs.Engine.{by_row, by_role, by_routine, engine}
+use Rattle.world_rules.specs.Rows.{Call, drawn_from, drawn, assigned, delayed, awake, appended, appended_do, at_rest, cleared, changed_variables, applied, applied_to, removed, event_script, signalled, argument, NewItem, TheAction, AWait, ASpeech, queued, varied, Print, Say, Draw, Assign, Delay, Queue, Clear, Vary, Apply, Remove, Signal}
+use Rattle.world_rules.specs.RowLaws.{EachKeeps, engine_keeps as engine_keeps_all}
 use Rattle.world_rules.specs.Turns.{entry_begun, turned, next_turn, turn_done, expired, with_entries, user_number}
 use Rattle.ncs_machine.specs.Host.{EngineView, engine_answer}
 use Rattle.ncs_machine.specs.Stored.{KindFits, ItemFits, EntryFits, ItemsFit, ThingsFit, StatesFit, EngineKeepsFits, BegunFits, BeginKeepsFits, TurnedFits, TurnKeepsFits, TurnDoneKeepsFits, UnapplyKeepsFits, LinesKeepFits}
@@ -192,110 +189,31 @@ module _ (scripts : List Script) (tables : Tables) where
       on true = post_fits w.clock (Event o (event_script (object w.area o).scripts) user) w tt f
       on false = f
 
-  -- each row, by its place in the list
-  abbrev RowFits : Row Saved → Type 0
-  RowFits r = (c : Call Saved) (w : World Saved) → FitsAction scripts tables c.action → Fit w → Fit (r.does c w).world
+  -- ---- small changes
 
-  rows_fit : AllByRecursion RowFits rows
-  rows_fit = (
-    (λ c w k f. drawn_fits (int_at 0 c.values) w f),
-    (
-      (λ c w k f. record { agenda = f.agenda; queues = f.queues }),
-      (
-        (λ c w k f. record { agenda = f.agenda; queues = f.queues }),
-        (
-          (λ c w k f. record { agenda = f.agenda; queues = f.queues }),
-          (
-            (λ c w k f. assigned_fits (object_at 0 c.values) c.action w k f),
-            (
-              (λ c w k f. delayed_fits c.caller (int_at 0 c.values) c.action w k f),
-              (
-                (λ c w k f. cleared_fits c.caller w f),
-                (
-                  (λ c w k f. appended_do_fits c.caller c.action w k f),
-                  (
-                    (λ c w k f. appended_fits c.caller (Wait (int_at 0 c.values)) w tt f),
-                    (
-                      (λ c w k f. appended_fits c.caller (Speak (text_at 0 c.values)) w tt f),
-                      (
-                        (λ c w k f. record { agenda = f.agenda; queues = f.queues }),
-                        (
-                          (λ c w k f. f),
-                          (
-                            (λ c w k f. f),
-                            (
-                              (λ c w k f. f),
-                              (
-                                (λ c w k f. f),
-                                (
-                                  (λ c w k f. variables_fit (object_at 0 c.values) _ w f),
-                                  (
-                                    (λ c w k f. f),
-                                    (
-                                      (λ c w k f. variables_fit (object_at 0 c.values) _ w f),
-                                      (
-                                        (λ c w k f. variables_fit (object_at 0 c.values) _ w f),
-                                        (
-                                          (λ c w k f. variables_fit (object_at 0 c.values) _ w f),
-                                          (
-                                            (λ c w k f. applied_to_fits (int_at 0 c.values) (object_at 2 c.values) (effect_at 1 c.values) (int_at 3 c.values) w f),
-                                            (
-                                              (λ c w k f. removed_fits (object_at 0 c.values) (effect_at 1 c.values) w f),
-                                              (
-                                                (λ c w k f. f),
-                                                (
-                                                  (λ c w k f. signalled_fits (object_at 0 c.values) (event_at 1 c.values) w f),
-                                                  (
-                                                    (λ c w k f. f),
-                                                    tt,
-                                                  ),
-                                                ),
-                                              ),
-                                            ),
-                                          ),
-                                        ),
-                                      ),
-                                    ),
-                                  ),
-                                ),
-                              ),
-                            ),
-                          ),
-                        ),
-                      ),
-                    ),
-                  ),
-                ),
-              ),
-            ),
-          ),
-        ),
-      ),
-    ),
-  )
+  queued_fits : (item : NewItem) (c : Call Saved) (w : World Saved) → FitsAction scripts tables c.action → Fit w → Fit (queued item c w)
+  queued_fits TheAction c w k f = appended_do_fits c.caller c.action w k f
+  queued_fits (AWait ms) c w k f = appended_fits c.caller (Wait (int_at ms c.values)) w tt f
+  queued_fits (ASpeech text) c w k f = appended_fits c.caller (Speak (text_at text c.values)) w tt f
 
-  found_fits : (n : ℕ) (rs : List (Row Saved)) → AllByRecursion RowFits rs → (c : Call Saved) (w : World Saved) → FitsAction scripts tables c.action → Fit w → Fit (by_row (find (λ r. r.number == n) rs) c w).world
-  found_fits n [] all c w k f = f
-  found_fits n (r ∷ rs) all c w k f = on (r.number == n) (found_fits n rs all.1 c w k f)
-    where
-      on : (b : Bool) → Fit (by_row (find (λ r. r.number == n) rs) c w).world → Fit (by_row (if b then Some r else find (λ r. r.number == n) rs) c w).world
-      on true rest = all.0 c w k f
-      on false rest = rest
-
-  by_role_fits : (e : EngineView) (n : ℕ) (r : Routine) (role : Role) (c : Call Saved) (w : World Saved) → FitsAction scripts tables c.action → Fit w → Fit (by_role e.cell n r role c w).world
-  by_role_fits e n r (role.Built own) c w k f = found_fits own rows rows_fit c w k f
-  by_role_fits e n r (role.Pure number) c w k f = f
-  by_role_fits e n r role.World c w k f = told_fits c.caller (line.Call r.name c.values) w f
-  by_role_fits e n r role.Uncallable c w k f = f
-
-  by_routine_fits : (e : EngineView) (n : ℕ) (r : Option Routine) (c : Call Saved) (w : World Saved) → FitsAction scripts tables c.action → Fit w → Fit (by_routine e.cell n r c w).world
-  by_routine_fits e n None c w k f = f
-  by_routine_fits e n (Some r) c w k f = by_role_fits e n r r.role c w k f
+  done_fits : (c : Call Saved) → FitsAction scripts tables c.action → EachKeeps Fit c
+  done_fits c k (Print a) w f = told_fits c.caller (line.Print (argument a c.values)) w f
+  done_fits c k (Say text) w f = told_fits c.caller (line.Speak (text_at text c.values)) w f
+  done_fits c k (Draw n) w f = drawn_fits (int_at n c.values) w f
+  done_fits c k (Assign o) w f = assigned_fits (object_at o c.values) c.action w k f
+  done_fits c k (Delay ms) w f = delayed_fits c.caller (int_at ms c.values) c.action w k f
+  done_fits c k (Queue item) w f = queued_fits item c w k f
+  done_fits c k Clear w f = cleared_fits c.caller w f
+  done_fits c k (Vary o change) w f = variables_fit (object_at o c.values) (varied change c.values) w f
+  done_fits c k (Apply duration e o ms) w f = applied_to_fits (int_at duration c.values) (object_at o c.values) (effect_at e c.values) (int_at ms c.values) w f
+  done_fits c k (Remove o e) w f = removed_fits (object_at o c.values) (effect_at e c.values) w f
+  done_fits c k (Signal o e) w f = signalled_fits (object_at o c.values) (event_at e c.values) w f
 
   pub engine_fits : (e : EngineView) (n caller : ℕ) (values : List Value) (action : Option Saved) (w : World Saved) → FitsAction scripts tables action → Fit w
       → Fit (engine_answer e n caller values action w).world
-  unfolding engine
-  engine_fits e n caller values action w k f = by_routine_fits e n (slice_get e.table.routines n) (call caller values action) w k f
+  engine_fits e n caller values action w k f =
+      let c = call caller values action in
+      engine_keeps_all Fit c e.table e.cell n (done_fits c k) (λ r at w f. told_fits caller (line.Call r.name values) w f) w f
 
   pub told_keeps : (o : ℕ) (what : Told) (w : World Saved) → Fit w → Fit (told o what w)
   told_keeps o what w f = told_fits o what w f

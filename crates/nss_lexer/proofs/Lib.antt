@@ -1,4 +1,5 @@
 pub mod Scanning
+mod SignLemmas
 pub mod StringLaws
 mod StringBytes
 pub mod GapLaws

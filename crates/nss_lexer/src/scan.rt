@@ -18,6 +18,9 @@ pub struct Scanned {
 /// How many bytes a name has at most.
 const NAME_BYTES: usize = 255;
 
+/// How many bytes a word has at most.
+const WORD_BYTES: usize = 14;
+
 /// The words that are no names.
 pub const WORDS: [&[u8]; 27] = [
     b"void",
@@ -57,10 +60,14 @@ pub const SIGNS: [&[u8]; 47] = [
     b"/", b"%", b"!", b"~",
 ];
 
-#[tactic(auto, unfolding(crate::specs::Lexemes::is_word))]
+/// Most names are longer than each word.
+#[tactic(auto, using(crate::proofs::SignLemmas::no_long_word), unfolding(crate::specs::Lexemes::is_word))]
 fn is_word(text: &[u8]) -> bool
     ensures { result ≡ grammar.is_word text.now }
 {
+    if text.len() > WORD_BYTES {
+        return false;
+    }
     is_among(&WORDS, text)
 }
 
@@ -229,11 +236,30 @@ fn first_prefix(table: &[&[u8]], bytes: &[u8]) -> Option<usize>
     None
 }
 
+/// The length of the longest sign that begins the bytes. Of the signs that are found at once none
+/// begins a longer one, but for `=`.
+fn sign_length(bytes: &[u8]) -> Option<usize>
+    ensures { result ≡ reading.first_prefix grammar.signs bytes.now }
+{
+    match bytes {
+        [b'(', ..] => Some(1),
+        [b')', ..] => Some(1),
+        [b'{', ..] => Some(1),
+        [b'}', ..] => Some(1),
+        [b',', ..] => Some(1),
+        [b';', ..] => Some(1),
+        [b'.', ..] => Some(1),
+        [b'=', b'=', ..] => Some(2),
+        [b'=', ..] => Some(1),
+        _ => first_prefix(&SIGNS, bytes),
+    }
+}
+
 /// The longest sign.
 fn scan_sign(bytes: &[u8]) -> Option<Scanned>
     ensures { result ≡ option_and_then reading.within (reading.sign_form bytes.now) }
 {
-    match first_prefix(&SIGNS, bytes) {
+    match sign_length(bytes) {
         None => None,
         Some(length) => Some(Scanned {
             kind: TokenKind::Sign,

@@ -5,7 +5,7 @@ use Rattle.nwq_outside.specs.Outside.{Contents}
 use Rattle.command_work.specs.declared.status.Status.{Status}
 use Rattle.command_work.specs.Work.{IsCut, Does, Finished}
 use Rattle.command_work.specs.Outcomes.{Agrees, IsPrefix}
-use Rattle.command_work.specs.AmountLemmas.{Amount}
+use Rattle.command_work.specs.Amounts.{Amount}
 use Rattle.command_words.specs.Words.{Form}
 use Rattle.command_work.specs.Counts.{KeepsBut}
 use Rattle.nwq_top.specs.Command.{MayWrite, work_of, whole_work}

@@ -1,26 +1,24 @@
 -- A machine only adds to the lines of its world.
 use Rattle.std.proofs.Common.{◌≡◌, ℕ, ℤ, pos, negsuc, zero, suc, Bool, true, false, List, [], ◌∷◌, Option, None, Some, sym, subst}
-use Rattle.std.specs.Prelude.{if◌then◌else◌, ◌==◌, nat_lt, length, cond, slice_get}
+use Rattle.std.specs.Prelude.{if◌then◌else◌, ◌==◌, nat_lt, length}
 use Rattle.std.specs.Option.{option_map, option_and_then}
-use Rattle.std.specs.List.{AllByRecursion, list_any}
+use Rattle.std.specs.List.{list_any}
 use Rattle.action_queue.specs.declared.queue.Item.{Item}
 use Rattle.action_queue.specs.declared.queue.Item.TheVariants.{Do, Wait, Speak}
-use Rattle.local_variables.specs.Variables.{Variable}
 use Rattle.nwq_value.specs.Engine.{EngineTable}
-use Rattle.nwq_value.specs.declared.engine.Role.{Role}
-use Rattle.nwq_value.specs.declared.engine.Role.TheVariants as role
-use Rattle.nwq_value.specs.declared.engine.Routine.{Routine}
 use Rattle.nwq_value.specs.Effect.{Effect}
 use Rattle.nwq_value.specs.declared.value.Value.{Value}
 use Rattle.ncs_code.specs.Plain.{PlainOp}
 use Rattle.saved_state.specs.declared.saved.Saved.{Saved}
 use Rattle.world_rules.specs.declared.data.Line.{Line}
-use Rattle.world_rules.specs.Arguments.{int_at, object_at, effect_at, event_at}
+use Rattle.world_rules.specs.declared.data.Told.TheVariants as line
+use Rattle.world_rules.specs.Arguments.{int_at, text_at, object_at, effect_at}
 use Rattle.world_rules.specs.Pure.{CellLookup}
 use Rattle.world_rules.specs.World.{World, is_valid, queue_of, effects_of}
-use Rattle.world_rules.specs.Changes.{has_turn, is_effect, with_actions}
-use Rattle.world_rules.specs.Rows.{Call, Row, rows, drawn_from, drawn, assigned, delayed, awake, appended, appended_do, at_rest, cleared, changed_variables, applied, applied_to, removed, signalled}
-use Rattle.world_rules.specs.Engine.{row_numbered, by_row, by_role, by_routine, engine}
+use Rattle.world_rules.specs.Changes.{told, has_turn, is_effect, with_actions}
+use Rattle.world_rules.specs.Rows.{Call, drawn_from, drawn, assigned, delayed, awake, appended, appended_do, at_rest, cleared, applied, NewItem, TheAction, AWait, ASpeech, queued, Change, Print, Say, Draw, Assign, Delay, Queue, Clear, Vary, Apply, Remove, Signal, done}
+use Rattle.world_rules.specs.Engine.{engine}
+use Rattle.world_rules.specs.RowLaws.{engine_keeps}
 use Rattle.world_rules.specs.AlikeLaws.{call}
 use Rattle.world_rules.specs.Turns.{next_turn, turn_done}
 use Rattle.machine_rules.specs.Frames.{Frame}
@@ -30,7 +28,7 @@ use Rattle.source_meaning.specs.Scripts.{Setting}
 use Rattle.source_laws.specs.Ledger.{Machine, MachineHost}
 use Rattle.source_laws.specs.Executing.{IsHostOf}
 use Rattle.play_meaning.specs.Together.{IsFirstPartOf}
-use Rattle.play_meaning.proofs.Beginnings.{whole_begins, longer_begins}
+use Rattle.play_meaning.proofs.Beginnings.{whole_begins, longer_begins, begins_then}
 
 -- ---- the engine
 
@@ -45,6 +43,10 @@ module _ {X : Type 0} where
   where_grows : (b : Bool) (w v u : World X) → Grows w v → Grows w u → Grows w (if b then v else u)
   where_grows true w v u h k = h
   where_grows false w v u h k = k
+
+  -- the lines of a fixed world are a beginning of those of each later one
+  then_grows : (w v u : World X) → Grows w v → Grows v u → Grows w u
+  then_grows w v u h k = begins_then h k
 
   drawn_from_grows : (rs : List ℕ) (n : ℕ) (w : World X) → Grows w (drawn_from rs n w).world
   drawn_from_grows [] n w = stays w
@@ -69,18 +71,20 @@ module _ {X : Type 0} where
   appended_grows : (o : ℕ) (item : Item X) (w : World X) → Grows w (appended o item w)
   appended_grows o item w = where_grows (is_valid o w) w _ w (awake_grows o _) (stays w)
 
-  appended_do_grows : (o : ℕ) (a : Option X) (w : World X) → Grows w (appended_do o a w)
-  appended_do_grows o None w = stays w
-  appended_do_grows o (Some x) w = appended_grows o (Do x) w
+  queued_grows : (item : NewItem) (c : Call X) (w : World X) → Grows w (queued item c w)
+  queued_grows TheAction c w = optional c.action
+    where
+      optional : (a : Option X) → Grows w (appended_do c.caller a w)
+      optional None = stays w
+      optional (Some x) = appended_grows c.caller (Do x) w
+  queued_grows (AWait ms) c w = appended_grows c.caller (Wait (int_at ms c.values)) w
+  queued_grows (ASpeech text) c w = appended_grows c.caller (Speak (text_at text c.values)) w
 
   at_rest_grows : (o : ℕ) (w : World X) → Grows w (at_rest o w)
   at_rest_grows o w = where_grows (has_turn o w) w _ w (stays w) (stays w)
 
   cleared_grows : (o : ℕ) (w : World X) → Grows w (cleared o w)
   cleared_grows o w = where_grows (w.version == 2) w (at_rest o (with_actions o [] w)) (with_actions o [] w) (at_rest_grows o (with_actions o [] w)) (stays w)
-
-  changed_grows : (o : ℕ) (change : List Variable → List Variable) (w : World X) → Grows w (changed_variables o change w)
-  changed_grows o change w = where_grows (is_valid o w) w _ w (stays w) (stays w)
 
   applied_grows : (duration : ℤ) (o : ℕ) (e : Effect) (ms : ℤ) (w : World X) → Grows w (applied duration o e ms w)
   applied_grows (pos zero) o e ms w = longer_begins w.trace _
@@ -89,118 +93,25 @@ module _ {X : Type 0} where
   applied_grows (pos (suc (suc (suc n)))) o e ms w = stays w
   applied_grows (negsuc n) o e ms w = stays w
 
-  applied_to_grows : (duration : ℤ) (o : ℕ) (e : Effect) (ms : ℤ) (w : World X) → Grows w (applied_to duration o e ms w)
-  applied_to_grows duration o e ms w = where_grows (is_valid o w) w _ w (applied_grows duration o e ms w) (stays w)
-
-  removed_grows : (o : ℕ) (e : Effect) (w : World X) → Grows w (removed o e w)
-  removed_grows o e w = where_grows (list_any (is_effect e) (effects_of o w)) w _ w (longer_begins w.trace _) (stays w)
-
-  signalled_grows : (o : ℕ) (user : ℤ) (w : World X) → Grows w (signalled o user w)
-  signalled_grows o user w = where_grows (is_valid o w) w _ w (stays w) (stays w)
-
-  abbrev RowGrows : Row X → Type 0
-  RowGrows r = (c : Call X) (w : World X) → Grows w (r.does c w).world
-
-  rows_grow : AllByRecursion RowGrows rows
-  rows_grow = (
-    λ c w. drawn_grows (int_at 0 c.values) w,
-    (
-      λ c w. longer_begins w.trace _,
-      (
-        λ c w. longer_begins w.trace _,
-        (
-          λ c w. longer_begins w.trace _,
-          (
-            λ c w. assigned_grows (object_at 0 c.values) c.action w,
-            (
-              λ c w. delayed_grows c.caller (int_at 0 c.values) c.action w,
-              (
-                λ c w. cleared_grows c.caller w,
-                (
-                  λ c w. appended_do_grows c.caller c.action w,
-                  (
-                    λ c w. appended_grows c.caller (Wait (int_at 0 c.values)) w,
-                    (
-                      λ c w. appended_grows c.caller (Speak _) w,
-                      (
-                        λ c w. longer_begins w.trace _,
-                        (
-                          λ c w. stays w,
-                          (
-                            λ c w. stays w,
-                            (
-                              λ c w. stays w,
-                              (
-                                λ c w. stays w,
-                                (
-                                  λ c w. changed_grows _ _ w,
-                                  (
-                                    λ c w. stays w,
-                                    (
-                                      λ c w. changed_grows _ _ w,
-                                      (
-                                        λ c w. changed_grows _ _ w,
-                                        (
-                                          λ c w. changed_grows _ _ w,
-                                          (
-                                            λ c w. applied_to_grows (int_at 0 c.values) (object_at 2 c.values) (effect_at 1 c.values) (int_at 3 c.values) w,
-                                            (
-                                              λ c w. removed_grows (object_at 0 c.values) (effect_at 1 c.values) w,
-                                              (
-                                                λ c w. stays w,
-                                                (
-                                                  λ c w. signalled_grows (object_at 0 c.values) (event_at 1 c.values) w,
-                                                  (
-                                                    λ c w. stays w,
-                                                    tt,
-                                                  ),
-                                                ),
-                                              ),
-                                            ),
-                                          ),
-                                        ),
-                                      ),
-                                    ),
-                                  ),
-                                ),
-                              ),
-                            ),
-                          ),
-                        ),
-                      ),
-                    ),
-                  ),
-                ),
-              ),
-            ),
-          ),
-        ),
-      ),
-    ),
-  )
-
-  chosen_grows : (b : Bool) (r : Row X) (rest : Option (Row X)) (c : Call X) (w : World X) → Grows w (r.does c w).world → Grows w (by_row rest c w).world
-      → Grows w (by_row (cond b (Some r) rest) c w).world
-  chosen_grows true r rest c w h k = h
-  chosen_grows false r rest c w h k = k
-
-  row_grows : (rs : List (Row X)) → AllByRecursion RowGrows rs → (n : ℕ) (c : Call X) (w : World X) → Grows w (by_row (row_numbered n rs) c w).world
-  row_grows [] all n c w = stays w
-  row_grows (r ∷ rs) all n c w = chosen_grows (r.number == n) r (row_numbered n rs) c w (all.0 c w) (row_grows rs all.1 n c w)
-
-  role_grows : (cell : CellLookup) (n : ℕ) (r : Routine) (kind : Role) (c : Call X) (w : World X) → Grows w (by_role cell n r kind c w).world
-  role_grows cell n r (role.Built own) c w = row_grows rows rows_grow own c w
-  role_grows cell n r (role.Pure k) c w = stays w
-  role_grows cell n r role.World c w = longer_begins w.trace _
-  role_grows cell n r role.Uncallable c w = stays w
-
-  routine_grows : (cell : CellLookup) (n : ℕ) (r : Option Routine) (c : Call X) (w : World X) → Grows w (by_routine cell n r c w).world
-  routine_grows cell n None c w = stays w
-  routine_grows cell n (Some r) c w = role_grows cell n r r.role c w
+  -- each small change only adds
+  done_grows : (x : Change) (c : Call X) (w : World X) → Grows w (done x c w)
+  done_grows (Print a) c w = longer_begins w.trace _
+  done_grows (Say text) c w = longer_begins w.trace _
+  done_grows (Draw n) c w = drawn_grows (int_at n c.values) w
+  done_grows (Assign o) c w = assigned_grows (object_at o c.values) c.action w
+  done_grows (Delay ms) c w = delayed_grows c.caller (int_at ms c.values) c.action w
+  done_grows (Queue item) c w = queued_grows item c w
+  done_grows Clear c w = cleared_grows c.caller w
+  done_grows (Vary o change) c w = where_grows (is_valid (object_at o c.values) w) w _ w (stays w) (stays w)
+  done_grows (Apply duration e o ms) c w =
+      where_grows (is_valid (object_at o c.values) w) w _ w (applied_grows (int_at duration c.values) (object_at o c.values) (effect_at e c.values) (int_at ms c.values) w) (stays w)
+  done_grows (Remove o e) c w = where_grows (list_any (is_effect (effect_at e c.values)) (effects_of (object_at o c.values) w)) w _ w (longer_begins w.trace _) (stays w)
+  done_grows (Signal o e) c w = where_grows (is_valid (object_at o c.values) w) w _ w (stays w) (stays w)
 
   pub engine_grows : (table : EngineTable) (cell : CellLookup) (n : ℕ) (c : Call X) (w : World X) → Grows w (engine table cell n c w).world
-  unfolding engine
-  engine_grows table cell n c w = routine_grows cell n (slice_get table.routines n) c w
+  engine_grows table cell n c w =
+      engine_keeps (Grows w) c table cell n (λ x v h. then_grows w v (done x c v) h (done_grows x c v))
+      (λ r at v h. then_grows w v (told c.caller (line.Call r.name c.values) v) h (longer_begins v.trace _)) w (stays w)
 
   next_turn_grows : (o : ℕ) (items : List (Item X)) (w : World X) → Grows w (next_turn o items w)
   next_turn_grows o [] w = stays w

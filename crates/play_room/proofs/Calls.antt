@@ -1,6 +1,6 @@
 -- Each call of a routine gives a value that has room, and keeps the values of its world.
-use Rattle.std.proofs.Common.{◌≡◌, ◌<◌, ◌-◌, ◌%◌, ℕ, ℤ, pos, negsuc, zero, suc, true, false, List, [], ◌∷◌, ◌++◌, length, take, drop, Option, None, Some, refl, arith, mod-lt}
-use Rattle.std.specs.Prelude.{◌==◌, not, filter, int_lt, slice_get, codes}
+use Rattle.std.proofs.Common.{◌<◌, ◌-◌, ◌%◌, ℕ, ℤ, pos, negsuc, zero, suc, true, false, List, [], ◌∷◌, ◌++◌, length, take, drop, Option, None, Some, arith, mod-lt}
+use Rattle.std.specs.Prelude.{◌==◌, not, int_lt, slice_get, codes}
 use Rattle.std.specs.List.{AllByRecursion, list_any, take_while}
 use Rattle.std.proofs.lemmas.Option.{slice_get_within}
 use Rattle.std.specs.Fmt.{signed_decimal}
@@ -8,14 +8,11 @@ use Rattle.std.specs.Int.{w32, int_wrapping_neg}
 use Rattle.std.specs.Char.{is_ascii_digit}
 use Rattle.std.specs.Str.Parse.{digits_value}
 use Rattle.nwq_value.specs.Effect.{Effect}
-use Rattle.nwq_value.specs.declared.engine.Role.{Role}
-use Rattle.nwq_value.specs.declared.engine.Role.TheVariants as role
-use Rattle.nwq_value.specs.declared.engine.Routine.{Routine}
 use Rattle.nwq_value.specs.declared.value.Ty.{Ty}
 use Rattle.nwq_value.specs.declared.value.Ty.TheVariants as ty
 use Rattle.nwq_value.specs.declared.value.Value.{Value}
-use Rattle.local_variables.specs.Variables.{Variable, IntVar, TextVar, is_int, is_text, put}
-use Rattle.area_rules.specs.Objects.{Script}
+use Rattle.local_variables.specs.Variables.{Variable, IntVar, TextVar, is_int, is_text}
+use Rattle.area_rules.specs.Objects.{AreaObject, Script}
 use Rattle.area_rules.specs.Area.{object, script_named}
 use Rattle.action_queue.specs.declared.queue.Item.{Item}
 use Rattle.action_queue.specs.declared.queue.Item.TheVariants.{Do, Wait, Speak}
@@ -28,12 +25,13 @@ use Rattle.world_rules.specs.Pure.{CellLookup, absolute, leading_number, string_
 use Rattle.world_rules.specs.World.{World, is_valid, queue_of, effects_of}
 use Rattle.world_rules.specs.Changes.{told, post, later, with_actions, with_busy, with_action, with_effects, with_variables, has_turn, without_turn, without_first, is_effect}
 use Rattle.world_rules.specs.AlikeLaws.{call}
-use Rattle.world_rules.specs.Rows.{Call, Answered, Row, rows, drawn, drawn_from, assigned, delayed, awake, appended, appended_do, at_rest, cleared, read, changed_variables, applied, applied_to, removed, name_or, event_script, signalled}
-use Rattle.world_rules.specs.Engine.{engine, by_role, by_row, by_routine, row_numbered, world_value}
+use Rattle.world_rules.specs.Rows.{Call, Answered, drawn, drawn_from, assigned, delayed, awake, appended, appended_do, at_rest, cleared, read, changed_variables, applied, applied_to, removed, name_or, event_script, signalled, argument, NewItem, TheAction, AWait, ASpeech, queued, VariableChange, SetInt, SetText, DeleteInt, DeleteText, varied, Print, Say, Draw, Assign, Delay, Queue, Clear, Vary, Apply, Remove, Signal, IntField, LocalInt, int_field, TextField, Tag, LocalText, text_field, Answer, Nothing, Random, ByTag, IsThere, IntOf, TextOf, EventOf, UserNumber, answer}
+use Rattle.world_rules.specs.Engine.{world_value}
+use Rattle.world_rules.specs.RowLaws.{EachKeeps, engine_keeps, engine_answers}
 use Rattle.play_room.specs.Room.{IsText, EffectHasRoom, ValueHasRoom, VariableHasRoom, ItemHasRoom}
-use Rattle.play_room.specs.Kept.{CellsAreBytes, MaybeValueHasRoom, ActionHasRoom, StoodIsKept, WorldIsKept}
+use Rattle.play_room.specs.Kept.{CellsAreBytes, MaybeValueHasRoom, ActionHasRoom, StoodIsKept, ObjectIsKept, WorldIsKept}
 use Rattle.play_room.proofs.Keeps.{CallsKeepValues}
-use Rattle.play_room.proofs.Lists.{all_filter, some_of, found_of, mapped, either}
+use Rattle.play_room.proofs.Lists.{all_filter, some_of, mapped, either}
 use Rattle.play_room.proofs.Texts.{first_bytes, last_bytes, joined_bytes, cut_text, no_text, signed_bytes, hex_string_bytes, small_fits, zero_fits, bits_fit, test_fits, int_fits, text_fits, object_fits, effect_fits, event_fits, ints_fit}
 use Rattle.play_room.proofs.Changes.{told_kept, post_kept, without_turn_kept, stood_of, actions_kept, busy_kept, action_kept, effects_kept, lasting_kept, passing_kept, fewer_kept, variables_kept, put_keeps, object_kept, named_text, read_int, read_text, tag_number}
 
@@ -194,123 +192,56 @@ signalled_kept o user w number fits k =
 read_bytes : (o : ℕ) (found : List ℕ) (w : World Saved) → AreStateBytes found → AreStateBytes (read o found [] w)
 read_bytes o found w are = either AreStateBytes (is_valid o w) found [] are tt
 
--- ---- the rows
+-- ---- small changes and answers
 
-abbrev RowKeeps : Row Saved → Type 0
-RowKeeps r = (c : Call Saved) (w : World Saved) → CallHasRoom c → WorldIsKept w → IsKeptAnswer (r.does c w)
+queued_kept : (item : NewItem) (c : Call Saved) (w : World Saved) → CallHasRoom c → WorldIsKept w → WorldIsKept (queued item c w)
+queued_kept TheAction c w r k = appended_do_kept c.caller c.action w r.caller r.action k
+queued_kept (AWait ms) c w r k = appended_kept c.caller (Wait (int_at ms c.values)) w r.caller (int_fits c.values r.values ms) k
+queued_kept (ASpeech text) c w r k = appended_kept c.caller (Speak (text_at text c.values)) w r.caller (text_fits c.values r.values text) k
 
-rows_keep : AllByRecursion RowKeeps rows
-rows_keep = (
-  λ c w r k. drawn_kept (int_at 0 c.values) w (int_fits c.values r.values 0) k,
-  (
-    λ c w r k. (tt, told_kept c.caller _ w k),
-    (
-      λ c w r k. (tt, told_kept c.caller _ w k),
-      (
-        λ c w r k. (tt, told_kept c.caller _ w k),
-        (
-          λ c w r k. (tt, assigned_kept (object_at 0 c.values) c.action w (object_fits c.values r.values 0) r.action k),
-          (
-            λ c w r k. (tt, delayed_kept c.caller (int_at 0 c.values) c.action w r.caller r.action k),
-            (
-              λ c w r k. (tt, cleared_kept c.caller w k),
-              (
-                λ c w r k. (tt, appended_do_kept c.caller c.action w r.caller r.action k),
-                (
-                  λ c w r k. (tt, appended_kept c.caller (Wait (int_at 0 c.values)) w r.caller (int_fits c.values r.values 0) k),
-                  (
-                    λ c w r k. (tt, appended_kept c.caller (Speak (text_at 0 c.values)) w r.caller (text_fits c.values r.values 0) k),
-                    (
-                      λ c w r k. (tt, told_kept c.caller _ w k),
-                      (
-                        λ c w r k. (tag_number w.area (text_at 0 c.values) (int_at 1 c.values) k.area, k),
-                        (
-                          λ c w r k. (cut_text _ (read_bytes (object_at 0 c.values) (object w.area (object_at 0 c.values)).tag w (object_kept w.area (object_at 0 c.values) k.area).tag), k),
-                          (
-                            λ c w r k. (test_fits (is_valid (object_at 0 c.values) w), k),
-                            (
-                              λ c w r k. (
-                                either IsSigned (is_valid (object_at 0 c.values) w) _ (pos 0)
-                                    (read_int (is_int (text_at 1 c.values)) (object w.area (object_at 0 c.values)).vars (object_kept w.area (object_at 0 c.values) k.area).vars) zero_fits,
-                                k,
-                              ),
-                              (
-                                λ c w r k. (
-                                  tt,
-                                  changed_kept (object_at 0 c.values) (put (IntVar (text_at 1 c.values) (int_at 2 c.values))) w
-                                      (put_keeps (IntVar (text_at 1 c.values) (int_at 2 c.values)) ((text_fits c.values r.values 1).1, int_fits c.values r.values 2)) k,
-                                ),
-                                (
-                                  λ c w r k. (
-                                    cut_text _ (read_bytes (object_at 0 c.values) _ w
-                                        (read_text (is_text (text_at 1 c.values)) (object w.area (object_at 0 c.values)).vars (object_kept w.area (object_at 0 c.values) k.area).vars)),
-                                    k,
-                                  ),
-                                  (
-                                    λ c w r k. (
-                                      tt,
-                                      changed_kept (object_at 0 c.values) (put (TextVar (text_at 1 c.values) (text_at 2 c.values))) w
-                                          (put_keeps (TextVar (text_at 1 c.values) (text_at 2 c.values)) ((text_fits c.values r.values 1).1, (text_fits c.values r.values 2).1)) k,
-                                    ),
-                                    (
-                                      λ c w r k. (
-                                        tt,
-                                        changed_kept (object_at 0 c.values) (filter (λ v. not (is_int (text_at 1 c.values) v))) w
-                                            (λ vars all. all_filter VariableHasRoom (λ v. not (is_int (text_at 1 c.values) v)) vars all) k,
-                                      ),
-                                      (
-                                        λ c w r k. (
-                                          tt,
-                                          changed_kept (object_at 0 c.values) (filter (λ v. not (is_text (text_at 1 c.values) v))) w
-                                              (λ vars all. all_filter VariableHasRoom (λ v. not (is_text (text_at 1 c.values) v)) vars all) k,
-                                        ),
-                                        (
-                                          λ c w r k. (
-                                            tt,
-                                            applied_to_kept (int_at 0 c.values) (object_at 2 c.values) (effect_at 1 c.values) (int_at 3 c.values) w
-                                                (object_fits c.values r.values 2) (effect_fits c.values r.values 1) k,
-                                          ),
-                                          (
-                                            λ c w r k. (tt, removed_kept (object_at 0 c.values) (effect_at 1 c.values) w k),
-                                            (
-                                              λ c w r k. (int_fits c.values r.values 0, k),
-                                              (
-                                                λ c w r k. (
-                                                  tt,
-                                                  signalled_kept (object_at 0 c.values) (event_at 1 c.values) w (object_fits c.values r.values 0) (event_fits c.values r.values 1) k,
-                                                ),
-                                                (
-                                                  λ c w r k. (k.user, k),
-                                                  tt,
-                                                ),
-                                              ),
-                                            ),
-                                          ),
-                                        ),
-                                      ),
-                                    ),
-                                  ),
-                                ),
-                              ),
-                            ),
-                          ),
-                        ),
-                      ),
-                    ),
-                  ),
-                ),
-              ),
-            ),
-          ),
-        ),
-      ),
-    ),
-  ),
-)
+abbrev KeepsVariables : (List Variable → List Variable) → Type 0
+KeepsVariables change = (vars : List Variable) → AllByRecursion VariableHasRoom vars → AllByRecursion VariableHasRoom (change vars)
 
-row_kept : (row : Option (Row Saved)) → IsMaybe RowKeeps row → (c : Call Saved) (w : World Saved) → CallHasRoom c → WorldIsKept w → IsKeptAnswer (by_row row c w)
-row_kept None keeps c w r k = (tt, k)
-row_kept (Some row) keeps c w r k = keeps c w r k
+varied_keeps : (change : VariableChange) (values : List Value) → AllByRecursion ValueHasRoom values → KeepsVariables (varied change values)
+varied_keeps (SetInt name n) values all = put_keeps (IntVar (text_at name values) (int_at n values)) ((text_fits values all name).1, int_fits values all n)
+varied_keeps (SetText name text) values all = put_keeps (TextVar (text_at name values) (text_at text values)) ((text_fits values all name).1, (text_fits values all text).1)
+varied_keeps (DeleteInt name) values all = λ vars are. all_filter VariableHasRoom (λ v. not (is_int (text_at name values) v)) vars are
+varied_keeps (DeleteText name) values all = λ vars are. all_filter VariableHasRoom (λ v. not (is_text (text_at name values) v)) vars are
+
+done_kept : (c : Call Saved) → CallHasRoom c → EachKeeps WorldIsKept c
+done_kept c r (Print a) w k = told_kept c.caller (line.Print (argument a c.values)) w k
+done_kept c r (Say text) w k = told_kept c.caller (line.Speak (text_at text c.values)) w k
+done_kept c r (Draw n) w k = (drawn_kept (int_at n c.values) w (int_fits c.values r.values n) k).1
+done_kept c r (Assign o) w k = assigned_kept (object_at o c.values) c.action w (object_fits c.values r.values o) r.action k
+done_kept c r (Delay ms) w k = delayed_kept c.caller (int_at ms c.values) c.action w r.caller r.action k
+done_kept c r (Queue item) w k = queued_kept item c w r k
+done_kept c r Clear w k = cleared_kept c.caller w k
+done_kept c r (Vary o change) w k = changed_kept (object_at o c.values) (varied change c.values) w (varied_keeps change c.values r.values) k
+done_kept c r (Apply duration e o ms) w k =
+    applied_to_kept (int_at duration c.values) (object_at o c.values) (effect_at e c.values) (int_at ms c.values) w (object_fits c.values r.values o) (effect_fits c.values r.values e) k
+done_kept c r (Remove o e) w k = removed_kept (object_at o c.values) (effect_at e c.values) w k
+done_kept c r (Signal o e) w k = signalled_kept (object_at o c.values) (event_at e c.values) w (object_fits c.values r.values o) (event_fits c.values r.values e) k
+
+field_fits : (f : IntField) (values : List Value) (o : AreaObject) → ObjectIsKept o → IsSigned (int_field f values o)
+field_fits (LocalInt name) values o k = read_int (is_int (text_at name values)) o.vars k.vars
+
+field_bytes : (f : TextField) (values : List Value) (o : AreaObject) → ObjectIsKept o → AreStateBytes (text_field f values o)
+field_bytes Tag values o k = k.tag
+field_bytes (LocalText name) values o k = read_text (is_text (text_at name values)) o.vars k.vars
+
+answer_fits : (a : Answer) (values : List Value) (w : World Saved) → AllByRecursion ValueHasRoom values → WorldIsKept w → MaybeValueHasRoom (answer a values w)
+answer_fits Nothing values w all k = tt
+answer_fits (Random n) values w all k = (drawn_kept (int_at n values) w (int_fits values all n) k).0
+answer_fits (ByTag tag n) values w all k = tag_number w.area (text_at tag values) (int_at n values) k.area
+answer_fits (IsThere o) values w all k = test_fits (is_valid (object_at o values) w)
+answer_fits (IntOf o f) values w all k =
+    let own = object w.area (object_at o values) in
+    either IsSigned (is_valid (object_at o values) w) (int_field f values own) (pos 0) (field_fits f values own (object_kept w.area (object_at o values) k.area)) zero_fits
+answer_fits (TextOf o f) values w all k =
+    let own = object w.area (object_at o values) in
+    cut_text _ (read_bytes (object_at o values) (text_field f values own) w (field_bytes f values own (object_kept w.area (object_at o values) k.area)))
+answer_fits (EventOf n) values w all k = int_fits values all n
+answer_fits UserNumber values w all k = k.user
 
 -- ---- any routine
 
@@ -325,19 +256,11 @@ world_gives n ty.Action values number all = tt
 world_gives n (ty.Struct m) values number all = tt
 world_gives n ty.Refused values number all = tt
 
-module _ (cell : CellLookup) (bytes : CellsAreBytes cell) (n : ℕ) (c : Call Saved) (w : World Saved) (r : CallHasRoom c) (k : WorldIsKept w) where
-  role_kept : (routine : Routine) (own : Role) → IsNumber 2 n → IsKeptAnswer (by_role cell n routine own c w)
-  role_kept routine (role.Built number) few = row_kept (row_numbered number rows) (found_of RowKeeps (λ (x : Row Saved). x.number == number) rows rows_keep) c w r k
-  role_kept routine (role.Pure f) few = (pure_gives cell bytes f c.values r.values, k)
-  role_kept routine role.World few = (world_gives n routine.result c.values few r.values, told_kept c.caller _ w k)
-  role_kept routine role.Uncallable few = (tt, k)
-
-  routine_kept : (routine : Option Routine) → ((x : Routine) → routine ≡ Some x → IsNumber 2 n) → IsKeptAnswer (by_routine cell n routine c w)
-  routine_kept None few = (tt, k)
-  routine_kept (Some routine) few = role_kept routine routine.role (few routine refl)
-
 pub calls_keep : CallsKeepValues
-unfolding engine
 calls_keep cell table bytes is n caller values action w number room stored k =
-    routine_kept cell bytes n (call caller values action) w (record { caller = number; values = room; action = stored }) k (slice_get table.routines n)
-    (λ routine at. (let below = slice_get_within table.routines n routine at in let few = is.few in omega (arith, below, few)))
+    let c = call caller values action in
+    let r : CallHasRoom c = record { caller = number; values = room; action = stored } in (
+      engine_answers MaybeValueHasRoom tt c w table cell n (λ a. answer_fits a values w room k) (λ f. pure_gives cell bytes f values room)
+          (λ own at. world_gives n own.result values (let below = slice_get_within table.routines n own at in let few = is.few in omega (arith, below, few)) room),
+      engine_keeps WorldIsKept c table cell n (done_kept c r) (λ own at w k. told_kept caller (line.Call own.name values) w k) w k,
+    )

@@ -1,4 +1,4 @@
-//! Tests of what a play stands on: shapes, stack, captured states, queues, agenda,
+//! Tests of what a play stands on: shapes, stack, captured states, stamped slots, queues, agenda,
 //! saved plays.
 #![tactic(auto)]
 
@@ -12,5 +12,7 @@ mod queues;
 mod saves;
 #[cfg(test)]
 mod shapes;
+#[cfg(test)]
+mod slots;
 #[cfg(test)]
 mod states;

@@ -1,3 +1,4 @@
 mod NameLemmas
+mod PathLemmas
 mod WritingLemmas
 mod RealLemmas

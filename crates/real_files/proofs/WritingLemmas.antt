@@ -1,5 +1,5 @@
 -- What the write of a whole file leaves, by what its calls answered.
-use Rattle.std.proofs.Common.{◌≡◌, ◌≢◌, ◌⊎◌, inl, inr, ℕ, Bool, true, false, List, Option, Some, None, bytes_eq, refl, sym, ap, subst, ◌∙◌}
+use Rattle.std.proofs.Common.{◌≡◌, ◌≢◌, ◌⊎◌, inl, inr, ℕ, Bool, true, false, List, Option, Some, None, bytes_eq, true≢false, refl, sym, ap, subst, ◌∙◌}
 use Rattle.std.proofs.lemmas.Cmp.{nat_list_cmp_total}
 use Rattle.std.proofs.lemmas.Map.Lookups.{exact_bytes}
 use Rattle.std.proofs.lemmas.Slice.Eq.{bytes_eq-Decides}
@@ -9,8 +9,8 @@ use Rattle.nwq_outside.specs.ContentLemmas.{put_there, put_elsewhere}
 use Rattle.real_files.specs.declared.disk.Failure.{Failure}
 use Rattle.real_files.specs.declared.whole.Wrote.{Wrote}
 use Rattle.real_files.specs.declared.whole.Wrote.TheVariants.{Fixed, Refused}
-use Rattle.real_files.specs.Disk.{Names, SameKind, SameOthers, HasMode, MakesWhole, MakesPart, Renames, Removes, WritesInto, WritesPart, is_own_name}
-use Rattle.real_files.specs.Writing.{Replaces, KeepsAll, LeavesOne, WritesWhole, GivesUp, FallsShort, new_name}
+use Rattle.real_files.specs.Disk.{Names, SameKind, SameOthers, HasMode, MakesWhole, MakesPart, Renames, Removes, Syncs, WritesInto, WritesPart, KeepsForbidden, Lasts, is_lasting, is_own_name}
+use Rattle.real_files.specs.Writing.{Replaces, ReplacesFor, KeepsAll, LeavesOne, WritesWhole, GivesUp, FallsShort, new_name}
 use Rattle.real_files.proofs.NameLemmas.{new_is_own}
 
 pub same_or_apart : (a b : List ℕ) → (a ≡ b) ⊎ (a ≢ b)
@@ -45,11 +45,11 @@ has_like : (names : Names) (name : List ℕ) (like : Option ℕ) (mode : ℕ) �
     → names.has_modes ≡ true → get names.modes name ≡ Some mode
 has_like names name like mode is has = subst (HasMode names name) is has
 
-module _ (before mid after : Names) (new name bytes : List ℕ) (like : Option ℕ) where
+module _ (before mid after : Names) (new name bytes : List ℕ) (like : Option ℕ) (lasting : Bool) where
   -- a new file that is renamed takes the other's place
-  pub replaced : name ≢ new → get before.modes name ≡ like → MakesWhole before mid new like bytes → Renames mid after new name
+  replaces : name ≢ new → get before.modes name ≡ like → MakesWhole before mid new like bytes lasting → Renames mid after new name
       → Replaces before after name bytes
-  replaced apart is made moved = record {
+  replaces apart is made moved = record {
     kind = then_kind before mid after made.others.kind moved.kind;
     files = same_held after.files (insert before.files name bytes) (λ q. by_name q (same_or_apart q name) (same_or_apart q new));
     mode = λ mode had modes.
@@ -65,6 +65,13 @@ module _ (before mid after : Names) (new name bytes : List ℕ) (like : Option �
           (moved.gone (λ e. apart (sym e)) ∙ sym made.was_none ∙ sym (put_elsewhere before.files name bytes new (λ e. apart (sym e))))
       by_name q (inr other) (inr differs) =
           moved.files q differs other ∙ made.others.files q differs ∙ sym (put_elsewhere before.files name bytes q other)
+
+  pub replaced : lasting ≡ is_lasting name → name ≢ new → get before.modes name ≡ like → MakesWhole before mid new like bytes lasting
+      → Renames mid after new name → ReplacesFor before after name bytes
+  replaced so apart is made moved = record {
+    replaces = replaces apart is made moved;
+    written = λ lasts. moved.written ∙ made.written (so ∙ lasts);
+  }
 
 module _ (before mid after : Names) (new name bytes : List ℕ) where
   -- where the new file is gone, every name has what it had
@@ -100,7 +107,7 @@ module _ (before mid after : Names) (new name bytes : List ℕ) where
   given_up outcome result own apart none others means (inr up) =
       subst (WritesWhole before after name bytes) (sym up.1.0) (left own apart none others up.1.1)
 
-module _ (before mid after : Names) (new name bytes : List ℕ) (like : Option ℕ) where
+module _ (before mid after : Names) (new name bytes : List ℕ) (like : Option ℕ) (lasting : Bool) where
   -- a new file that could not be made whole
   pub broken : (why : Failure) (result : Wrote) → is_own_name new ≡ true → name ≢ new → MakesPart before mid new → GivesUp mid after new (Refused why) result
       → WritesWhole before after name bytes result
@@ -108,13 +115,13 @@ module _ (before mid after : Names) (new name bytes : List ℕ) (like : Option �
       given_up before mid after new name bytes (Refused why) result own apart made.was_none made.others (λ keeps. keeps) up
 
   -- a new file that could not take the old one's place
-  pub unmoved : (still : Names) (why : Failure) (result : Wrote) → is_own_name new ≡ true → name ≢ new → MakesWhole before mid new like bytes → still ≡ mid
+  pub unmoved : (still : Names) (why : Failure) (result : Wrote) → is_own_name new ≡ true → name ≢ new → MakesWhole before mid new like bytes lasting → still ≡ mid
       → GivesUp still after new (Refused why) result → WritesWhole before after name bytes result
   unmoved still why result own apart made same up =
       given_up before mid after new name bytes (Refused why) result own apart made.was_none made.others (λ keeps. keeps)
       (subst (λ names. GivesUp names after new (Refused why) result) same up)
 
-  pub fixed : (still : Names) (result : Wrote) → is_own_name new ≡ true → name ≢ new → MakesWhole before mid new like bytes → still ≡ mid
+  pub fixed : (still : Names) (result : Wrote) → is_own_name new ≡ true → name ≢ new → MakesWhole before mid new like bytes lasting → still ≡ mid
       → mid.fixed name ≡ true → GivesUp still after new Fixed result → WritesWhole before after name bytes result
   fixed still result own apart made same is up =
       given_up before mid after new name bytes Fixed result own apart made.was_none made.others
@@ -154,6 +161,9 @@ module _ (before after : Names) (name bytes : List ℕ) where
     others = λ q apart own. ap (λ held. get held q) whole.files ∙ put_elsewhere before.files name bytes q apart;
   }
 
+  pub unsynced : ReplacesFor before after name bytes → Replaces before after name bytes
+  unsynced whole = whole.replaces
+
   pub into : WritesInto before after name bytes → Replaces before after name bytes
   into wrote = record {
     kind = wrote.kind;
@@ -186,6 +196,40 @@ module _ (before mid after : Names) (name bytes : List ℕ) where
     others = λ q apart own. part.files q apart ∙ ap (λ held. get held q) keeps.files;
   }
 
+module _ (before mid after : Names) (name bytes : List ℕ) where
+  -- a file whose folder the disk has then
+  pub synced : ReplacesFor before mid name bytes → Syncs mid after name → Replaces before after name bytes
+  synced whole sync =
+      let kind = whole.replaces.kind in
+      subst (λ names. Replaces before names name bytes) (sym sync.same)
+      (record { kind = record { links = kind.links; fixed = kind.fixed; has_modes = kind.has_modes }; files = whole.replaces.files; mode = whole.replaces.mode })
+
+  pub lasts_synced : ReplacesFor before mid name bytes → Syncs mid after name → Lasts before after name
+  lasts_synced whole sync free lasts = (ap (λ names. names.written name) sync.same ∙ whole.written lasts, sync.listed)
+
+  pub short_unsynced : ReplacesFor before mid name bytes → after ≡ mid → FallsShort before after name bytes
+  short_unsynced whole same = subst (λ names. FallsShort before names name bytes) (sym same) (short_whole before mid name bytes whole.replaces)
+
+module _ (before after : Names) (name : List ℕ) where
+  -- ---- what is to last, and what can't be replaced
+
+  pub lasts_none : is_lasting name ≡ false → Lasts before after name
+  lasts_none is free lasts = absurd (true≢false (sym lasts ∙ is))
+
+  pub lasts_fixed : before.fixed name ≡ true → Lasts before after name
+  lasts_fixed is free lasts = absurd (true≢false (sym is ∙ free))
+
+  -- ---- what may not be written
+
+  pub forbidden_none : get before.modes name ≡ None → KeepsForbidden before after name
+  forbidden_none none mode is barred = let other : None ≡ Some mode = sym none ∙ is in cc
+
+  pub forbidden_asked : before.writable name ≡ true → KeepsForbidden before after name
+  forbidden_asked may mode is barred = absurd (true≢false (sym may ∙ barred))
+
+  pub forbidden_same : after ≡ before → KeepsForbidden before after name
+  forbidden_same same mode is barred = ap (λ names. get names.files name) same
+
 -- what is written under a new name of this number, where nothing has changed before
 pub tried : (before now after : Names) (new name bytes : List ℕ) (like : Option ℕ) (number : ℕ) (result : Wrote) → now ≡ before
     → get before.modes name ≡ like → new ≡ new_name number name → name ≢ new
@@ -197,4 +241,6 @@ tried before now after new name bytes like number result same is named apart wri
 
 pub ruleset writes = (replaced, broken, unmoved, fixed, unchanged)
 
-pub ruleset puts = (into, then_into, short_kept, short_same, short_left, short_whole, short_into, short_then_into)
+pub ruleset puts = (unsynced, synced, into, then_into, short_kept, short_same, short_left, short_whole, short_unsynced, short_into, short_then_into, lasts_synced, lasts_none, lasts_fixed)
+
+pub ruleset keeps_forbidden = (forbidden_none, forbidden_asked, forbidden_same)

@@ -2,10 +2,9 @@
 use Rattle.std.specs.Prelude.{◌≡◌, ◌≢◌, ◌⊎◌, ℕ, true, false, List, ◌++◌, None, decimal}
 use Rattle.std.specs.FinMap as map
 use Rattle.std.specs.String.{string_bytes}
-use Rattle.real_files.specs.Disk.{Names, SameKind, SameOthers, Removes, StaysWhole, KeepsMode, beside, own_ending, is_own_name}
+use Rattle.real_files.specs.Disk.{Names, SameKind, SameOthers, Removes, StaysWhole, KeepsMode, beside, own_ending, is_own_name, is_lasting}
 use Rattle.real_files.specs.declared.disk.Failure.{Failure}
 use Rattle.real_files.specs.declared.links.Place.{Place}
-use Rattle.real_files.specs.declared.disk.Failure.{Failure}
 use Rattle.real_files.specs.declared.links.Place.TheVariants.{Into, Over}
 use Rattle.real_files.specs.declared.whole.Wrote.{Wrote}
 use Rattle.real_files.specs.declared.whole.Wrote.TheVariants as wrote
@@ -17,7 +16,7 @@ new_name number name = beside name (decimal number ++ own_ending)
 -- Where the bytes are to go that are written at this place: into what is there and can't be
 -- replaced, or over a regular file of this mode, or over nothing.
 abbrev pub IsPlace : Names → (place : List ℕ) → Place → Type 0
-IsPlace names place (Into at) = (string_bytes at ≡ place) × (names.fixed place ≡ true)
+IsPlace names place (Into at) = (string_bytes at ≡ place) × ((map.get names.modes place ≡ None) × (names.fixed place ≡ true))
 IsPlace names place (Over at like) = (string_bytes at ≡ place) × (map.get names.modes place ≡ like)
 
 -- the name has the bytes and its mode, and every other name what it had
@@ -25,6 +24,11 @@ pub record Replaces (before after : Names) (name bytes : List ℕ) : Type 0 wher
   pub kind : SameKind before after
   pub files : after.files ≡ map.insert before.files name bytes
   pub mode : KeepsMode before after name
+
+-- and so where the disk has the bytes that are to last
+pub record ReplacesFor (before after : Names) (name bytes : List ℕ) : Type 0 where
+  pub replaces : Replaces before after name bytes
+  pub written : is_lasting name ≡ true → after.written name ≡ true
 
 -- every name has what it had
 pub record KeepsAll (before after : Names) (name : List ℕ) : Type 0 where
@@ -43,7 +47,7 @@ pub record LeavesOne (before after : Names) (name : List ℕ) : Type 0 where
 -- What the write of a whole file leaves, which was made under a new name first. The file is whole,
 -- or the old one is: then the new one is gone, but where it could not be removed either.
 abbrev pub WritesWhole : Names → Names → (name bytes : List ℕ) → Wrote → Type 0
-WritesWhole before after name bytes wrote.Whole = Replaces before after name bytes
+WritesWhole before after name bytes wrote.Whole = ReplacesFor before after name bytes
 WritesWhole before after name bytes wrote.Taken = after ≡ before
 WritesWhole before after name bytes wrote.Fixed = KeepsAll before after name × (before.fixed name ≡ true)
 WritesWhole before after name bytes (wrote.Refused why) = KeepsAll before after name

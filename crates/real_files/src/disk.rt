@@ -1,10 +1,10 @@
 //! The calls that real files make of a disk, and what each means where a disk tells its names.
 
 ghost use Rattle.std.specs.Prelude.{◌≡◌, ◌<◌, ℕ, List, Bool, All, take, None, IsSomeAnd};
-ghost use Rattle.std.specs.Prelude.{Some, IsTrue, OnErr, IfOk, IfErr};
+ghost use Rattle.std.specs.Prelude.{Some, IsTrue, OnErr, IfOk, IfErr, true};
 ghost use Rattle.std.specs.FinMap as map;
 ghost use Rattle.real_files.specs.Disk.{Names, IsThing, Makes, Moves, Removes};
-ghost use Rattle.real_files.specs.Disk.{WritesInto, WritesPart, place_in};
+ghost use Rattle.real_files.specs.Disk.{Syncs, WritesInto, WritesPart, place_in};
 
 use std::alloc::{AllocError, Global};
 use std::io::ErrorKind;
@@ -96,6 +96,8 @@ pub trait Disk {
 
     /// Whether the regular file of this name may be written.
     fn may_write(&mut self, name: &str) -> Result<(), Failure>
+        ensures may { IsTrue tells → IfOk result (λ done.
+            (names self.old).writable name.now ≡ true) }
         ensures same { names self.new ≡ names self.old };
 
     /// Makes a new file beside a name, of this mode if there is one, and gives it these bytes. Where
@@ -109,7 +111,8 @@ pub trait Disk {
         lasting: bool,
     ) -> Made
         ensures makes { IsTrue tells →
-            Makes (names self.old) (names self.new) new.now name.now like bytes.now result };
+            Makes (names self.old) (names self.new) new.now name.now like bytes.now lasting
+            result };
 
     /// Gives a file another name, in place of what has that.
     fn rename(&mut self, from: &str, to: &str) -> Moved
@@ -130,5 +133,7 @@ pub trait Disk {
 
     /// Waits until the disk has what the folder of this name lists.
     fn sync_folder(&mut self, name: &str) -> Result<(), Failure>
-        ensures same { names self.new ≡ names self.old };
+        ensures ok { IsTrue tells → IfOk result (λ done.
+            Syncs (names self.old) (names self.new) name.now) }
+        ensures err { IsTrue tells → OnErr result (names self.new ≡ names self.old) };
 }

@@ -10,11 +10,11 @@
 
 pub mod disk;
 pub mod host;
-pub mod links;
+mod links;
+pub mod paths;
 pub mod real;
 pub mod whole;
 
 pub use disk::{Disk, Failure, Made, Moved, Thing};
 pub use host::HostDisk;
-pub use links::beside;
 pub use real::{RealFiles, Trouble};

@@ -1,10 +1,11 @@
 //! Where the bytes of a name are to go, and the names beside a name.
 
 ghost use Rattle.std.specs.Prelude.{◌≡◌, IsTrue, IfOk, string_bytes};
-ghost use Rattle.real_files.specs.Disk.{folder_of, beside, follow};
+ghost use Rattle.real_files.specs.Disk.{beside, follow};
 ghost use Rattle.real_files.specs.Writing.{IsPlace, new_name};
 
 use crate::disk::{Disk, Failure, Thing};
+use crate::paths::beside;
 use std::alloc::Global;
 use std::io::ErrorKind;
 
@@ -17,30 +18,21 @@ pub(crate) enum Place {
     Over(String, Option<u32>),
 }
 
-/// All of a name up to its last slash, with that.
-fn folder_of(alloc: Global, name: &str) -> Result<String, Failure>
-    ensures folder { IfOk result (λ folder. string_bytes folder ≡ folder_of name.now) }
+/// The name of these bytes.
+fn name_of(bytes: Vec<u8>) -> Result<String, Failure>
+    ensures name { IfOk result (λ name. string_bytes name ≡ bytes.items) }
 {
-    match name.rsplit_once('/') {
-        None => Ok(String::new(alloc)),
-        Some((front, _)) => {
-            let mut folder = String::from_str(alloc, front)?;
-            folder.push_str("/")?;
-            Ok(folder)
-        }
+    match String::from_utf8(bytes) {
+        Ok(name) => Ok(name),
+        Err(_) => Err(Failure::Kind(ErrorKind::InvalidData)),
     }
 }
 
 /// The name that a text leads to from the folder of a name.
-pub fn beside(alloc: Global, name: &str, text: &str) -> Result<String, Failure>
+fn name_beside(alloc: Global, name: &str, text: &[u8]) -> Result<String, Failure>
     ensures beside { IfOk result (λ other. string_bytes other ≡ beside name.now text.now) }
 {
-    if let Some(b'/') = text.as_bytes().first() {
-        return Ok(String::from_str(alloc, text)?);
-    }
-    let mut other = folder_of(alloc, name)?;
-    other.push_str(text)?;
-    Ok(other)
+    name_of(beside(alloc, name.as_bytes(), text)?)
 }
 
 /// The new name of this number, beside a name. No script has one, nor an include: theirs have no
@@ -49,7 +41,7 @@ pub(crate) fn new_name(alloc: Global, name: &str, number: u32) -> Result<String,
     ensures new { IfOk result (λ new. string_bytes new ≡ new_name number name.now) }
 {
     let new = format!(in alloc; "{number}.nwq-new.tmp")?;
-    beside(alloc, name, new.as_str())
+    name_beside(alloc, name, new.as_bytes())
 }
 
 /// Where the bytes of a name are to go, which leads on by so many links at most.
@@ -70,18 +62,8 @@ pub(crate) fn place_of<D: Disk>(
         Thing::Other => Ok(Place::Into(String::from_str(alloc, name)?)),
         Thing::Link(_) if links == 0 => Err(Failure::Kind(ErrorKind::FilesystemLoop)),
         Thing::Link(text) => {
-            let next = next_name(alloc, name, text.as_slice())?;
+            let next = name_beside(alloc, name, text.as_slice())?;
             place_of(disk, alloc, next.as_str(), links - 1)
         }
-    }
-}
-
-/// The name that the link of this name and text leads to.
-fn next_name(alloc: Global, name: &str, text: &[u8]) -> Result<String, Failure>
-    ensures next { IfOk result (λ next. string_bytes next ≡ beside name.now text.now) }
-{
-    match str::from_utf8(text) {
-        Ok(text) => beside(alloc, name, text),
-        Err(_) => Err(Failure::Kind(ErrorKind::InvalidData)),
     }
 }

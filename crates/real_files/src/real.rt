@@ -5,6 +5,7 @@ ghost use Rattle.nwq_outside.specs.declared.counts.CountOf.TheVariants as count_
 ghost use Rattle.nwq_outside.specs.Outside.{no_counts, with_next, Leaves, KeepsOthers};
 ghost use Rattle.nwq_outside.specs.Outside.{CountsWrite};
 ghost use Rattle.real_files.specs.Disk.{told, place_in, StaysWhole, KeepsMode};
+ghost use Rattle.real_files.specs.Disk.{KeepsForbidden, Lasts};
 
 use crate::disk::{Disk, Failure};
 use crate::whole::{Fault, put_under};
@@ -127,7 +128,8 @@ impl<D: Disk> Files for RealFiles<D> {
         }
     }
 
-    /// The old bytes stay whole, or the new ones are there whole, and a file keeps its mode.
+    /// The old bytes stay whole, or the new ones are there whole, and a file keeps its mode. One
+    /// that may not be written stays, and the disk has one that is to last.
     #[tactic(auto, using(crate::proofs::RealLemmas::tells))]
     fn write(&mut self, name: &str, bytes: &[u8]) -> Done
         ensures left { IsTrue D.tells → Leaves (told D.tells (D.names self.old.disk))
@@ -140,6 +142,12 @@ impl<D: Disk> Files for RealFiles<D> {
             (D.names self.old.disk) (D.names self.new.disk)
             (place_in (D.names self.old.disk) name.now) bytes.now }
         ensures mode { IsTrue D.tells → KeepsMode
+            (D.names self.old.disk) (D.names self.new.disk)
+            (place_in (D.names self.old.disk) name.now) }
+        ensures forbidden { IsTrue D.tells → KeepsForbidden
+            (D.names self.old.disk) (D.names self.new.disk)
+            (place_in (D.names self.old.disk) name.now) }
+        ensures lasts { IsTrue D.tells → result ≡ Done.Ok → Lasts
             (D.names self.old.disk) (D.names self.new.disk)
             (place_in (D.names self.old.disk) name.now) }
     {

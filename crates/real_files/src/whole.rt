@@ -2,7 +2,7 @@
 
 ghost use Rattle.std.specs.Prelude.{◌≡◌, ◌≢◌, IsTrue, IfOk, OnErr, true};
 ghost use Rattle.std.specs.FinMap as map;
-ghost use Rattle.real_files.specs.Disk.{place_in, is_own_name};
+ghost use Rattle.real_files.specs.Disk.{KeepsForbidden, Lasts, place_in, is_lasting, is_own_name};
 ghost use Rattle.real_files.specs.Writing.{GivesUp, WritesWhole, Replaces, FallsShort};
 
 use crate::disk::{Disk, Failure, Made, Moved};
@@ -91,8 +91,10 @@ fn write_whole<D: Disk>(
 
 /// Whether the disk is to have a file before the program goes on. The next compile makes compiled
 /// scripts again, and these are many.
-fn is_lasting(name: &str) -> bool {
-    !name.ends_with(".ncs")
+fn is_lasting(name: &str) -> bool
+    ensures { result ≡ is_lasting name.now }
+{
+    !name.as_bytes().ends_with(b".ncs")
 }
 
 /// Writes a whole file under the first new name that nothing has.
@@ -144,6 +146,8 @@ fn put_over<D: Disk>(
         IfOk result (λ done. Replaces (D.names disk.old) (D.names disk.new) name.now bytes.now) }
     ensures err { IsTrue D.tells → map.get (D.names disk.old).modes name.now ≡ like →
         OnErr result (FallsShort (D.names disk.old) (D.names disk.new) name.now bytes.now) }
+    ensures lasts { IsTrue D.tells → map.get (D.names disk.old).modes name.now ≡ like →
+        IfOk result (λ done. Lasts (D.names disk.old) (D.names disk.new) name.now) }
 {
     match write_over(disk, alloc, name, like, bytes) {
         Wrote::Whole if is_lasting(name) => Ok(disk.sync_folder(name)?),
@@ -166,6 +170,10 @@ pub(crate) fn put_under<D: Disk>(
         (D.names disk.new) (place_in (D.names disk.old) name.now) bytes.now) }
     ensures err { IsTrue D.tells → OnErr result (FallsShort (D.names disk.old)
         (D.names disk.new) (place_in (D.names disk.old) name.now) bytes.now) }
+    ensures lasts { IsTrue D.tells → IfOk result (λ done. Lasts (D.names disk.old)
+        (D.names disk.new) (place_in (D.names disk.old) name.now)) }
+    ensures forbidden { IsTrue D.tells → KeepsForbidden (D.names disk.old)
+        (D.names disk.new) (place_in (D.names disk.old) name.now) }
 {
     match place_of(disk, alloc, name, MOST_LINKS)? {
         Place::Into(at) => Ok(disk.write_into(at.as_str(), bytes)?),

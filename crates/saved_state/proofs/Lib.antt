@@ -1,3 +1,4 @@
+mod Depths
 mod Examples
 pub mod Piles
 pub mod Lists

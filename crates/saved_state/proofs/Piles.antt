@@ -1,9 +1,9 @@
 -- Two lists of cells in a row: the lower ones, and those on top.
 use Rattle.std.proofs.Common.{◌≡◌, ◌<◌, ◌≤◌, ◌+◌, ◌-◌, ◌++◌, ◌∷◌, [], ℕ, List, length, take, drop, set, slice_get, get_or, Some, refl, sym, ap, ◌∙◌, arith, append_assoc}
-use Rattle.std.proofs.lemmas.List.{length-append, append-nil, drop_at, drop-drop, drop-take, take-append-le, take_at, set-append_left, set-append_right, length_push, length-take-le, take_all, take_more, take-take}
+use Rattle.std.proofs.lemmas.List.{length-append, length-drop, append-nil, drop_at, drop-drop, drop-take, take-append-le, take_at, set-append_left, set-append_right, length-take-le, take_all, take_more, take-take}
 use Rattle.std.proofs.lemmas.Option.{slice_get-get_or}
 use Rattle.std.proofs.Math.Seq.{take-append-add}
-use Rattle.saved_state.proofs.Lists.{get_front, get_behind}
+use Rattle.saved_state.proofs.Lists.{get_dropped, get_front, get_behind}
 use Rattle.saved_state.specs.declared.cell.Cell.{Cell}
 
 pub size_is : (low top : List Cell) → length (low ++ top) ≡ length low + length top
@@ -11,9 +11,6 @@ size_is low top = length-append low top
 
 pub pushed_is : (low top : List Cell) (cell : Cell) → low ++ (top ++ cell ∷ []) ≡ (low ++ top) ++ cell ∷ []
 pushed_is low top cell = sym (append_assoc low top (cell ∷ []))
-
-pub pushed_size : (top : List Cell) (cell : Cell) → length (top ++ cell ∷ []) ≡ length top + 1
-pushed_size top cell = length_push top cell
 
 pub got_top : (low top : List Cell) (place : ℕ) → length low ≤ place → slice_get (low ++ top) place ≡ slice_get top (place - length low)
 got_top low top place over =
@@ -43,9 +40,6 @@ kept_top low top n over =
 pub kept_low : (low top : List Cell) (n : ℕ) → n ≤ length low → take n (low ++ top) ≡ take n low ++ []
 kept_low low top n less = take-append-le n low top less ∙ sym (append-nil (take n low))
 
-pub kept_size : (cells : List Cell) (n : ℕ) → n ≤ length cells → length (take n cells) ≡ n
-kept_size cells n less = length-take-le n cells less
-
 -- the lower ones by themselves
 pub alone : (low : List Cell) → low ++ [] ≡ low
 alone low = append-nil low
@@ -64,11 +58,6 @@ front old more = take_at old more (length old) refl
 -- cells that are moved on top
 pub moved_is : (low top cells : List Cell) → low ++ (top ++ cells) ≡ (low ++ top) ++ cells
 moved_is low top cells = sym (append_assoc low top cells)
-
-pub moved_size : (top cells : List Cell) → length (top ++ cells) ≡ length top + length cells
-moved_size top cells = length-append top cells
-
-pub ruleset moved_lemmas = (moved_is, moved_size)
 
 -- the first cells, which are left where the last ones go one by one
 pub one_less : (old top now : List Cell) (n left : ℕ) → top ≡ take (n + left) old → n + left ≤ length old → 0 < left → now ≡ take (length top - 1) top
@@ -95,7 +84,125 @@ pub ruleset got_lemmas = (got_item, got_low, size_is)
 
 pub ruleset set_lemmas = (set_top, set_low, size_is)
 
-pub ruleset kept_lemmas = (kept_top, kept_low, kept_size, size_is)
+-- a cell by how many lie over it
+pub down_top : (low top : List Cell) (depth k : ℕ) (cell : Cell) → depth < length top → k ≡ length top - 1 - depth
+    → cell ≡ get_or top k cell → slice_get (low ++ top) (length (low ++ top) - 1 - depth) ≡ Some cell
+down_top low top depth k cell less at is =
+    let size = length-append low top in
+    got_item low top (length (low ++ top) - 1 - depth) k cell (omega (arith, size, less)) (omega (arith, size, less, at)) (omega (arith, less, at)) is
+
+pub down_low : (low top : List Cell) (depth k : ℕ) (cell : Cell) → length top ≤ depth → depth < length (low ++ top)
+    → k ≡ length low - 1 - (depth - length top) → slice_get low k ≡ Some cell → slice_get (low ++ top) (length (low ++ top) - 1 - depth) ≡ Some cell
+down_low low top depth k cell over less at is =
+    let size = length-append low top in
+    let same : length (low ++ top) - 1 - depth ≡ k = omega (arith, size, less, over, at) in
+    ap (slice_get (low ++ top)) same ∙ got_low low top k (omega (arith, size, less, over, at)) ∙ is
+
+pub set_down_top : (low top : List Cell) (depth k : ℕ) (cell : Cell) → depth < length top → k ≡ length top - 1 - depth
+    → set (low ++ top) (length (low ++ top) - 1 - depth) cell ≡ low ++ set top k cell
+set_down_top low top depth k cell less at =
+    let size = length-append low top in
+    let same : length (low ++ top) - 1 - depth - length low ≡ k = omega (arith, size, less, at) in
+    set_top low top (length (low ++ top) - 1 - depth) cell (omega (arith, size, less))
+    ∙ ap (λ (i : ℕ). low ++ set top i cell) same
+
+pub set_down_low : (low top : List Cell) (depth k : ℕ) (cell : Cell) → length top ≤ depth → depth < length (low ++ top)
+    → k ≡ length low - 1 - (depth - length top) → set (low ++ top) (length (low ++ top) - 1 - depth) cell ≡ set low k cell ++ top
+set_down_low low top depth k cell over less at =
+    let size = length-append low top in
+    let same : length (low ++ top) - 1 - depth ≡ k = omega (arith, size, less, over, at) in
+    ap (λ (i : ℕ). set (low ++ top) i cell) same ∙ set_low low top k cell (omega (arith, size, less, over, at))
+
+-- fewer cells, by how many go
+pub less_top : (low top : List Cell) (n k : ℕ) → n ≤ length top → k ≡ length top - n
+    → take (length (low ++ top) - n) (low ++ top) ≡ low ++ take k top
+less_top low top n k less is =
+    let size = length-append low top in
+    let same : length (low ++ top) - n - length low ≡ k = omega (arith, size, less, is) in
+    kept_top low top (length (low ++ top) - n) (omega (arith, size, less)) ∙ ap (λ (i : ℕ). low ++ take i top) same
+
+pub less_low : (low top : List Cell) (n k : ℕ) → length top ≤ n → n ≤ length (low ++ top) → k ≡ length low - (n - length top)
+    → take (length (low ++ top) - n) (low ++ top) ≡ take k low ++ []
+less_low low top n k over inside is =
+    let size = length-append low top in
+    let same : length (low ++ top) - n ≡ k = omega (arith, size, over, inside, is) in
+    ap (λ (i : ℕ). take i (low ++ top)) same ∙ kept_low low top k (omega (arith, size, over, inside, is))
+
+none : (top : List Cell) → length top ≡ 0 → top ≡ []
+none [] is = refl
+none (c ∷ top) is = absurd (omega arith)
+
+-- where none are on top
+pub one_less_low : (low top : List Cell) (k : ℕ) → length top ≡ 0 → 0 < length (low ++ top) → k ≡ length low - 1
+    → take (length (low ++ top) - 1) (low ++ top) ≡ take k low ++ top
+one_less_low low top k empty some is =
+    less_low low top 1 k (omega (arith, empty)) some (omega (arith, empty, is)) ∙ ap (λ (t : List Cell). take k low ++ t) (sym (none top empty))
+
+-- copies that are put last, of those from a place on
+pub no_copies : (old : List Cell) (first place : ℕ) → place ≡ first → old ≡ old ++ take (place - first) (drop first old)
+no_copies old first place is =
+    let zero : 0 ≡ place - first = omega (arith, is) in
+    sym (append-nil old) ∙ ap (λ (k : ℕ). old ++ take k (drop first old)) zero
+
+pub one_copy : (old now : List Cell) (first place : ℕ) (cell : Cell) → now ≡ old ++ take (place - first) (drop first old)
+    → first ≤ place → place < length old → slice_get now place ≡ Some cell
+    → now ++ cell ∷ [] ≡ old ++ take (place + 1 - first) (drop first old)
+one_copy old now first place cell is over inside here =
+    let k = place - first in
+    let at : first + k ≡ place = omega (arith, over) in
+    let next : k + 1 ≡ place + 1 - first = omega (arith, over) in
+    let size : length (drop first old) ≡ length old - first = length-drop first old in
+    let less : k < length (drop first old) = omega (arith, size, over, inside) in
+    let found : slice_get (drop first old) k ≡ Some cell =
+    get_dropped first old k ∙ ap (slice_get old) at ∙ sym (got_low old (take k (drop first old)) place inside)
+    ∙ ap (λ (t : List Cell). slice_get t place) (sym is) ∙ here in
+    let item : cell ≡ get_or (drop first old) k cell = same (sym (slice_get-get_or (drop first old) k cell less) ∙ found) in
+    ap (λ (t : List Cell). t ++ cell ∷ []) is
+    ∙ append_assoc old (take k (drop first old)) (cell ∷ [])
+    ∙ ap (λ (t : List Cell). old ++ t) (ap (λ (c : Cell). take k (drop first old) ++ c ∷ []) item ∙ sym (take_more (drop first old) k cell less))
+    ∙ ap (λ (n : ℕ). old ++ take n (drop first old)) next
+  where
+    same : {c d : Cell} → Some c ≡ Some d → d ≡ c
+    same e = cc
+
+pub copies_longer : (old now : List Cell) (first place : ℕ) → now ≡ old ++ take (place - first) (drop first old) → place < length old → place < length now
+copies_longer old now first place is inside =
+    let size = ap length is ∙ length-append old (take (place - first) (drop first old)) in
+    omega (arith, size, inside)
+
+pub one_item : (old now : List Cell) (first place : ℕ) (cell : Cell) → now ≡ old ++ take (place - first) (drop first old)
+    → first ≤ place → place < length old → cell ≡ get_or now place cell
+    → now ++ cell ∷ [] ≡ old ++ take (place + 1 - first) (drop first old)
+one_item old now first place cell is over inside here =
+    one_copy old now first place cell is over inside
+    (slice_get-get_or now place cell (copies_longer old now first place is inside) ∙ ap Some (sym here))
+
+pub all_copies : (old now : List Cell) (first place count : ℕ) → now ≡ old ++ take (place - first) (drop first old)
+    → place ≡ first + count → now ≡ old ++ take count (drop first old)
+all_copies old now first place count is end =
+    let same : place - first ≡ count = omega (arith, end) in
+    is ∙ ap (λ (k : ℕ). old ++ take k (drop first old)) same
+
+pub run_on_top : (low top : List Cell) (above count k : ℕ) → above + count ≤ length top → k ≡ length top - (above + count)
+    → low ++ (top ++ take count (drop k top)) ≡ (low ++ top) ++ take count (drop (length (low ++ top) - (above + count)) (low ++ top))
+run_on_top low top above count k inside is =
+    let size = length-append low top in
+    let from : length (low ++ top) - (above + count) ≡ length low + k = omega (arith, size, inside, is) in
+    let behind : drop (length (low ++ top) - (above + count)) (low ++ top) ≡ drop k top =
+    ap (λ (n : ℕ). drop n (low ++ top)) from ∙ sym (drop-drop k (length low) (low ++ top)) ∙ ap (drop k) (drop_at low top (length low) refl) in
+    sym (append_assoc low top (take count (drop k top))) ∙ ap (λ (t : List Cell). (low ++ top) ++ take count t) (sym behind)
+
+pub ruleset each_lemmas = (no_copies, one_copy, copies_longer, all_copies)
+
+pub ruleset copy_lemmas = (no_copies, one_item, copies_longer, all_copies)
+
+pub ruleset run_lemmas = (run_on_top, size_is)
+
+pub ruleset down_lemmas = (down_top, down_low, size_is)
+
+pub ruleset set_down_lemmas = (set_down_top, set_down_low, size_is)
+
+pub ruleset less_lemmas = (less_top, less_low, one_less_low, size_is)
 
 -- what stands on top, or among the lower ones alone
 part_on_top : (low top : List Cell) (from to : ℕ) → length low ≤ from → from ≤ to

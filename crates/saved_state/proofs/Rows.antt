@@ -1,11 +1,12 @@
 -- Pieces in a row: the list that they stand for, and where its cells are.
-use Rattle.std.proofs.Common.{◌≡◌, ◌<◌, ◌≤◌, ◌+◌, ◌-◌, ◌++◌, ◌∷◌, [], ℕ, zero, suc, List, length, take, drop, set, get_or, slice_get, min, Result, Ok, Err, refl, sym, ap, subst, ◌∙◌, arith, append_assoc}
+use Rattle.std.proofs.Common.{◌≡◌, ◌<◌, ◌≤◌, ◌+◌, ◌-◌, ◌++◌, ◌∷◌, [], ℕ, zero, suc, List, length, take, drop, set, get_or, slice_get, min, Some, Result, Ok, Err, refl, sym, ap, subst, ◌∙◌, arith, append_assoc}
 use Rattle.std.proofs.lemmas.List.{length-append, append-nil, take_more, length-set, get_or_default, set-append_left, set-append_right, drop_all, length_push, take-append-le, take-append-drop, take-take, take_all, length-take, length-take-le, get_or-take, take_min, set-get_or}
+use Rattle.std.proofs.lemmas.Option.{slice_get-get_or}
 use Rattle.std.proofs.Math.Seq.{take-append-add}
 use Rattle.std.specs.Prelude.{OnOk, OnErr}
 use Rattle.saved_state.proofs.Lists.{get_front, get_behind}
 use Rattle.saved_state.specs.declared.cell.Cell.{Cell}
-use Rattle.saved_state.specs.Pages.{Part, flat, AreStacked, IsInPiece, IsPlace, IsRow}
+use Rattle.saved_state.specs.Pages.{Part, flat, page_limit, AreStacked, IsFull, IsInPiece, IsPlace, IsRow}
 
 -- ---- rows in a row
 
@@ -354,3 +355,21 @@ row_set (Err e) len place k i ps p q new ok err row found is = same_row len k ps
 pub ruleset search_steps = (between_whole, between_upper, between_lower, between_one)
 
 pub ruleset part_steps = (between_none, between_more, between_all)
+
+-- the last page
+pub none_full : (parts : List Part) → 0 ≡ length parts → IsFull parts
+none_full parts empty k part last is = absurd (omega (arith, empty, last))
+
+pub last_full : (parts : List Part) (n : ℕ) (p : Part) → n ≡ length parts → 0 < n → p ≡ get_or parts (n - 1) p → page_limit ≤ length p.cells → IsFull parts
+last_full parts n p size some here long k part last is =
+    let at : n - 1 ≡ k = omega (arith, size, last) in
+    let less : k < length parts = omega (arith, last) in
+    let same : Some p ≡ Some part =
+    ap Some here ∙ ap (λ (i : ℕ). Some (get_or parts i p)) at ∙ sym (slice_get-get_or parts k p less)
+    ∙ slice_get-get_or parts k part less ∙ ap Some (sym is) in
+    subst (λ (q : Part). page_limit ≤ length q.cells) (inner same) long
+  where
+    inner : {p q : Part} → Some p ≡ Some q → p ≡ q
+    inner e = cc
+
+pub ruleset full_lemmas = (none_full, last_full)

@@ -8,7 +8,7 @@ use Rattle.saved_state.specs.Cells.{StackView, with_cell, cells_beneath, capture
 use Rattle.saved_state.proofs.Lists.{drop_reversed}
 use Rattle.saved_state.proofs.Places.{part_is, put_is, top_is}
 
-abbrev seen : List Cell → ℕ → StackView
+abbrev pub seen : List Cell → ℕ → StackView
 seen cells bp = record { cells = reverse cells; bp = bp }
 
 abbrev made : ℕ → ℕ → List Cell → List Cell → Saved

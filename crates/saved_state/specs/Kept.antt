@@ -1,5 +1,5 @@
 -- A list of cells, wherever it has them. No public clause speaks of it.
-use Rattle.std.specs.Prelude.{List}
+use Rattle.std.specs.Prelude.{ℕ, List, ◌≤◌, length}
 use Rattle.saved_state.specs.declared.cell.Cell.{Cell}
 use Rattle.saved_state.specs.declared.cells.Kept.{Kept}
 use Rattle.saved_state.specs.declared.cells.Kept.TheVariants.{Own, Shared}
@@ -7,3 +7,11 @@ use Rattle.saved_state.specs.declared.cells.Kept.TheVariants.{Own, Shared}
 abbrev pub listed : Kept → List Cell
 listed (Own cells) = cells.items
 listed (Shared cells) = cells
+
+-- how many cells are copied at most, where their pages could be shared
+abbrev pub few_limit : ℕ
+few_limit = 16
+
+abbrev pub OwnsFew : Kept → Type 0
+OwnsFew (Own cells) = length cells.items ≤ few_limit
+OwnsFew (Shared cells) = Unit {0}

@@ -48,3 +48,7 @@ pub record IsRow (len : ℕ) (parts : List Part) : Type 0 where
 pub record IsTopWithRoom (k : ℕ) (parts : List Part) : Type 0 where
   pub last : k + 1 ≡ length parts
   pub room : (part : Part) → part ≡ get_or parts k part → length part.cells < page_limit
+
+-- the last page has no room for more cells
+abbrev pub IsFull : List Part → Type 0
+IsFull parts = (k : ℕ) (part : Part) → k + 1 ≡ length parts → part ≡ get_or parts k part → page_limit ≤ length part.cells

@@ -7,10 +7,12 @@
 //!
 //! Promised: each call changes just what its clause says, [`Stack::capture`] gives lists that no
 //! later write or drop reaches, and [`resume`] makes the stack with which a captured state begins
-//! to run. Want of memory is the one error, and leaves a stack as it was.
+//! to run. Want of memory is the one error, and leaves a stack as it was, but for
+//! [`Stack::push_copies`], which may leave some of the copies.
 //!
 //! A list of cells is kept as pieces of pages, which stacks and states share: to capture copies a
-//! few cells at most, and who writes to a shared page copies it first. No contract speaks of pages.
+//! few cells at most, and who writes to a shared page copies it first. No public contract speaks of
+//! pages.
 //!
 //! `docs/STATE.md` tells how code captures and resumes, what a call costs, and what this project
 //! chose.

@@ -1,7 +1,8 @@
 ghost use Rattle.std.specs.Prelude.{◌≡◌, ◌<◌, ◌≤◌, [], ◌∷◌, ◌++◌, ◌-◌, length, take, drop};
-ghost use Rattle.std.specs.Prelude.{slice_get, slice_set, Some, IfSome, OnOk, OnErr, IfOk};
+ghost use Rattle.std.specs.Prelude.{slice_get, slice_set, Some, IfSome, IfNone, OnOk, OnErr, IfOk};
 ghost use Rattle.std.specs.Option.{option_copied};
-ghost use Rattle.saved_state.specs.Pages.{flat, AreStacked, IsInPiece, IsPlace, IsTopWithRoom};
+ghost use Rattle.saved_state.specs.Pages.{flat, AreStacked, IsFull, IsInPiece, IsPlace};
+ghost use Rattle.saved_state.specs.Pages.{IsTopWithRoom};
 
 use crate::cell::Cell;
 use crate::piece::{PAGE_CELLS, Piece};
@@ -229,8 +230,10 @@ impl Pages {
 }
 
 /// The last piece, where it has fewer cells than a page can have.
+#[tactic(auto, using(crate::proofs::Rows::full_lemmas))]
 fn top_with_room(pieces: &[Piece]) -> Option<usize>
     ensures top { IfSome result (λ k. IsTopWithRoom k pieces.now) }
+    ensures full { IfNone result (IsFull pieces.now) }
 {
     match pieces.len() {
         0 => None,

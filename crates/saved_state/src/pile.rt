@@ -1,6 +1,10 @@
 ghost use Rattle.std.specs.Prelude.{◌≡◌, ◌<◌, ◌≤◌, ◌-◌, [], ◌∷◌, ◌++◌, length, take, drop};
 ghost use Rattle.std.specs.Prelude.{slice_get};
-ghost use Rattle.std.specs.Prelude.{slice_set, Some, OnOk, OnErr, IfOk};
+ghost use Rattle.std.specs.Prelude.{slice_set, Some, OnOk, OnErr, IfOk, ◌+◌, ◌^◌};
+ghost use Rattle.std.specs.Vec.{vec_len, vec_capacity};
+ghost use Rattle.saved_state.specs.Kept.{OwnsFew, listed};
+ghost use Rattle.nwq_value.specs.declared.value.Value.TheVariants.{Int as IntValue};
+ghost use Rattle.saved_state.specs.declared.cell.Cell.TheVariants.{Value as ValueCell};
 
 use crate::cell::Cell;
 use crate::cells::{Cells, Kept};
@@ -11,28 +15,34 @@ use std::alloc::Global;
 use std::marker::Model;
 use std::mem;
 
+/// The most cells that the pages of a pile hold, so that lengths can be added.
+const MOST_LOW: usize = 0x4000_0000_0000_0000;
+
+/// The most cells that are copied where their pages could be shared: to make pages of so few, and
+/// copies of these once they are written, takes longer.
+const FEW: usize = 16;
+
 /// Cells of which the topmost are in a list that nobody shares, so that a push or a drop there is
 /// no more than a comparison and a store.
 pub struct Pile {
     low: Pages,
     top: Vec<Cell>,
-    len: usize,
 }
 
 impl Model for Pile {
-    ghost use Rattle.std.specs.Prelude.{List, ◌≡◌, ◌+◌, ◌++◌, length};
+    ghost use Rattle.std.specs.Prelude.{List, ◌<◌, ◌^◌, ◌++◌, length};
     ghost use Rattle.saved_state.specs.declared.cell.Cell.{Cell};
 
     ghost Value = { List Cell };
 
     ghost view = { λ p. p.low ++ p.top.items };
 
-    ghost invariant = { λ p. p.len ≡ length p.low + length p.top.items };
+    ghost invariant = { λ p. length p.low < 2 ^ 62 };
 }
 
 impl Drop for Pile {
     fn drop(self) {
-        let Pile { low, top, len: _ } = self;
+        let Pile { low, top } = self;
         drop(low);
         drop(top);
     }
@@ -46,7 +56,6 @@ impl Pile {
         Pile {
             low: Pages::new(alloc),
             top: Vec::new(alloc),
-            len: 0,
         }
     }
 
@@ -56,12 +65,21 @@ impl Pile {
     {
         match cells.kept {
             Kept::Own(cells) => Pile::of_own(cells),
-            Kept::Shared(low) => {
-                let len = low.len();
-                let top = Vec::with_capacity(low.allocator(), FEW)?;
-                Ok(Pile { low, top, len })
-            }
+            Kept::Shared(low) => Pile::of_pages(low),
         }
+    }
+
+    /// The cells of these pages, which stay where they are.
+    #[tactic(auto, using(crate::proofs::Piles::alone))]
+    fn of_pages(low: Pages) -> Result<Pile, NoMemory>
+        ensures cells { IfOk result (λ pile. pile ≡ low) }
+    {
+        if low.len() >= MOST_LOW {
+            drop(low);
+            return Err(NoMemory);
+        }
+        let top = Vec::with_capacity(low.allocator(), FEW)?;
+        Ok(Pile { low, top })
     }
 
     /// The cells are moved, since a list that grows costs more than a new one.
@@ -72,8 +90,7 @@ impl Pile {
         let mut top = Vec::with_capacity(*cells.allocator(), FEW)?;
         top.append(&mut cells)?;
         let low = Pages::new(*top.allocator());
-        let len = top.len();
-        Ok(Pile { low, top, len })
+        Ok(Pile { low, top })
     }
 
     /// How many cells there are.
@@ -82,22 +99,60 @@ impl Pile {
     pub fn len(&self) -> usize
         ensures count { result ≡ length self.now }
     {
-        self.len
+        self.low.len() + self.top.len()
     }
 
     /// Puts a cell on top. After `NoMemory` it is dropped and the cells are as before.
     #[inline(always)]
-    #[tactic(auto, using(crate::proofs::Piles::pushed_is, crate::proofs::Piles::pushed_size))]
+    #[tactic(auto, using(crate::proofs::Piles::pushed_is))]
     pub fn push(&mut self, cell: Cell) -> Result<(), NoMemory>
         ensures ok { OnOk result (self.new ≡ self.old ++ cell ∷ []) }
         ensures err { OnErr result (self.new ≡ self.old) }
     {
-        let Some(len) = self.len.checked_add(1) else {
-            drop(cell);
-            return Err(NoMemory);
-        };
-        self.top.push(cell)?;
-        self.len = len;
+        if self.top.len() == self.top.capacity() {
+            match make_room(&mut self.top, 1) {
+                Ok(()) => {}
+                Err(error) => {
+                    let_go(cell);
+                    return Err(error);
+                }
+            }
+        }
+        self.top.push_reserved(cell);
+        Ok(())
+    }
+
+    /// Puts copies of so many cells on top, over which so many others lie. After `NoMemory` some of
+    /// them may be there.
+    #[inline(never)]
+    #[tactic(auto, using(crate::proofs::Piles::run_lemmas))]
+    pub fn push_copies(&mut self, above: usize, count: usize) -> Result<(), NoMemory>
+        requires inside { above + count ≤ length self.old }
+        ensures ok { OnOk result (self.new ≡ self.old
+            ++ take count (drop (length self.old - (above + count)) self.old)) }
+    {
+        let all = self.top.len();
+        let len = self.len();
+        if above + count <= all {
+            make_room(&mut self.top, count)?;
+            copy_up(&mut self.top, all - (above + count), count)
+        } else {
+            self.push_each(len - (above + count), count)
+        }
+    }
+
+    /// The same one by one, from a place on.
+    #[tactic(auto, using(crate::proofs::Piles::each_lemmas))]
+    fn push_each(&mut self, first: usize, count: usize) -> Result<(), NoMemory>
+        requires inside { first + count ≤ length self.old }
+        ensures ok { OnOk result (self.new ≡ self.old ++ take count (drop first self.old)) }
+    {
+        let alloc = self.low.allocator();
+        let len = self.len();
+        for place in first..first + count {
+            let copy = self.at(place).copy(alloc)?;
+            self.push(copy)?;
+        }
         Ok(())
     }
 
@@ -114,6 +169,30 @@ impl Pile {
         } else {
             self.low.at(place)
         }
+    }
+
+    /// The cell over which so many others lie.
+    #[inline(always)]
+    #[tactic(auto, using(crate::proofs::Piles::down_lemmas))]
+    pub fn down(&self, depth: usize) -> &Cell
+        requires inside { depth < length self.now }
+        ensures cell { slice_get self.now (length self.now - 1 - depth) ≡ Some result.now }
+    {
+        let count = self.top.len();
+        if depth < count {
+            &self.top[count - 1 - depth]
+        } else {
+            self.down_apart(depth)
+        }
+    }
+
+    /// The same by a call of its own, so that the way of cells on top stays short.
+    #[inline(never)]
+    fn down_apart(&self, depth: usize) -> &Cell
+        requires inside { depth < length self.now }
+        ensures cell { slice_get self.now (length self.now - 1 - depth) ≡ Some result.now }
+    {
+        self.at(self.len() - 1 - depth)
     }
 
     /// Replaces the cell at a place. After `NoMemory` the new one is dropped and the cells are as
@@ -134,21 +213,65 @@ impl Pile {
         }
     }
 
-    /// Drops all cells but the `n` lowest.
+    /// Replaces the cell over which so many others lie, in the same way.
     #[inline(always)]
-    #[tactic(auto, using(crate::proofs::Piles::kept_lemmas))]
-    pub fn truncate(&mut self, n: usize)
-        requires inside { n ≤ length self.old }
-        ensures kept { self.new ≡ take n self.old }
+    #[tactic(auto, using(crate::proofs::Piles::set_down_lemmas))]
+    pub fn set_down(&mut self, depth: usize, cell: Cell) -> Result<(), NoMemory>
+        requires inside { depth < length self.old }
+        ensures ok { OnOk result
+            (self.new ≡ slice_set self.old (length self.old - 1 - depth) cell) }
+        ensures err { OnErr result (self.new ≡ self.old) }
     {
-        let low = self.low.len();
-        if low <= n {
-            keep_first(&mut self.top, n - low);
+        let count = self.top.len();
+        if depth < count {
+            put_over(&mut self.top, count - 1 - depth, cell);
+            Ok(())
         } else {
-            self.top.clear();
-            self.low.truncate(n);
+            self.set_apart(depth, cell)
         }
-        self.len = n;
+    }
+
+    /// The same by a call of its own.
+    #[inline(never)]
+    fn set_apart(&mut self, depth: usize, cell: Cell) -> Result<(), NoMemory>
+        requires inside { depth < length self.old }
+        ensures ok { OnOk result
+            (self.new ≡ slice_set self.old (length self.old - 1 - depth) cell) }
+        ensures err { OnErr result (self.new ≡ self.old) }
+    {
+        let place = self.len() - 1 - depth;
+        self.set(place, cell)
+    }
+
+    /// Drops the topmost cell.
+    #[inline(always)]
+    #[tactic(auto, using(crate::proofs::Piles::less_lemmas))]
+    pub fn drop_one(&mut self)
+        requires some { 0 < length self.old }
+        ensures left { self.new ≡ take (length self.old - 1) self.old }
+    {
+        if self.top.len() > 0 {
+            drop_last(&mut self.top);
+        } else {
+            self.drop_top(1);
+        }
+    }
+
+    /// Drops so many of the topmost cells.
+    #[inline(never)]
+    #[tactic(auto, using(crate::proofs::Piles::less_lemmas))]
+    pub fn drop_top(&mut self, n: usize)
+        requires inside { n ≤ length self.old }
+        ensures left { self.new ≡ take (length self.old - n) self.old }
+    {
+        let count = self.top.len();
+        if n <= count {
+            keep_first(&mut self.top, count - n);
+        } else {
+            let left = self.low.len() - (n - count);
+            self.top.clear();
+            self.low.truncate(left);
+        }
     }
 
     /// Puts the cells of a list last. After `NoMemory` they are dropped.
@@ -160,53 +283,100 @@ impl Pile {
             Kept::Own(cells) => self.move_on_top(cells),
             Kept::Shared(pages) => {
                 settle(&mut self.low, &mut self.top)?;
-                let done = self.low.append(&pages);
-                self.len = self.low.len();
-                done
+                join(&mut self.low, &pages)
             }
         }
     }
 
     /// Moves cells on top. After `NoMemory` they are dropped.
-    #[tactic(auto, using(crate::proofs::Piles::moved_lemmas))]
+    #[tactic(auto, using(crate::proofs::Piles::moved_is))]
     fn move_on_top(&mut self, cells: Vec<Cell>) -> Result<(), NoMemory>
         ensures ok { OnOk result (self.new ≡ self.old ++ cells.items) }
     {
         let mut cells = cells;
-        let Some(len) = self.len.checked_add(cells.len()) else {
-            drop(cells);
-            return Err(NoMemory);
-        };
         self.top.append(&mut cells)?;
-        self.len = len;
         Ok(())
     }
 
     /// The cells from one place up to, and without, another: few of those on top as copies, others
     /// by pages that are shared from now on.
-    #[tactic(auto, using(crate::proofs::Piles::part_lemmas))]
     pub fn part(&mut self, from: usize, to: usize) -> Result<Cells, NoMemory>
         requires order { from ≤ to }
         requires inside { to ≤ length self.old }
         ensures same { self.new ≡ self.old }
         ensures part { IfOk result (λ part. part ≡ drop from (take to self.old)) }
     {
+        let kept = self.kept_part(from, to)?;
+        Ok(Cells { kept })
+    }
+
+    /// The same, as they are kept.
+    #[tactic(auto, using(crate::proofs::Piles::part_lemmas))]
+    fn kept_part(&mut self, from: usize, to: usize) -> Result<Kept, NoMemory>
+        requires order { from ≤ to }
+        requires inside { to ≤ length self.old }
+        ensures same { self.new ≡ self.old }
+        ensures part { IfOk result (λ part. listed part ≡ drop from (take to self.old)) }
+        ensures few { IfOk result OwnsFew }
+    {
         let low = self.low.len();
         if to <= low {
-            return Ok(Cells::shared(self.low.part(from, to)?));
+            return Ok(Kept::Shared(self.low.part(from, to)?));
         }
         if low <= from && to - from <= FEW {
             let alloc = self.low.allocator();
-            return Ok(Cells::own(copies(alloc, &self.top[from - low..to - low])?));
+            return Ok(Kept::Own(copies(alloc, &self.top[from - low..to - low])?));
         }
         settle(&mut self.low, &mut self.top)?;
-        Ok(Cells::shared(self.low.part(from, to)?))
+        Ok(Kept::Shared(self.low.part(from, to)?))
     }
 }
 
-/// The most cells that are copied where their pages could be shared: to make pages of so few, and
-/// copies of these once they are written, takes longer.
-const FEW: usize = 16;
+/// Makes room for so many more cells: a call of its own, since it is rare.
+#[inline(never)]
+fn make_room(top: &mut Vec<Cell>, more: usize) -> Result<(), NoMemory>
+    ensures same { top.new.items ≡ top.old.items }
+    ensures room { OnOk result (vec_len top.new + more ≤ vec_capacity top.new) }
+{
+    top.reserve(more)?;
+    Ok(())
+}
+
+/// Puts copies of so many cells last, from an index on.
+#[tactic(auto, using(crate::proofs::Piles::copy_lemmas))]
+fn copy_up(top: &mut Vec<Cell>, first: usize, count: usize) -> Result<(), NoMemory>
+    requires inside { first + count ≤ length top.old.items }
+    requires room { vec_len top.old + count ≤ vec_capacity top.old }
+    ensures ok { OnOk result
+        (top.new.items ≡ top.old.items ++ take count (drop first top.old.items)) }
+{
+    let alloc = *top.allocator();
+    let len = top.len();
+    for index in first..first + count {
+        let copy = copied(alloc, &top[index])?;
+        top.push_reserved(copy);
+    }
+    Ok(())
+}
+
+/// An equal cell. Most are ints, which are copied here.
+#[inline(always)]
+fn copied(alloc: Global, cell: &Cell) -> Result<Cell, NoMemory>
+    ensures same { IfOk result (λ copy. copy ≡ cell.now) }
+{
+    match cell {
+        Cell::Value(Value::Int(n)) => Ok(Cell::Value(Value::Int(*n))),
+        other => copied_apart(alloc, other),
+    }
+}
+
+/// An equal cell, by a call of its own.
+#[inline(never)]
+fn copied_apart(alloc: Global, cell: &Cell) -> Result<Cell, NoMemory>
+    ensures same { IfOk result (λ copy. copy ≡ cell.now) }
+{
+    cell.copy(alloc)
+}
 
 /// Drops a cell that may own memory: a call of its own, so that the way of ints stays short.
 #[inline(never)]
@@ -214,15 +384,27 @@ fn let_go(cell: Cell) {
     drop(cell);
 }
 
-/// Puts a cell in the place of another one, which is dropped. Nothing is to be done for an int.
+/// Puts a cell in the place of another one, which is dropped.
 #[inline(always)]
 fn put_over(top: &mut Vec<Cell>, index: usize, cell: Cell)
     requires inside { index < length top.old.items }
     ensures put { top.new.items ≡ slice_set top.old.items index cell }
 {
-    match mem::replace(&mut top[index], cell) {
-        Cell::Value(Value::Int(_)) => {}
-        old => let_go(old),
+    match cell {
+        Cell::Value(Value::Int(n)) => put_int(top, index, n),
+        other => let_go(mem::replace(&mut top[index], other)),
+    }
+}
+
+/// Puts an int in the place of a cell. Over another int it is no more than a store.
+#[inline(always)]
+fn put_int(top: &mut Vec<Cell>, index: usize, n: i32)
+    requires inside { index < length top.old.items }
+    ensures put { top.new.items ≡ slice_set top.old.items index (ValueCell (IntValue n)) }
+{
+    match &mut top[index] {
+        Cell::Value(Value::Int(old)) => *old = n,
+        other => let_go(mem::replace(other, Cell::Value(Value::Int(n)))),
     }
 }
 
@@ -232,10 +414,9 @@ fn drop_last(top: &mut Vec<Cell>)
     requires some { 0 < length top.old.items }
     ensures left { top.new.items ≡ take (length top.old.items - 1) top.old.items }
 {
-    match top.pop() {
-        None => {}
-        Some(Cell::Value(Value::Int(_))) => {}
-        Some(cell) => let_go(cell),
+    match top.take_last() {
+        Cell::Value(Value::Int(_)) => {}
+        cell => let_go(cell),
     }
 }
 
@@ -253,15 +434,38 @@ fn keep_first(top: &mut Vec<Cell>, n: usize)
     }
 }
 
+/// Puts the cells of other pages last. After `NoMemory` none are left.
+fn join(low: &mut Pages, more: &Pages) -> Result<(), NoMemory>
+    requires few { length low.old < 2 ^ 62 }
+    ensures few { length low.new < 2 ^ 62 }
+    ensures ok { OnOk result (low.new ≡ low.old ++ more.now) }
+{
+    if more.len() >= MOST_LOW - low.len() {
+        return Err(NoMemory);
+    }
+    match low.append(more) {
+        Ok(()) => Ok(()),
+        Err(error) => {
+            low.truncate(0);
+            Err(error)
+        }
+    }
+}
+
 /// Moves cells onto pages, over those that stand there. After `NoMemory` both are as before.
 #[tactic(auto, using(crate::proofs::Piles::copied_back))]
 fn settle(low: &mut Pages, top: &mut Vec<Cell>) -> Result<(), NoMemory>
+    requires few { length low.old < 2 ^ 62 }
+    ensures few { length low.new < 2 ^ 62 }
     ensures moved { OnOk result (low.new ≡ low.old ++ top.old.items) }
     ensures none { OnOk result (top.new.items ≡ []) }
     ensures low { OnErr result (low.new ≡ low.old) }
     ensures top { OnErr result (top.new.items ≡ top.old.items) }
 {
     let len = low.len();
+    if top.len() >= MOST_LOW - len {
+        return Err(NoMemory);
+    }
     match put_copies(low, top.as_slice()) {
         Ok(()) => {
             top.clear();

@@ -1,5 +1,5 @@
 ghost use Rattle.std.specs.Prelude.{◌≡◌, ◌≢◌, ◌<◌, ◌≤◌, ℕ, Some, [], ◌∷◌, length, drop, OnOk};
-ghost use Rattle.std.specs.Prelude.{OnErr, IfOk};
+ghost use Rattle.std.specs.Prelude.{OnErr, IfOk, slice_get, slice_set, take, ◌+◌, ◌++◌};
 ghost use Rattle.saved_state.specs.Cells.{cell_at, with_cell, captured, resumed};
 ghost use Rattle.saved_state.specs.declared.cell.Cell.TheVariants.{Value as ValueCell};
 ghost use Rattle.saved_state.specs.declared.cell.Cell.TheVariants.{Base as BaseCell};
@@ -55,6 +55,18 @@ impl Stack {
         self.cells.push(cell)
     }
 
+    /// Puts copies of `count` cells on top, in their order: those over which `above` others lie.
+    /// After `NoMemory` some of them may be there.
+    #[inline(always)]
+    pub fn push_copies(&mut self, above: usize, count: usize) -> Result<(), NoMemory>
+        requires inside { above + count ≤ length self.old.cells }
+        ensures ok { OnOk result (self.new ≡ record self.old {
+          cells = take count (drop above self.old.cells) ++ self.old.cells;
+        }) }
+    {
+        self.cells.push_copies(above, count)
+    }
+
     /// How many cells there are: the place of the next one that is pushed.
     #[inline(always)]
     pub fn len(&self) -> usize
@@ -80,14 +92,31 @@ impl Stack {
         self.cells.at(place)
     }
 
+    /// The cell over which so many others lie.
+    #[inline(always)]
+    pub fn down(&self, depth: usize) -> &Cell
+        requires inside { depth < length self.now.cells }
+        ensures cell { slice_get self.now.cells depth ≡ Some result.now }
+    {
+        self.cells.down(depth)
+    }
+
+    /// Drops the topmost cell. BP stays, even where its place is that cell's.
+    #[inline(always)]
+    pub fn drop_one(&mut self)
+        requires some { 0 < length self.old.cells }
+        ensures dropped { self.new ≡ record self.old { cells = drop 1 self.old.cells } }
+    {
+        self.cells.drop_one();
+    }
+
     /// Drops the `n` topmost cells. BP stays, even where its place is among them.
     #[inline(always)]
     pub fn drop_top(&mut self, n: usize)
         requires inside { n ≤ length self.old.cells }
         ensures dropped { self.new ≡ record self.old { cells = drop n self.old.cells } }
     {
-        let left = self.cells.len() - n;
-        self.cells.truncate(left);
+        self.cells.drop_top(n);
     }
 
     /// Puts a value into the cell at a place. After `NoMemory` it is dropped and the stack is as
@@ -101,6 +130,18 @@ impl Stack {
         ensures err { OnErr result (self.new ≡ self.old) }
     {
         self.cells.set(place, Cell::Value(value))
+    }
+
+    /// Puts a value into the cell over which so many others lie, in the same way.
+    #[inline(always)]
+    pub fn set_down(&mut self, depth: usize, value: Value) -> Result<(), NoMemory>
+        requires inside { depth < length self.old.cells }
+        requires no_base { (bp : ℕ) → slice_get self.old.cells depth ≢ Some (BaseCell bp) }
+        ensures ok { OnOk result (self.new
+            ≡ record self.old { cells = slice_set self.old.cells depth (ValueCell value) }) }
+        ensures err { OnErr result (self.new ≡ self.old) }
+    {
+        self.cells.set_down(depth, Cell::Value(value))
     }
 
     /// Sets BP to a place, which may be the one over the top.

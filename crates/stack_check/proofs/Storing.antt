@@ -1,13 +1,11 @@
 -- Stored states.
-use Rattle.std.proofs.Common.{arith, ◌≡◌, ◌≤◌, ◌+◌, ℕ, ℤ, zero, suc, List, [], ◌∷◌, ◌++◌, length, map, Option, None, Some, slice_get, sym, subst, ◌∙◌, ap, refl}
+use Rattle.std.proofs.Common.{arith, ◌≡◌, ◌+◌, ℕ, ℤ, zero, suc, List, [], map, Option, None, Some, slice_get, sym, subst, ◌∙◌, ap, refl}
 use Rattle.std.specs.Prelude.{get_or}
-use Rattle.std.proofs.lemmas.List.{append-nil}
 use Rattle.nwq_value.specs.Engine.{EngineTable}
 use Rattle.ncs_code.specs.Plain.{PlainOp}
 use Rattle.ncs_code.specs.Plain as ops
 use Rattle.ncs_code.specs.File.{jump_place, op_at, resume_place}
 use Rattle.stack_shape.specs.declared.shape.Slot.{Slot}
-use Rattle.stack_shape.specs.declared.shape.Slot.TheVariants.{Of, Base}
 use Rattle.stack_shape.specs.declared.shape.Entry.TheVariants.{Stored}
 use Rattle.stack_shape.specs.declared.store.StoredTypes.{StoredTypes}
 use Rattle.stack_shape.specs.Stored.{TopShape, stored_shape, stored_types}
@@ -17,7 +15,6 @@ use Rattle.stack_rules.specs.Tables.{ShapeTable}
 use Rattle.stack_rules.specs.Rules.{AsksFurther}
 use Rattle.stack_lists.specs.declared.held.Held.{Held}
 use Rattle.stack_lists.specs.declared.held.Heap.{Heap}
-use Rattle.stack_lists.specs.declared.lists.Node.{Node}
 use Rattle.stack_check.specs.declared.facts.Trial.{Trial}
 use Rattle.stack_check.specs.declared.facts.Facts.{Facts}
 use Rattle.stack_check.specs.declared.seen.Seen.{Seen}
@@ -26,15 +23,14 @@ use Rattle.stack_check.specs.declared.leads.Kind.{Kind}
 use Rattle.stack_check.specs.declared.leads.Kind.TheVariants.{Call, Return, Store, Step}
 use Rattle.std.specs.Option.{option_map}
 use Rattle.machine_rules.specs.Act.{next_place}
-use Rattle.stack_lists.specs.Shared.{read, Grows}
-use Rattle.stack_lists.specs.Held.{AllAtMost, HeapGrows, Holds, IsIn, shape_of}
+use Rattle.stack_lists.specs.Shared.{read}
+use Rattle.stack_lists.specs.Held.{AfterStep, HeapGrows, IsIn, shape_of, stored_of}
 use Rattle.stack_lists.specs.Rows.{row_in}
 use Rattle.stack_check.specs.Facts.{FindsMore, current, number_in, trial_table, first_held, callee_of}
-use Rattle.stack_check.specs.Inference.{IsWhole, TrialIn, Takes, Beyond, RowIs, Keeps, Visited, WhereQuiet, Owed, TrialBegins, Sound, Sees, SeesStep, Resumes, IsStored, Stores, IsPlain, IsCall, after_change, kind_of}
-use Rattle.stack_lists.specs.Growth.{heap_then, heap_same, same_shape, read_empty, grows_then, grows_none}
+use Rattle.stack_check.specs.Inference.{IsWhole, TrialIn, Takes, Beyond, RowIs, Keeps, Visited, WhereQuiet, Owed, TrialBegins, Sound, Sees, SeesStep, Resumes, IsStored, Stores, StoresAs, IsPlain, IsCall, after_change, kind_of}
+use Rattle.stack_lists.specs.Growth.{heap_then, heap_same, same_shape, still_shape}
 use Rattle.stack_check.proofs.Windows.{deeper_none}
-use Rattle.stack_check.proofs.Tables.{led_at, whole_over}
-use Rattle.stack_check.proofs.Keeping.{keeps_grows}
+use Rattle.stack_check.proofs.Tables.{led_at, sound_before, whole_over}
 use Rattle.stack_check.proofs.Following.{takes_both}
 use Rattle.stack_check.proofs.Steps.{row_trial, table_follows, no_rule, no_op}
 
@@ -45,31 +41,6 @@ some_is a b h = cc
 
 deeper_empty : (x y : List Slot) (s : TopShape) → x ≡ [] → y ≡ [] → deeper x y s ≡ s
 deeper_empty x y s e f = ap (λ x. deeper x y s) e ∙ ap (λ y. deeper [] y s) f ∙ deeper_none s
-
--- ---- the shape
-
-pub shape_held : (a : Heap) (b c d : List (Node Slot)) (globals base cells : ℕ) (types : StoredTypes) (held : Held) → Grows a.slots b → Grows b c → Grows c d
-    → globals ≤ length b → base ≤ length c → cells ≤ length d → read b globals ≡ map Of types.globals ++ read a.slots 0 → read c base ≡ Base ∷ read b globals
-    → read d cells ≡ map Of types.locals ++ read c base → held ≡ record { cells = cells; under = globals; saved = 0; pending = 0 }
-    → Holds a (record { slots = d; saved = a.saved }) held (stored_shape types)
-shape_held a b c d globals base cells types held g h i gi bi ci gr br cr e =
-    subst (λ held. Holds a (record { slots = d; saved = a.saved }) held (stored_shape types)) (sym e) (record {
-      grows = record { slots = grows_then a.slots b d g (grows_then b c d h i); saved = grows_none a.saved };
-      inside = record {
-        cells = ci;
-        under = let l = h.longer in let m = i.longer in omega (arith, gi, l, m);
-        saved = omega arith;
-        each = subst (λ ns. AllAtMost (length d) ns) (sym (read_empty a.saved)) tt;
-      };
-      is = same_shape _ _ _ _ _ _ _ _
-          (cr ∙ ap (λ z. map Of types.locals ++ z) (br ∙ ap (λ z. Base ∷ z) under_is))
-          ((grows_then b c d h i).same globals gi ∙ under_is) (ap (map (read d)) (read_empty a.saved)) refl;
-    })
-  where
-    under_is : read b globals ≡ map Of types.globals
-    under_is = gr ∙ ap (λ z. map Of types.globals ++ z) (read_empty a.slots) ∙ append-nil (map Of types.globals)
-
-pub ruleset shaping = (shape_held)
 
 -- ---- the trial
 
@@ -138,7 +109,7 @@ stored_takes before after l = l
 
 pub ruleset resuming = (stored_begins, stored_in, stored_owed, stored_quiet)
 
--- ---- a state of some types
+-- ---- equal shapes
 
 pub resumes_is : (header : EngineTable) (code : List PlainOp) (site : ℕ) (a b : TopShape) → b ≡ a → Resumes header code site a → Resumes header code site b
 resumes_is header code site a b e r = record { by = λ table meets. r.by table meets ∙ ap Some (sym e) }
@@ -146,8 +117,6 @@ resumes_is header code site a b e r = record { by = λ table meets. r.by table m
 pub stored_is : (heap : Heap) (facts after : Facts) (site : ℕ) (a b : TopShape) (seen : Seen) → b ≡ a → WhereQuiet seen ((after ≡ facts) × IsStored heap facts site b)
     → WhereQuiet seen ((after ≡ facts) × IsStored heap facts site a)
 stored_is heap facts after site a b seen e q = subst (λ s. WhereQuiet seen ((after ≡ facts) × IsStored heap facts site s)) e q
-
-pub ruleset resumed = (resumes_is, stored_is, keeps_grows)
 
 -- ---- STORE_STATE
 
@@ -233,28 +202,70 @@ store_changed header code a b c facts mid facts' n p held op P seen now first g 
     at Changed v t = record { grows = heap_then a b c first.grows g; keeps = v; quiet = tt; takes = t }
     at Bad v t = record { grows = heap_then a b c first.grows g; keeps = v; quiet = tt; takes = tt }
 
-pub ruleset storing = (stored_resumes, store_bad, store_quiet, store_changed)
+-- with the shape that was made before the step
+pub store_held : StoresLookFromTop → (header : EngineTable) (code : List PlainOp) (a b : Heap) (facts mid facts' : Facts) (n p : ℕ) (held stored : Held)
+    (op : PlainOp) (seen : Seen) → Keeps header code a facts → StoresAs op (shape_of a held) (shape_of a stored) → IsIn a stored
+    → SeesStep header code a b facts mid n p held op Quiet → Visited header code b facts' seen
+    → WhereQuiet seen ((facts' ≡ mid) × IsStored b mid p (shape_of b stored)) → Takes mid facts' seen → Sees header code a b facts facts' n p held seen
+store_held law header code a b facts mid facts' n p held stored op seen k s i first v q t =
+    store_quiet law header code a b b facts mid facts' n p held op s.types seen k s.stores first (heap_same b) v
+    (stored_is b mid facts' p (stored_shape s.types) (shape_of b stored) seen (still_shape a b stored first.grows i ∙ s.is) q) t
+
+pub held_resumes : StoresLookFromTop → (header : EngineTable) (code : List PlainOp) (a b : Heap) (facts : Facts) (n p : ℕ) (held stored : Held) (op : PlainOp)
+    → Keeps header code a facts → row_in facts.rows n p ≡ Some held → op_at code p ≡ Some op → StoresAs op (shape_of a held) (shape_of a stored)
+    → IsIn a stored → HeapGrows a b → Resumes header code p (shape_of b stored)
+held_resumes law header code a b facts n p held stored op k r stands s i g =
+    resumes_is header code p (stored_shape s.types) (shape_of b stored) (still_shape a b stored g i ∙ s.is)
+    (stored_resumes law header code a facts n p held op s.types k r stands s.stores)
+
+pub ruleset storing = (store_bad, store_changed)
 
 stored_none : (header : EngineTable) (op : PlainOp) (globals locals : ℕ) (s : TopShape) → op ≡ ops.StoreState globals locals
     → None ≡ stored_types globals locals s.under s.cells → rule header op s ≡ None
 unfolding rule
 stored_none header op globals locals s e h = ap (λ o. rule header o s) e ∙ ap (option_map (λ t. record s { pending = s.pending + 1 })) (sym h)
 
-pub stores_none : RuleLooksFromTop → (header : EngineTable) (code : List PlainOp) (heap : Heap) (facts : Facts) (n p : ℕ) (held : Held) (op : PlainOp)
-    (globals locals : ℕ) → Keeps header code heap facts → row_in facts.rows n p ≡ Some held → op_at code p ≡ Some op → op ≡ ops.StoreState globals locals
-    → None ≡ stored_types globals locals (read heap.slots held.under) (read heap.slots held.cells) → Sees header code heap heap facts facts n p held Bad
-stores_none law header code heap facts n p held op globals locals k r stands e h = record {
-  grows = heap_same heap;
-  keeps = no_rule law header code heap facts n p held op k r stands (subst (λ o. IsOneStep o) (sym e) tt) (stored_none header op globals locals (shape_of heap held) e h);
+no_types : (o : Option StoredTypes) → option_map stored_shape o ≡ None → None ≡ o
+no_types None h = refl
+no_types (Some t) h = absurd cc
+
+pub stores_none : RuleLooksFromTop → (header : EngineTable) (code : List PlainOp) (a b : Heap) (facts : Facts) (n p : ℕ) (held : Held) (op : PlainOp)
+    (globals locals : ℕ) → Keeps header code a facts → row_in facts.rows n p ≡ Some held → op_at code p ≡ Some op → op ≡ ops.StoreState globals locals
+    → HeapGrows a b × (option_map stored_shape (stored_of globals locals (shape_of a held)) ≡ None) → Sees header code a b facts facts n p held Bad
+stores_none law header code a b facts n p held op globals locals k r stands e h = record {
+  grows = h.0;
+  keeps = no_rule law header code a facts n p held op k r stands (subst (λ o. IsOneStep o) (sym e) tt)
+      (stored_none header op globals locals (shape_of a held) e (no_types (stored_of globals locals (shape_of a held)) h.1));
   quiet = tt;
   takes = tt;
 }
 
-pub stores_some : (heap : Heap) (held : Held) (op : PlainOp) (globals locals : ℕ) (types : StoredTypes) → op ≡ ops.StoreState globals locals
-    → Some types ≡ stored_types globals locals (read heap.slots held.under) (read heap.slots held.cells) → Stores op (shape_of heap held) types
-stores_some heap held op globals locals types e h = subst (λ o. Stores o (shape_of heap held) types) (sym e) (sym h)
+stores_types : (o : Option StoredTypes) (resumed : TopShape) → option_map stored_shape o ≡ Some resumed → (t : StoredTypes) × (o ≡ Some t) × (resumed ≡ stored_shape t)
+stores_types None resumed h = absurd cc
+stores_types (Some t) resumed h = (t, refl, sym (some_is (stored_shape t) resumed h))
 
-pub ruleset stores_bad = (stores_none, stores_some)
+pub stores_as : (a b : Heap) (held stored : Held) (op : PlainOp) (globals locals : ℕ) → IsIn a held → op ≡ ops.StoreState globals locals
+    → AfterStep a b (Some stored) (option_map stored_shape (stored_of globals locals (shape_of a held)))
+    → StoresAs op (shape_of b held) (shape_of b stored)
+stores_as a b held stored op globals locals i e h =
+    let t = stores_types (stored_of globals locals (shape_of a held)) (shape_of b stored) h.2 in
+    record {
+      types = t.0;
+      stores = subst (λ o. Stores o (shape_of b held) t.0) (sym e) (ap (stored_of globals locals) (still_shape a b held h.0 i) ∙ t.1);
+      is = t.2;
+    }
+
+pub sees_before : (header : EngineTable) (code : List PlainOp) (a b c : Heap) (facts facts' : Facts) (n p : ℕ) (held : Held) (seen : Seen)
+    → Keeps header code a facts → row_in facts.rows n p ≡ Some held → HeapGrows a b → Sees header code b c facts facts' n p held seen
+    → Sees header code a c facts facts' n p held seen
+sees_before header code a b c facts facts' n p held seen k r g s =
+    record { grows = heap_then a b c g s.grows; keeps = s.keeps; quiet = quiet seen s.quiet; takes = s.takes }
+  where
+    quiet : (seen : Seen) → WhereQuiet seen ((facts' ≡ facts) × Sound header code b facts n p held)
+        → WhereQuiet seen ((facts' ≡ facts) × Sound header code a facts n p held)
+    quiet Quiet q = (q.0, sound_before header code a b facts n p held k g r q.1)
+    quiet Changed q = tt
+    quiet Bad q = tt
 
 pub trial_none : (header : EngineTable) (code : List PlainOp) (heap : Heap) (facts : Facts) (n p : ℕ) (held : Held) → Keeps header code heap facts
     → row_in facts.rows n p ≡ Some held → None ≡ slice_get facts.trials n → ⊥
@@ -339,9 +350,3 @@ pub no_op_bad : (header : EngineTable) (code : List PlainOp) (heap : Heap) (fact
     → row_in facts.rows n p ≡ Some held → op_at code p ≡ None → Sees header code heap heap facts facts n p held Bad
 no_op_bad header code heap facts n p held k r none =
     record { grows = heap_same heap; keeps = no_op header code heap facts n p held k r none; quiet = tt; takes = tt }
-
-pub types_on_tops : (o : Option StoredTypes) (globals locals : ℕ) (l m n : List (Node Slot)) (u v a b : ℕ) → o ≡ stored_types globals locals (read l u) (read m v)
-    → l ≡ n → u ≡ a → m ≡ n → v ≡ b → o ≡ stored_types globals locals (read n a) (read n b)
-types_on_tops o globals locals l m n u v a b h e f i j =
-    h ∙ ap (λ l. stored_types globals locals (read l u) (read m v)) e ∙ ap (λ u. stored_types globals locals (read n u) (read m v)) f
-    ∙ ap (λ m. stored_types globals locals (read n a) (read m v)) i ∙ ap (λ v. stored_types globals locals (read n a) (read n v)) j

@@ -9,7 +9,7 @@ use Rattle.stack_shape.specs.declared.shape.Slot.{Slot}
 use Rattle.stack_shape.specs.declared.shape.Entry.{Entry}
 use Rattle.stack_shape.specs.declared.shape.Entry.TheVariants.{Start, Called, Stored}
 use Rattle.stack_shape.specs.declared.store.StoredTypes.{StoredTypes}
-use Rattle.stack_shape.specs.Stored.{TopShape, stored_types}
+use Rattle.stack_shape.specs.Stored.{TopShape, stored_shape, stored_types}
 use Rattle.stack_shape.specs.Laws.{deeper}
 use Rattle.stack_shape.specs.declared.reach.Reach.{Reach}
 use Rattle.stack_rules.specs.Tables.{Callee, ShapeTable}
@@ -406,6 +406,12 @@ pub record IsStored (heap : Heap) (facts : Facts) (site : ℕ) (shape : TopShape
 abbrev pub Stores : PlainOp → TopShape → StoredTypes → Type 0
 Stores (ops.StoreState globals locals) shape types = stored_types globals locals shape.under shape.cells ≡ Some types
 Stores op shape types = ⊥
+
+-- and this is the shape with which the state resumes
+pub record StoresAs (op : PlainOp) (shape resumed : TopShape) : Type 0 where
+  pub types : StoredTypes
+  pub stores : Stores op shape types
+  pub is : resumed ≡ stored_shape types
 
 -- ---- kinds of instructions
 

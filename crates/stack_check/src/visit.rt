@@ -5,14 +5,12 @@ ghost use Rattle.ncs_code.specs.File.{op_at};
 ghost use Rattle.ncs_code.specs.Spelling.{op_size};
 ghost use Rattle.machine_rules.specs.Act.{next_place};
 ghost use Rattle.stack_shape.specs.Rule.{IsOneStep};
-ghost use Rattle.stack_shape.specs.Stored.{stored_shape, stored_types};
 ghost use Rattle.stack_shape.specs.declared.shape.Entry.TheVariants.{Stored};
-ghost use Rattle.stack_shape.specs.declared.shape.Slot.TheVariants.{Base};
-ghost use Rattle.stack_lists.specs.Held.{HeapGrows, Holds, IsIn, shape_of};
+ghost use Rattle.stack_lists.specs.Held.{IsIn, shape_of};
 ghost use Rattle.stack_lists.specs.Rows.{row_in};
 ghost use Rattle.stack_check.specs.Facts.{current};
 ghost use Rattle.stack_check.specs.Inference.{IsPlain, IsStored, Keeps, NothingNew, Resumes, Sees};
-ghost use Rattle.stack_check.specs.Inference.{SeesStep, Stores, Takes, Visited, WhereQuiet};
+ghost use Rattle.stack_check.specs.Inference.{SeesStep, StoresAs, Takes, Visited, WhereQuiet};
 ghost use Rattle.stack_check.specs.Inference.{leads_of};
 
 use crate::calls::{FoundCall, call};
@@ -26,10 +24,8 @@ use crate::seen::Seen;
 use ncs_code::{Op, place_laws};
 use ncs_file::Code;
 use nwq_value::NoMemory;
-use stack_lists::{Heap, Held, Spot, Todo, put_types, step, top};
-use stack_shape::{
-    Entry, Slot, StoredTypes, reach_of, rules_look_from_the_top, rules_look_no_deeper, stored_types,
-};
+use stack_lists::{Heap, Held, Spot, Todo, resumed, step};
+use stack_shape::{Entry, reach_of, rules_look_from_the_top, rules_look_no_deeper};
 use std::alloc::Global;
 
 /// An instruction with a rule of one shape, but for what it stores.
@@ -68,23 +64,6 @@ fn visit_step(
             Ok(seen)
         }
     }
-}
-
-/// The shape with which a stored state resumes.
-#[tactic(auto, using(crate::proofs::Storing::shaping))]
-fn hold_stored(heap: &mut Heap, types: &StoredTypes) -> Result<Held, NoMemory>
-    ensures held { IfOk result (λ held. Holds heap.old heap.new held (stored_shape types.now)) }
-    ensures first { IfOk result (λ held. (held.saved ≡ 0) × (held.pending ≡ 0)) }
-{
-    let globals = put_types(&mut heap.slots, 0, types.globals.as_slice())?;
-    let base = heap.slots.push(globals, Slot::Base)?;
-    let cells = put_types(&mut heap.slots, base, types.locals.as_slice())?;
-    Ok(Held {
-        cells,
-        under: globals,
-        saved: 0,
-        pending: 0,
-    })
 }
 
 /// The trial that counts for what is stored at a place.
@@ -142,33 +121,7 @@ fn resume(
     }
 }
 
-/// Stores a state of these types at a place.
-#[tactic(auto, using(crate::proofs::Storing::resumed))]
-fn store(
-    judged: &Judged<'_>,
-    heap: &mut Heap,
-    facts: &mut Facts,
-    todo: &mut Todo,
-    site: u32,
-    types: &StoredTypes,
-) -> Result<Seen, NoMemory>
-    requires keeps { Keeps judged.now.table.now judged.now.code.now heap.old facts.old }
-    requires owed { Resumes judged.now.table.now judged.now.code.now site (stored_shape types.now) }
-    requires bound { site < 2 ^ 31 }
-    ensures grows { IfOk result (λ _. HeapGrows heap.old heap.new) }
-    ensures keeps { IfOk result (λ seen. Visited judged.now.table.now judged.now.code.now heap.new
-        facts.new seen) }
-    ensures takes { IfOk result (λ seen. Takes facts.old facts.new seen) }
-    ensures quiet { IfOk result (λ seen. WhereQuiet seen ((facts.new ≡ facts.old)
-        × IsStored heap.new facts.old site (stored_shape types.now))) }
-    ensures waits { IfOk result (λ seen. NothingNew todo.old todo.new seen) }
-{
-    let held = hold_stored(heap, types)?;
-    let seen = resume(judged, heap, facts, todo, site, held)?;
-    Ok(seen)
-}
-
-/// STORE_STATE, of a state of these types.
+/// STORE_STATE, of a state that resumes with this shape.
 #[tactic(auto, using(crate::proofs::Storing::storing, crate::proofs::Following::handing))]
 fn visit_store(
     alloc: Global,
@@ -177,13 +130,16 @@ fn visit_store(
     facts: &mut Facts,
     todo: &mut Todo,
     at: &FoundOp<'_>,
-    types: &StoredTypes,
+    stored: Held,
 ) -> Result<Seen, NoMemory>
     requires keeps { Keeps judged.now.table.now judged.now.code.now heap.old facts.old }
     requires row { row_in facts.old.rows at.now.from.trial at.now.from.place ≡
         Some at.now.from.held }
     requires op { op_at judged.now.code.now at.now.from.place ≡ Some (plain at.now.op.now) }
-    requires stores { Stores (plain at.now.op.now) (shape_of heap.old at.now.from.held) types.now }
+    requires stores { StoresAs (plain at.now.op.now) (shape_of heap.old at.now.from.held)
+        (shape_of heap.old stored) }
+    requires inside { IsIn heap.old stored }
+    requires first { (stored.saved ≡ 0) × (stored.pending ≡ 0) }
     requires next { at.now.next ≡ next_place at.now.from.place (plain at.now.op.now) }
     requires bound { at.now.from.place < 2 ^ 31 }
     ensures sees { IfOk result (λ seen. Sees judged.now.table.now judged.now.code.now heap.old
@@ -195,11 +151,11 @@ fn visit_store(
     match first {
         Seen::Bad => Ok(Seen::Bad),
         Seen::Quiet => {
-            let seen = store(judged, heap, facts, todo, at.from.place, types)?;
+            let seen = resume(judged, heap, facts, todo, at.from.place, stored)?;
             Ok(seen)
         }
         Seen::Changed => {
-            let seen = store(judged, heap, facts, todo, at.from.place, types)?;
+            let seen = resume(judged, heap, facts, todo, at.from.place, stored)?;
             Ok(after_change(seen))
         }
     }
@@ -232,7 +188,6 @@ fn visit_plain(
 }
 
 /// STORE_STATE, of so many bytes of globals and of locals.
-#[tactic(auto, using(crate::proofs::Storing::stores_bad))]
 fn visit_stored(
     alloc: Global,
     judged: &Judged<'_>,
@@ -255,14 +210,12 @@ fn visit_stored(
     ensures waits { IfOk result (λ seen. NothingNew todo.old todo.new seen) }
 {
     rules_look_from_the_top();
-    let types = {
-        let under = top(heap, at.from.held.under);
-        let cells = top(heap, at.from.held.cells);
-        stored_types(alloc, globals, locals, &under, &cells)?
-    };
-    match types {
+    match resumed(alloc, globals, locals, heap, at.from.held)? {
         None => Ok(Seen::Bad),
-        Some(types) => visit_store(alloc, judged, heap, facts, todo, at, &types),
+        Some(stored) => {
+            let seen = visit_store(alloc, judged, heap, facts, todo, at, stored)?;
+            Ok(seen)
+        }
     }
 }
 

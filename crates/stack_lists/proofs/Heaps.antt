@@ -1,15 +1,16 @@
 -- Shapes that are held, and steps on them.
-use Rattle.std.proofs.Common.{arith, ◌≡◌, ◌≤◌, ◌+◌, ℕ, List, [], ◌∷◌, ◌++◌, length, map, drop, true, Option, None, Some, sym, subst, ◌∙◌, ap, refl}
-use Rattle.std.specs.Option.{option_map}
+use Rattle.std.proofs.Common.{arith, ◌≡◌, ◌≤◌, ◌+◌, ℕ, zero, suc, List, [], ◌∷◌, ◌++◌, length, map, take, drop, true, Option, None, Some, sym, subst, ◌∙◌, ap, refl}
+use Rattle.std.specs.Option.{option_and_then, option_map}
+use Rattle.std.proofs.lemmas.List.{append-nil}
 use Rattle.stack_shape.specs.declared.shape.Slot.{Slot}
 use Rattle.stack_shape.specs.declared.shape.Slot.TheVariants.{Of, Base}
 use Rattle.stack_shape.specs.declared.effect.StackEffect.{StackEffect}
 use Rattle.stack_shape.specs.StackEffects.{after_effect, pushed, removed, stack_effect}
 use Rattle.stack_shape.specs.TopFirst.{types_on}
 use Rattle.stack_lists.specs.Stacks.{AreTyped}
-use Rattle.stack_shape.specs.declared.store.StoredTypes.{StoredTypes}
 use Rattle.nwq_value.specs.declared.value.Ty.{Ty}
-use Rattle.stack_shape.specs.Stored.{TopShape, stored_types}
+use Rattle.stack_shape.specs.Ranges.{cell_count}
+use Rattle.stack_shape.specs.Stored.{TopShape, found_types, stored_shape, stored_types}
 use Rattle.nwq_value.specs.declared.engine.Routine.{Routine}
 use Rattle.stack_shape.specs.Rule.{affected, called_shape, based, restored, rule, stored}
 use Rattle.nwq_value.specs.Engine.{EngineTable}
@@ -19,8 +20,8 @@ use Rattle.stack_lists.specs.declared.lists.Node.{Node}
 use Rattle.stack_lists.specs.declared.held.Held.{Held}
 use Rattle.stack_lists.specs.declared.held.Heap.{Heap}
 use Rattle.stack_lists.specs.Shared.{read, Grows}
-use Rattle.stack_lists.specs.Held.{shape_of, AllAtMost, IsIn, HeapGrows, AfterStep, Holds, is_still}
-use Rattle.stack_lists.specs.Growth.{all_more, grows_none, heap_same, map_same, same_shape, still_in, still_shape}
+use Rattle.stack_lists.specs.Held.{shape_of, stored_of, AllAtMost, AreStored, IsIn, HeapGrows, AfterStep, Holds, is_still}
+use Rattle.stack_lists.specs.Growth.{all_more, grows_none, grows_then, read_empty, heap_same, map_same, same_shape, still_in, still_shape}
 
 -- ---- equal shapes
 
@@ -179,20 +180,110 @@ pub ruleset restoring = (restore_empty, restore_value, restore_unsaved, restore_
 
 -- ---- STORE_STATE
 
-pub store_none : (a : Heap) (held : Held) (globals locals : ℕ) → None ≡ stored_types globals locals (read a.slots held.under) (read a.slots held.cells)
-    → AfterStep a a None (stored globals locals (shape_of a held))
-store_none a held globals locals e = (heap_same a, ap (option_map (λ t. record (shape_of a held) { pending = held.pending + 1 })) (sym e))
+pub counts_some : (globals locals g l : ℕ) (s : TopShape) → cell_count globals ≡ Some g → cell_count locals ≡ Some l → AreTyped g s.under → AreTyped l s.cells
+    → AreStored globals locals s g l
+unfolding stored_types
+counts_some globals locals g l s e f t u = record {
+  types = record { globals = t.0; locals = u.0 };
+  found = ap (option_and_then (λ g. option_and_then (λ l. found_types g l s.under s.cells) (cell_count locals))) e
+      ∙ ap (option_and_then (λ l. found_types g l s.under s.cells)) f
+      ∙ ap (option_and_then (λ g. option_map (λ l. record { globals = g; locals = l }) (types_on l s.cells))) t.1
+      ∙ ap (option_map (λ l. record { globals = t.0; locals = l })) u.1;
+  globals_are = t.1;
+  locals_are = u.1;
+}
 
-pub store_some : (a : Heap) (held now : Held) (globals locals : ℕ) (t : StoredTypes) → IsIn a held
-    → Some t ≡ stored_types globals locals (read a.slots held.under) (read a.slots held.cells)
+no_more : {A B : Type 0} (o : Option A) → option_and_then (λ a. let n : Option B = None in n) o ≡ None
+no_more None = refl
+no_more (Some a) = refl
+
+pub counts_no_globals : (globals locals : ℕ) (s : TopShape) → cell_count globals ≡ None → stored_of globals locals s ≡ None
+unfolding stored_types
+counts_no_globals globals locals s e = ap (option_and_then (λ g. option_and_then (λ l. found_types g l s.under s.cells) (cell_count locals))) e
+
+pub counts_no_locals : (globals locals : ℕ) (s : TopShape) → cell_count locals ≡ None → stored_of globals locals s ≡ None
+unfolding stored_types
+counts_no_locals globals locals s e =
+    ap (λ o. option_and_then (λ g. option_and_then (λ l. found_types g l s.under s.cells) o) (cell_count globals)) e ∙ no_more (cell_count globals)
+
+pub counts_no_under : (globals locals g : ℕ) (s : TopShape) → cell_count globals ≡ Some g → types_on g s.under ≡ None → stored_of globals locals s ≡ None
+unfolding stored_types
+counts_no_under globals locals g s e t =
+    ap (option_and_then (λ g. option_and_then (λ l. found_types g l s.under s.cells) (cell_count locals))) e
+    ∙ ap (λ o. option_and_then (λ l. option_and_then (λ g. option_map (λ l. record { globals = g; locals = l }) (types_on l s.cells)) o) (cell_count locals)) t
+    ∙ no_more (cell_count locals)
+
+pub counts_no_cells : (globals locals g l : ℕ) (s : TopShape) → cell_count globals ≡ Some g → cell_count locals ≡ Some l → types_on l s.cells ≡ None
+    → stored_of globals locals s ≡ None
+unfolding stored_types
+counts_no_cells globals locals g l s e f t =
+    ap (option_and_then (λ g. option_and_then (λ l. found_types g l s.under s.cells) (cell_count locals))) e
+    ∙ ap (option_and_then (λ l. found_types g l s.under s.cells)) f
+    ∙ ap (λ o. option_and_then (λ g. option_map (λ l. record { globals = g; locals = l }) o) (types_on g s.under)) t ∙ no_more (types_on g s.under)
+
+pub ruleset counting = (counts_some)
+
+pub store_none : (a : Heap) (held : Held) (globals locals : ℕ) → stored_of globals locals (shape_of a held) ≡ None
+    → AfterStep a a None (stored globals locals (shape_of a held))
+store_none a held globals locals e = (heap_same a, ap (option_map (λ t. record (shape_of a held) { pending = held.pending + 1 })) e)
+
+pub store_some : (a : Heap) (held now : Held) (globals locals m n : ℕ) → IsIn a held → AreStored globals locals (shape_of a held) m n
     → now ≡ record held { pending = held.pending + 1 } → AfterStep a a (Some now) (stored globals locals (shape_of a held))
-store_some a held now globals locals t h e n = subst (λ now. AfterStep a a (Some now) (stored globals locals (shape_of a held))) (sym n) (
+store_some a held now globals locals m n h s e = subst (λ now. AfterStep a a (Some now) (stored globals locals (shape_of a held))) (sym e) (
   heap_same a,
   record { cells = h.cells; under = h.under; saved = h.saved; each = h.each },
-  ap (option_map (λ t. record (shape_of a held) { pending = held.pending + 1 })) (sym e),
+  ap (option_map (λ t. record (shape_of a held) { pending = held.pending + 1 })) s.found,
 )
 
 pub ruleset storing = (store_none, store_some)
+
+pub resume_none : (a : Heap) (held : Held) (globals locals : ℕ) → stored_of globals locals (shape_of a held) ≡ None
+    → AfterStep a a None (option_map stored_shape (stored_of globals locals (shape_of a held)))
+resume_none a held globals locals e = (heap_same a, ap (option_map stored_shape) e)
+
+some_types : (a b : List Ty) → Some a ≡ Some b → a ≡ b
+some_types a b h = cc
+
+types_more : (t : Ty) (n : ℕ) (slots : List Slot) (types : List Ty) (o : Option (List Ty)) → types_on n slots ≡ o → option_map (λ types. t ∷ types) o ≡ Some types
+    → ((rest : List Ty) → types_on n slots ≡ Some rest → take n slots ≡ map Of rest) → Of t ∷ take n slots ≡ map Of types
+types_more t n slots types None h i more = absurd cc
+types_more t n slots types (Some rest) h i more = ap (λ z. Of t ∷ z) (more rest h) ∙ ap (map Of) (some_types (t ∷ rest) types i)
+
+take_types : (n : ℕ) (slots : List Slot) (types : List Ty) → types_on n slots ≡ Some types → take n slots ≡ map Of types
+take_types zero slots types e = ap (map Of) (some_types [] types e)
+take_types (suc n) [] types e = absurd cc
+take_types (suc n) (Base ∷ slots) types e = absurd cc
+take_types (suc n) (Of t ∷ slots) types e = types_more t n slots types (types_on n slots) refl e (take_types n slots)
+
+pub resume_some : (a : Heap) (b c d : List (Node Slot)) (globals locals m n under base cells : ℕ) (held now : Held) → IsIn a held
+    → AreStored globals locals (shape_of a held) m n → Grows a.slots b → Grows b c → Grows c d
+    → under ≤ length b → base ≤ length c → cells ≤ length d → read b under ≡ take m (read a.slots held.under) ++ read a.slots 0
+    → read c base ≡ Base ∷ read b under → read d cells ≡ take n (read c held.cells) ++ read c base
+    → now ≡ record { cells = cells; under = under; saved = 0; pending = 0 }
+    → AfterStep a (record { slots = d; saved = a.saved }) (Some now) (option_map stored_shape (stored_of globals locals (shape_of a held)))
+resume_some a b c d globals locals m n under base cells held now k s g h i gi bi ci gr br cr e =
+    subst (λ now. AfterStep a (record { slots = d; saved = a.saved }) (Some now) (option_map stored_shape (stored_of globals locals (shape_of a held)))) (sym e) (
+      record { slots = grows_then a.slots b d g (grows_then b c d h i); saved = grows_none a.saved },
+      record {
+        cells = ci;
+        under = let l = h.longer in let m = i.longer in omega (arith, gi, l, m);
+        saved = omega arith;
+        each = subst (λ ns. AllAtMost (length d) ns) (sym (read_empty a.saved)) tt;
+      },
+      ap (option_map stored_shape) s.found ∙ ap Some (sym (same_shape _ _ _ _ _ _ _ _ cells_are
+          ((grows_then b c d h i).same under gi ∙ under_is) (ap (map (read d)) (read_empty a.saved)) refl)),
+    )
+  where
+    under_is : read b under ≡ map Of s.types.globals
+    under_is = gr ∙ ap (λ z. take m (read a.slots held.under) ++ z) (read_empty a.slots) ∙ append-nil (take m (read a.slots held.under))
+        ∙ take_types m (read a.slots held.under) s.types.globals s.globals_are
+
+    cells_are : read d cells ≡ map Of s.types.locals ++ Base ∷ map Of s.types.globals
+    cells_are = cr ∙ ap (λ z. take n z ++ read c base) ((grows_then a.slots b c g h).same held.cells k.cells)
+        ∙ ap (λ z. z ++ read c base) (take_types n (read a.slots held.cells) s.types.locals s.locals_are)
+        ∙ ap (λ z. map Of s.types.locals ++ z) (br ∙ ap (λ z. Base ∷ z) under_is)
+
+pub ruleset resuming = (resume_none)
 
 -- ---- ACTION
 

@@ -15,8 +15,9 @@ use Rattle.stack_shape.specs.declared.shape.Slot.TheVariants.{Of, Base}
 use Rattle.stack_lists.specs.declared.lists.Node.{Node}
 use Rattle.stack_lists.specs.declared.stacks.Link.{Link}
 use Rattle.stack_lists.specs.declared.stacks.Agreed.{Agreed}
+use Rattle.stack_lists.specs.declared.stacks.Join.{Join}
 use Rattle.stack_lists.specs.Shared.{with_node, read_within, read, Grows}
-use Rattle.stack_lists.specs.Stacks.{AreTyped, from_base, node_of, nodes_of, LiesOn, IsLink, IsNew, IsTop, AreLinked, Agrees, AllAgree}
+use Rattle.stack_lists.specs.Stacks.{AreTyped, from_base, node_of, nodes_of, LiesOn, IsLink, IsNew, IsTop, IsJoin, AreLinked, Agrees, AllAgree, AllJoin}
 use Rattle.stack_lists.proofs.SharedLists.{grows_one, older_one, pop_inside, pop_older, pop_none, pop_top, pushed_reads, read_zero}
 use Rattle.stack_lists.specs.Growth.{read_empty}
 
@@ -378,17 +379,77 @@ agree_unchanged nodes before after e all = record {
 
 pub ruleset agreeing = (agree_less, agree_more, agree_back)
 
-pub added_all : (links after : List Link) (l : Link) (agreed : BTreeMap ℕ Agreed) → AreLinked links × AllAgree (nodes_of links) agreed → after ≡ links ++ l ∷ []
-    → IsNew (nodes_of links) l → length links < 33554432 → AreLinked after × AllAgree (nodes_of after) agreed
-added_all links after l agreed all e n room = (
+-- ---- joins
+
+pub joins_still : (before after : List (Node Slot)) (joins : BTreeMap ℕ Join) → Grows before after → AllJoin before joins → AllJoin after joins
+joins_still before after joins g all = record {
+  by = λ key j e.
+      let h = all.by key j e in
+      record {
+        upper = omega (arith, h.upper, g.longer);
+        lower = omega (arith, h.lower, g.longer);
+        inside = omega (arith, h.inside, g.longer);
+        reads = g.same j.number h.inside ∙ h.reads ∙ ap (λ z. take j.count z ++ read before j.lower) (sym (g.same j.upper h.upper))
+            ∙ ap (λ z. take j.count (read after j.upper) ++ z) (sym (g.same j.lower h.lower));
+      };
+}
+
+pub joins_begin : (nodes : List (Node Slot)) (joins : BTreeMap ℕ Join) → joins.entries ≡ [] → AllJoin nodes joins
+joins_begin nodes joins e = record { by = λ key j h. absurd (nothing key j (sym (ap (lookup (is_at (nat_cmp key))) e) ∙ h)) }
+  where
+    nothing : (key : ℕ) (j : Join) → None ≡ Some j → ⊥
+    nothing key j h = absurd cc
+
+pub join_is : (nodes : List (Node Slot)) (joins : BTreeMap ℕ Join) (key upper count lower number : ℕ) (j : Join) → AllJoin nodes joins
+    → Some j ≡ get nat_cmp joins key → j.upper ≡ upper → j.lower ≡ lower → j.count ≡ count → number ≡ j.number
+    → IsJoin nodes (record { upper = upper; count = count; lower = lower; number = number })
+join_is nodes joins key upper count lower number j all e u l c n =
+    let h = all.by key j (sym e) in
+    record {
+      upper = omega (arith, h.upper, u);
+      lower = omega (arith, h.lower, l);
+      inside = omega (arith, h.inside, n);
+      reads = ap (read nodes) n ∙ h.reads ∙ ap (λ k. take k (read nodes j.upper) ++ read nodes j.lower) c
+          ∙ ap (λ k. take count (read nodes k) ++ read nodes j.lower) u ∙ ap (λ k. take count (read nodes upper) ++ read nodes k) l;
+    }
+
+pub ruleset joining = (join_is)
+
+joins_kept : (nodes : List (Node Slot)) (before after : BTreeMap ℕ Join) (key : ℕ) (j : Join) → AllJoin nodes before → IsJoin nodes j
+    → Updates nat_cmp before after key (Some j) → AllJoin nodes after
+joins_kept nodes before after key j all is u = record {
+  by = λ q k e. elim (cases_eq q key) [
+    | inl i ↦ subst (λ (k : Join). IsJoin nodes k) (some_is j k (sym u.1 ∙ ap (get nat_cmp after) (sym i) ∙ e)) is
+    | inr ne ↦ all.by q k (sym (u.2 q (other_cmp key q ne)) ∙ e)
+  ];
+}
+
+joins_unchanged : (nodes : List (Node Slot)) (before after : BTreeMap ℕ Join) → after.entries ≡ before.entries → AllJoin nodes before → AllJoin nodes after
+joins_unchanged nodes before after e all = record {
+  by = λ key j h. all.by key j (ap (lookup (is_at (nat_cmp key))) (sym e) ∙ h);
+}
+
+pub added_all : (links after : List Link) (l : Link) (agreed : BTreeMap ℕ Agreed) (joins : BTreeMap ℕ Join)
+    → AreLinked links × AllAgree (nodes_of links) agreed × AllJoin (nodes_of links) joins → after ≡ links ++ l ∷ []
+    → IsNew (nodes_of links) l → length links < 33554432 → AreLinked after × AllAgree (nodes_of after) agreed × AllJoin (nodes_of after) joins
+added_all links after l agreed joins all e n room = (
   added_linked links after l all.0 e n.below n.depth n.on n.older n.based room,
   agree_still (nodes_of links) (nodes_of after) agreed (added_grows links after l all.0 e) all.1,
+  joins_still (nodes_of links) (nodes_of after) joins (added_grows links after l all.0 e) all.2,
 )
 
-pub agree_after : {E O : Type 0} (links : List Link) (before after : BTreeMap ℕ Agreed) (key : ℕ) (a : Agreed) (r : Result O E)
-    → AreLinked links × AllAgree (nodes_of links) before
+pub agree_after : {E O : Type 0} (links : List Link) (before after : BTreeMap ℕ Agreed) (joins : BTreeMap ℕ Join) (key : ℕ) (a : Agreed) (r : Result O E)
+    → AreLinked links × AllAgree (nodes_of links) before × AllJoin (nodes_of links) joins
     → (a.first ≤ length (nodes_of links)) × (a.second ≤ length (nodes_of links))
     → take a.count (read (nodes_of links) a.first) ≡ take a.count (read (nodes_of links) a.second)
-    → OnOk r (Updates nat_cmp before after key (Some a)) → OnErr r (after.entries ≡ before.entries) → AreLinked links × AllAgree (nodes_of links) after
-agree_after links before after key a (Ok o) all i same u e = (all.0, agree_kept (nodes_of links) before after key a all.1 i.0 i.1 same u)
-agree_after links before after key a (Err x) all i same u e = (all.0, agree_unchanged (nodes_of links) before after e all.1)
+    → OnOk r (Updates nat_cmp before after key (Some a)) → OnErr r (after.entries ≡ before.entries)
+    → AreLinked links × AllAgree (nodes_of links) after × AllJoin (nodes_of links) joins
+agree_after links before after joins key a (Ok o) all i same u e = (all.0, agree_kept (nodes_of links) before after key a all.1 i.0 i.1 same u, all.2)
+agree_after links before after joins key a (Err x) all i same u e = (all.0, agree_unchanged (nodes_of links) before after e all.1, all.2)
+
+pub join_after : {E O : Type 0} (links : List Link) (agreed : BTreeMap ℕ Agreed) (before after : BTreeMap ℕ Join) (key : ℕ) (j : Join) (r : Result O E)
+    → AreLinked links × AllAgree (nodes_of links) agreed × AllJoin (nodes_of links) before → IsJoin (nodes_of links) j
+    → OnOk r (Updates nat_cmp before after key (Some j)) → OnErr r (after.entries ≡ before.entries)
+    → AreLinked links × AllAgree (nodes_of links) agreed × AllJoin (nodes_of links) after
+join_after links agreed before after key j (Ok o) all is u e = (all.0, all.1, joins_kept (nodes_of links) before after key j all.2 is u)
+join_after links agreed before after key j (Err x) all is u e = (all.0, all.1, joins_unchanged (nodes_of links) before after e all.2)

@@ -2,7 +2,9 @@
 use Rattle.std.specs.Prelude.{◌≡◌, ◌≤◌, ℕ, List, [], ◌∷◌, length, map, Bool, true, false, Option, None, Some}
 use Rattle.ncs_code.specs.Plain.{PlainOp}
 use Rattle.ncs_code.specs.Plain as ops
-use Rattle.stack_shape.specs.Stored.{TopShape}
+use Rattle.stack_shape.specs.declared.store.StoredTypes.{StoredTypes}
+use Rattle.stack_shape.specs.Stored.{TopShape, stored_types}
+use Rattle.stack_shape.specs.TopFirst.{types_on}
 use Rattle.stack_lists.specs.declared.held.Held.{Held}
 use Rattle.stack_lists.specs.declared.held.Heap.{Heap}
 use Rattle.stack_lists.specs.Shared.{read, Grows}
@@ -48,3 +50,14 @@ pub record Holds (before after : Heap) (held : Held) (shape : TopShape) : Type 0
   pub grows : HeapGrows before after
   pub inside : IsIn after held
   pub is : shape_of after held ≡ shape
+
+-- the types that STORE_STATE of so many bytes stores of a shape
+abbrev pub stored_of : ℕ → ℕ → TopShape → Option StoredTypes
+stored_of globals locals s = stored_types globals locals s.under s.cells
+
+-- STORE_STATE of so many bytes stores so many globals and locals.
+pub record AreStored (globals locals : ℕ) (s : TopShape) (above below : ℕ) : Type 0 where
+  pub types : StoredTypes
+  pub found : stored_of globals locals s ≡ Some types
+  pub globals_are : types_on above s.under ≡ Some types.globals
+  pub locals_are : types_on below s.cells ≡ Some types.locals

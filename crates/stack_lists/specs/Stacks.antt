@@ -10,6 +10,7 @@ use Rattle.stack_shape.specs.declared.shape.Slot.TheVariants.{Of, Base}
 use Rattle.stack_lists.specs.declared.lists.Node.{Node}
 use Rattle.stack_lists.specs.declared.stacks.Link.{Link}
 use Rattle.stack_lists.specs.declared.stacks.Agreed.{Agreed}
+use Rattle.stack_lists.specs.declared.stacks.Join.{Join}
 use Rattle.stack_lists.specs.Shared.{AreOlder, read}
 
 abbrev pub node_of : Link → Node Slot
@@ -68,3 +69,13 @@ pub record Agrees (nodes : List (Node Slot)) (a : Agreed) : Type 0 where
 
 pub record AllAgree (nodes : List (Node Slot)) (agreed : BTreeMap ℕ Agreed) : Type 0 where
   pub by : (key : ℕ) (a : Agreed) → get nat_cmp agreed key ≡ Some a → Agrees nodes a
+
+-- so many of the one list's topmost slots on the other list
+pub record IsJoin (nodes : List (Node Slot)) (j : Join) : Type 0 where
+  pub upper : j.upper ≤ length nodes
+  pub lower : j.lower ≤ length nodes
+  pub inside : j.number ≤ length nodes
+  pub reads : read nodes j.number ≡ take j.count (read nodes j.upper) ++ read nodes j.lower
+
+pub record AllJoin (nodes : List (Node Slot)) (joins : BTreeMap ℕ Join) : Type 0 where
+  pub by : (key : ℕ) (j : Join) → get nat_cmp joins key ≡ Some j → IsJoin nodes j

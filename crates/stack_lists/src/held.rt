@@ -1,12 +1,15 @@
 ghost use Rattle.std.specs.Prelude.{◌≡◌, ◌≤◌, ◌↔◌, ◌+◌, ◌∷◌, ◌++◌, length, map, slice_get, take};
-ghost use Rattle.std.specs.Prelude.{IfOk, IsTrue};
+ghost use Rattle.std.specs.Prelude.{IfOk, IfSome, IsTrue, MatchOption, None};
+ghost use Rattle.std.specs.Option.{option_map};
 ghost use Rattle.stack_shape.specs.Rule.{affected, based, called_with, restored, rule, stored};
 ghost use Rattle.stack_shape.specs.Rule.{IsOneStep, called_shape};
+ghost use Rattle.stack_shape.specs.Stored.{stored_shape};
 ghost use Rattle.stack_shape.specs.StackEffects.{after_effect, stack_effect};
 ghost use Rattle.stack_shape.specs.declared.shape.Slot.TheVariants.{Of};
 ghost use Rattle.ncs_code.specs.Plain.{plain, MovSp, RsAdd};
 ghost use Rattle.stack_lists.specs.Shared.{read};
-ghost use Rattle.stack_lists.specs.Held.{AfterStep, Holds, IsIn, is_still, shape_of};
+ghost use Rattle.stack_lists.specs.Held.{AfterStep, AreStored, Holds, IsIn, is_still, shape_of};
+ghost use Rattle.stack_lists.specs.Held.{stored_of};
 
 use crate::budget::room;
 use crate::lists::Lists;
@@ -15,7 +18,7 @@ use crate::stacks::Stacks;
 use ncs_code::Op;
 use nwq_value::{NoMemory, Routine, Table, Ty};
 use stack_shape::{
-    Slot, StackEffect, action_count, call_effect, depth_of, stack_effect, stored_types, type_of_one,
+    Slot, StackEffect, action_count, call_effect, cell_count, depth_of, stack_effect, type_of_one,
 };
 use std::alloc::Global;
 
@@ -212,22 +215,38 @@ fn restored(heap: &Heap, held: Held) -> Option<Held>
     }
 }
 
+/// How many globals and locals STORE_STATE of so many bytes stores of a shape, or `None` where one
+/// of these slots isn't there or is a base. The topmost bases tell, without a look at the slots.
+#[tactic(auto, using(crate::proofs::Heaps::counting))]
+pub fn stored_counts(globals: u32, locals: u32, heap: &Heap, held: Held) -> Option<(usize, usize)>
+    ensures counts { MatchOption result (stored_of globals locals (shape_of heap.now held) ≡ None)
+        (λ counts. AreStored globals locals (shape_of heap.now held) counts.0 counts.1) }
+{
+    match cell_count(globals) {
+        None => None,
+        Some(globals) => match cell_count(locals) {
+            None => None,
+            Some(locals) => {
+                if !heap.slots.are_values(held.under, globals) {
+                    return None;
+                }
+                if !heap.slots.are_values(held.cells, locals) {
+                    return None;
+                }
+                Some((globals, locals))
+            }
+        },
+    }
+}
+
 /// STORE_STATE, of so many bytes of globals and of locals.
 #[tactic(auto, using(crate::proofs::Heaps::storing))]
-fn stored(
-    alloc: Global,
-    globals: u32,
-    locals: u32,
-    heap: &Heap,
-    held: Held,
-) -> Result<Option<Held>, NoMemory>
+fn stored(globals: u32, locals: u32, heap: &Heap, held: Held) -> Result<Option<Held>, NoMemory>
     requires inside { IsIn heap.now held }
     ensures { IfOk result (λ after. AfterStep heap.now heap.now after
         (stored globals locals (shape_of heap.now held))) }
 {
-    let under = top(heap, held.under);
-    let cells = top(heap, held.cells);
-    match stored_types(alloc, globals, locals, &under, &cells)? {
+    match stored_counts(globals, locals, heap, held) {
         None => Ok(None),
         Some(_) => Ok(Some(Held {
             cells: held.cells,
@@ -235,6 +254,38 @@ fn stored(
             saved: held.saved,
             pending: one_more(held.pending)?,
         })),
+    }
+}
+
+/// The shape with which resumes what STORE_STATE of so many bytes stores of a shape, or `None`
+/// exactly where it stores nothing.
+#[tactic(auto, using(crate::proofs::Heaps::resuming))]
+pub fn resumed(
+    alloc: Global,
+    globals: u32,
+    locals: u32,
+    heap: &mut Heap,
+    held: Held,
+) -> Result<Option<Held>, NoMemory>
+    requires inside { IsIn heap.old held }
+    ensures after { IfOk result (λ after. AfterStep heap.old heap.new after
+        (option_map stored_shape (stored_of globals locals (shape_of heap.old held)))) }
+    ensures first { IfOk result (λ after. IfSome after
+        (λ first. (first.saved ≡ 0) × (first.pending ≡ 0))) }
+{
+    match stored_counts(globals, locals, heap, held) {
+        None => Ok(None),
+        Some((globals, locals)) => {
+            let under = join(alloc, &mut heap.slots, held.under, globals, 0)?;
+            let base = heap.slots.push(under, Slot::Base)?;
+            let cells = join(alloc, &mut heap.slots, held.cells, locals, base)?;
+            Ok(Some(Held {
+                cells,
+                under,
+                saved: 0,
+                pending: 0,
+            }))
+        }
     }
 }
 
@@ -246,7 +297,7 @@ fn one_more(pending: u32) -> Result<u32, NoMemory>
 }
 
 /// A list of slots, seen from its top.
-pub fn top(heap: &Heap, number: u32) -> Top<'_>
+fn top(heap: &Heap, number: u32) -> Top<'_>
     ensures lists { result.lists.now ≡ heap.now.slots }
     ensures number { result.number ≡ number }
 {
@@ -369,7 +420,7 @@ pub fn step(
         Op::Action { routine, count } => called(alloc, table, *routine, *count, heap, held),
         Op::SaveBp => Ok(Some(based(heap, held)?)),
         Op::RestoreBp => Ok(restored(heap, held)),
-        Op::StoreState { globals, locals } => stored(alloc, *globals, *locals, heap, held),
+        Op::StoreState { globals, locals } => stored(*globals, *locals, heap, held),
         Op::RsAdd { kind } => started(heap, *kind, held),
         Op::MovSp { offset } => Ok(moved(heap, *offset, held)),
         _ => changed(alloc, op, heap, held),

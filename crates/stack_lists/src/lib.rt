@@ -19,11 +19,11 @@ mod stacks;
 mod todo;
 
 pub use budget::{MOST, room};
-pub use held::{Heap, Held, same_shape, step, top, with_cells};
+pub use held::{Heap, Held, resumed, same_shape, step, stored_counts, with_cells};
 pub use laws::rows_are_numbered;
 pub use lists::{Lists, Node};
 pub use places::Places;
 pub use rows::{Rows, ShapeRow};
-pub use slots::{put_types, same};
+pub use slots::same;
 pub use stacks::Stacks;
 pub use todo::{Side, Spot, Todo};

@@ -3,7 +3,7 @@ ghost use Rattle.stack_shape.specs.TopFirst.{types_on};
 ghost use Rattle.stack_shape.specs.declared.shape.Slot.TheVariants.{Of};
 ghost use Rattle.stack_lists.specs.Shared.{Grows, read};
 
-use crate::stacks::{Stacks, alike};
+use crate::stacks::{Join, Stacks, alike};
 use nwq_value::{NoMemory, Ty, Tys};
 use stack_shape::{CellRange, Slot, TopFirst};
 use std::alloc::Global;
@@ -140,7 +140,28 @@ fn top_slots(
     Ok(slots)
 }
 
-/// So many of a list's topmost slots on another list.
+/// So many of a list's topmost slots on another list, slot by slot.
+#[tactic(auto, using(crate::proofs::Walks::joining))]
+fn copy(
+    alloc: Global,
+    lists: &mut Stacks,
+    upper: u32,
+    count: usize,
+    lower: u32,
+) -> Result<u32, NoMemory>
+    requires upper { upper ≤ length lists.old }
+    requires lower { lower ≤ length lists.old }
+    ensures reads { IfOk result (λ on.
+        read lists.new on ≡ take count (read lists.old upper) ++ read lists.old lower) }
+    ensures inside { IfOk result (λ on. on ≤ length lists.new) }
+    ensures grows { IfOk result (λ _. Grows lists.old lists.new) }
+{
+    let slots = top_slots(alloc, lists, upper, count)?;
+    put_slots(lists, lower, slots.as_slice())
+}
+
+/// So many of a list's topmost slots on another list. Where they are many, what was made is kept,
+/// so the same is made once.
 #[tactic(auto, using(crate::proofs::Walks::joining))]
 pub fn join(
     alloc: Global,
@@ -159,6 +180,18 @@ pub fn join(
     if lists.lower(upper, count) == lower {
         return Ok(upper);
     }
-    let slots = top_slots(alloc, lists, upper, count)?;
-    put_slots(lists, lower, slots.as_slice())
+    if count <= 8 {
+        return copy(alloc, lists, upper, count, lower);
+    }
+    if let Some(number) = lists.joined(upper, count, lower) {
+        return Ok(number);
+    }
+    let number = copy(alloc, lists, upper, count, lower)?;
+    lists.keep_join(Join {
+        upper,
+        count,
+        lower,
+        number,
+    })?;
+    Ok(number)
 }

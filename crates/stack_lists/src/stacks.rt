@@ -4,7 +4,7 @@ ghost use Rattle.stack_shape.specs.TopFirst.{types_on};
 ghost use Rattle.stack_shape.specs.declared.shape.Slot.{Slot};
 ghost use Rattle.stack_lists.specs.declared.lists.Node.{Node};
 ghost use Rattle.stack_lists.specs.Shared.{Grows, read};
-ghost use Rattle.stack_lists.specs.Stacks.{AreTyped, IsNew, IsTop, LiesOn, from_base};
+ghost use Rattle.stack_lists.specs.Stacks.{AreTyped, IsJoin, IsNew, IsTop, LiesOn, from_base};
 
 use crate::budget::room;
 use crate::lists::Node;
@@ -36,6 +36,15 @@ pub struct Agreed {
     pub count: usize,
 }
 
+/// So many of the topmost slots of one list, on another one, are the list with this number.
+#[derive(Clone, Copy)]
+pub struct Join {
+    pub upper: u32,
+    pub count: usize,
+    pub lower: u32,
+    pub number: u32,
+}
+
 /// Lists of slots that share their lower parts, by number: 0 is the empty list. A list has one
 /// number, so one that is made again takes no room.
 pub struct Stacks {
@@ -47,19 +56,22 @@ pub struct Stacks {
     older: Places,
     /// By both lists: how far they were found to agree.
     agreed: BTreeMap<u64, Agreed>,
+    /// By the upper and the lower list: the join of them that was made last.
+    joins: BTreeMap<u64, Join>,
 }
 
 impl Model for Stacks {
     ghost use Rattle.std.specs.Prelude.{List};
     ghost use Rattle.stack_shape.specs.declared.shape.Slot.{Slot};
     ghost use Rattle.stack_lists.specs.declared.lists.Node.{Node};
-    ghost use Rattle.stack_lists.specs.Stacks.{AreLinked, AllAgree, nodes_of};
+    ghost use Rattle.stack_lists.specs.Stacks.{AllAgree, AllJoin, AreLinked, nodes_of};
 
     ghost Value = { List (Node Slot) };
 
     ghost view = { λ s. nodes_of s.links };
 
-    ghost invariant = { λ s. AreLinked s.links × AllAgree (nodes_of s.links) s.agreed };
+    ghost invariant = { λ s. AreLinked s.links × AllAgree (nodes_of s.links) s.agreed
+        × AllJoin (nodes_of s.links) s.joins };
 }
 
 impl Drop for Stacks {
@@ -69,11 +81,13 @@ impl Drop for Stacks {
             newest,
             older,
             agreed,
+            joins,
         } = self;
         drop(links);
         drop(newest);
         drop(older);
         drop(agreed);
+        drop(joins);
     }
 }
 
@@ -98,6 +112,7 @@ impl Stacks {
             newest: Places::new(alloc),
             older: Places::new(alloc),
             agreed: BTreeMap::new(alloc),
+            joins: BTreeMap::new(alloc),
         }
     }
 
@@ -470,5 +485,38 @@ impl Stacks {
             count,
         })?;
         Ok(true)
+    }
+
+    /// So many of a list's topmost slots on another list, where that was made last of these two.
+    #[tactic(auto, using(crate::proofs::Links::joining))]
+    pub fn joined(&self, upper: u32, count: usize, lower: u32) -> Option<u32>
+        ensures join { IfSome result (λ number. IsJoin self.now (record {
+          upper = upper;
+          count = count;
+          lower = lower;
+          number = number;
+        })) }
+    {
+        match self.joins.get(&pair(upper, lower)) {
+            None => None,
+            Some(join) => {
+                if join.upper == upper && join.lower == lower && join.count == count {
+                    Some(join.number)
+                } else {
+                    None
+                }
+            }
+        }
+    }
+
+    /// Keeps what a join made.
+    pub fn keep_join(&mut self, join: Join) -> Result<(), NoMemory>
+        requires is { IsJoin self.old join }
+        ensures same { self.new ≡ self.old }
+    {
+        match self.joins.insert(pair(join.upper, join.lower), join) {
+            Ok(_) => Ok(()),
+            Err(_) => Err(NoMemory),
+        }
     }
 }

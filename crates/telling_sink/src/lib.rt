@@ -9,8 +9,6 @@
 //! tell, does its work, and gives the sink back. See docs/OUTSIDE.md.
 #![tactic(auto)]
 
-mod noted;
 mod telling;
 
-pub use noted::Noted;
 pub use telling::{Loan, Telling};

@@ -1,9 +1,16 @@
 ghost use Rattle.std.specs.Prelude.{◌≡◌, ℕ, [], true};
 ghost use Rattle.telling_sink.specs.Told.{told_bytes};
 
-use crate::noted::{Noted, Put};
 use nwq_outside::{Done, Sink};
+use proof_notes::Notes;
 use std::marker::{Brand, PhantomData};
+
+/// A piece that was put, and the answer.
+#[derive(Clone, Copy, Drop)]
+struct Put<'a> {
+    piece: &'a [u8],
+    answer: Done,
+}
 
 /// Which borrow of a sink it is that a [`Telling`] holds. A caller picks it at the call that is
 /// handed the sink, so that it is known of which sink the end is told.
@@ -19,7 +26,8 @@ impl Loan for Brand {
 #[derive(Drop)]
 pub struct Telling<'a, S: Sink, L: Loan> {
     pub sink: &'a mut S,
-    pub noted: Noted,
+    /// The bytes of the pieces that were taken whole.
+    pub noted: Notes<u8>,
     loan: PhantomData<L>,
     ghost same: { sink.ghost_name ≡ L.name },
 }
@@ -28,11 +36,11 @@ impl<'a, S: Sink, L: Loan> Telling<'a, S, L> {
     pub fn new(sink: &'a mut S) -> Self
         requires loan { sink.ghost_name ≡ L.name }
         ensures sink { result.sink.now ≡ sink.old }
-        ensures nothing { result.noted.bytes ≡ [] }
+        ensures nothing { result.noted.all ≡ [] }
     {
         Telling {
             sink,
-            noted: Noted::new(),
+            noted: Notes::new(),
             loan: PhantomData,
         }
     }
@@ -55,13 +63,13 @@ impl<'a, S: Sink, L: Loan> Telling<'a, S, L> {
 impl<'a, S: Sink, L: Loan> Sink for Telling<'a, S, L> {
     ghost tells = { true };
 
-    ghost taken = { λ s. told_bytes S.tells (S.taken s.sink.now) s.noted.bytes };
+    ghost taken = { λ s. told_bytes S.tells (S.taken s.sink.now) s.noted.all };
 
     ghost faults = { λ s. S.faults s.sink.now };
 
     fn put(&mut self, piece: &[u8]) -> Done {
         let answer = self.sink.put(piece);
-        self.noted = self.noted.after(&Put { piece, answer });
+        self.noted = self.noted.then(&Put { piece, answer });
         answer
     }
 }

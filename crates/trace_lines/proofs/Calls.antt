@@ -1,7 +1,8 @@
 -- Calls of the engine tell lines in which no routine's name has a newline.
-use Rattle.std.proofs.Common.{ℕ, ℤ, pos, negsuc, zero, suc, Bool, true, false, List, [], ◌∷◌, ◌++◌, Option, None, Some, cond}
+use Rattle.std.proofs.Common.{◌≡◌, subst, ℕ, ℤ, pos, negsuc, zero, suc, Bool, true, false, List, [], ◌∷◌, ◌++◌, Option, None, Some}
 use Rattle.std.specs.Prelude.{if◌then◌else◌, ◌==◌, slice_get}
 use Rattle.std.specs.List.{AllByRecursion, list_any}
+use Rattle.std.proofs.lemmas.Option.{none-some, same_Some}
 use Rattle.action_queue.specs.declared.queue.Item.{Item}
 use Rattle.action_queue.specs.declared.queue.Item.TheVariants.{Do, Wait, Speak}
 use Rattle.area_rules.specs.Area.{object}
@@ -9,8 +10,6 @@ use Rattle.delay_agenda.specs.declared.entry.Kind.TheVariants.{Event, Stored, Tu
 use Rattle.local_variables.specs.Variables.{Variable}
 use Rattle.nwq_value.specs.Effect.{Effect}
 use Rattle.nwq_value.specs.Engine.{EngineTable}
-use Rattle.nwq_value.specs.declared.engine.Role.{Role}
-use Rattle.nwq_value.specs.declared.engine.Role.TheVariants as role
 use Rattle.nwq_value.specs.declared.engine.Routine.{Routine}
 use Rattle.nwq_text.specs.Cuts.{IsFree}
 use Rattle.world_rules.specs.declared.data.Line.{Line}
@@ -20,8 +19,9 @@ use Rattle.world_rules.specs.Arguments.{int_at, text_at, object_at, effect_at, e
 use Rattle.world_rules.specs.Pure.{CellLookup}
 use Rattle.world_rules.specs.World.{World, is_valid, queue_of, effects_of}
 use Rattle.world_rules.specs.Changes.{told, post, with_action, with_actions, with_busy, with_effects, with_variables, has_turn, without_turn, without_first, is_effect}
-use Rattle.world_rules.specs.Rows.{Call, Row, rows, drawn_from, drawn, assigned, delayed, awake, appended, appended_do, at_rest, cleared, changed_variables, applied, applied_to, removed, event_script, signalled}
-use Rattle.world_rules.specs.Engine.{row_numbered, by_row, by_role, by_routine, engine}
+use Rattle.world_rules.specs.Rows.{Call, drawn_from, drawn, assigned, delayed, awake, appended, appended_do, at_rest, cleared, changed_variables, applied, applied_to, removed, event_script, signalled, argument, NewItem, TheAction, AWait, ASpeech, queued, varied, Print, Say, Draw, Assign, Delay, Queue, Clear, Vary, Apply, Remove, Signal}
+use Rattle.world_rules.specs.Engine.{engine}
+use Rattle.world_rules.specs.RowLaws.{EachKeeps, engine_keeps}
 use Rattle.trace_lines.specs.Lines.{HasPlainName, ArePlain, HasPlainNames}
 
 -- the lines of a world
@@ -95,117 +95,33 @@ removed_plain o e w h =
 signalled_plain : {X : Type 0} (o : ℕ) (user : ℤ) (w : World X) → Plain w → Plain (signalled o user w)
 signalled_plain o user w h = if_plain (is_valid o w) (post w.clock (Event o (event_script (object w.area o).scripts) user) w) w h h
 
--- ---- the rows
+-- ---- small changes
 
-record RowTells {X : Type 0} (r : Row X) : Type 0 where
-  by : (c : Call X) (w : World X) → Plain w → Plain (r.does c w).world
+queued_plain : {X : Type 0} (item : NewItem) (c : Call X) (w : World X) → Plain w → Plain (queued item c w)
+queued_plain TheAction c w h = appended_do_plain c.caller c.action w h
+queued_plain (AWait ms) c w h = appended_plain c.caller (Wait (int_at ms c.values)) w h
+queued_plain (ASpeech text) c w h = appended_plain c.caller (Speak (text_at text c.values)) w h
 
-rows_tell : {X : Type 0} → AllByRecursion RowTells (rows {X = X})
-rows_tell = (
-  record { by = λ c w h. drawn_plain (int_at 0 c.values) w h },
-  (
-    record { by = λ c w h. told_plain c.caller _ w tt h },
-    (
-      record { by = λ c w h. told_plain c.caller _ w tt h },
-      (
-        record { by = λ c w h. told_plain c.caller _ w tt h },
-        (
-          record { by = λ c w h. assigned_plain (object_at 0 c.values) c.action w h },
-          (
-            record { by = λ c w h. delayed_plain c.caller (int_at 0 c.values) c.action w h },
-            (
-              record { by = λ c w h. cleared_plain c.caller w h },
-              (
-                record { by = λ c w h. appended_do_plain c.caller c.action w h },
-                (
-                  record { by = λ c w h. appended_plain c.caller (Wait (int_at 0 c.values)) w h },
-                  (
-                    record { by = λ c w h. appended_plain c.caller (Speak (text_at 0 c.values)) w h },
-                    (
-                      record { by = λ c w h. told_plain c.caller _ w tt h },
-                      (
-                        record { by = λ c w h. h },
-                        (
-                          record { by = λ c w h. h },
-                          (
-                            record { by = λ c w h. h },
-                            (
-                              record { by = λ c w h. h },
-                              (
-                                record { by = λ c w h. variables_plain (object_at 0 c.values) _ w h },
-                                (
-                                  record { by = λ c w h. h },
-                                  (
-                                    record { by = λ c w h. variables_plain (object_at 0 c.values) _ w h },
-                                    (
-                                      record { by = λ c w h. variables_plain (object_at 0 c.values) _ w h },
-                                      (
-                                        record { by = λ c w h. variables_plain (object_at 0 c.values) _ w h },
-                                        (
-                                          record { by = λ c w h. applied_to_plain (int_at 0 c.values) (object_at 2 c.values) (effect_at 1 c.values) (int_at 3 c.values) w h },
-                                          (
-                                            record { by = λ c w h. removed_plain (object_at 0 c.values) (effect_at 1 c.values) w h },
-                                            (
-                                              record { by = λ c w h. h },
-                                              (
-                                                record { by = λ c w h. signalled_plain (object_at 0 c.values) (event_at 1 c.values) w h },
-                                                (
-                                                  record { by = λ c w h. h },
-                                                  tt,
-                                                ),
-                                              ),
-                                            ),
-                                          ),
-                                        ),
-                                      ),
-                                    ),
-                                  ),
-                                ),
-                              ),
-                            ),
-                          ),
-                        ),
-                      ),
-                    ),
-                  ),
-                ),
-              ),
-            ),
-          ),
-        ),
-      ),
-    ),
-  ),
-)
+done_plain : {X : Type 0} (c : Call X) → EachKeeps Plain c
+done_plain c (Print a) w h = told_plain c.caller (line.Print (argument a c.values)) w tt h
+done_plain c (Say text) w h = told_plain c.caller (line.Speak (text_at text c.values)) w tt h
+done_plain c (Draw n) w h = drawn_plain (int_at n c.values) w h
+done_plain c (Assign o) w h = assigned_plain (object_at o c.values) c.action w h
+done_plain c (Delay ms) w h = delayed_plain c.caller (int_at ms c.values) c.action w h
+done_plain c (Queue item) w h = queued_plain item c w h
+done_plain c Clear w h = cleared_plain c.caller w h
+done_plain c (Vary o change) w h = variables_plain (object_at o c.values) (varied change c.values) w h
+done_plain c (Apply duration e o ms) w h = applied_to_plain (int_at duration c.values) (object_at o c.values) (effect_at e c.values) (int_at ms c.values) w h
+done_plain c (Remove o e) w h = removed_plain (object_at o c.values) (effect_at e c.values) w h
+done_plain c (Signal o e) w h = signalled_plain (object_at o c.values) (event_at e c.values) w h
 
-chosen_plain : {X : Type 0} (b : Bool) (r : Row X) (rest : Option (Row X)) (c : Call X) (w : World X)
-    → Plain (r.does c w).world → Plain (by_row rest c w).world → Plain (by_row (cond b (Some r) rest) c w).world
-chosen_plain true r rest c w own next = own
-chosen_plain false r rest c w own next = next
+-- ---- any routine
 
-row_plain : {X : Type 0} (all : List (Row X)) → AllByRecursion RowTells all → (n : ℕ) (c : Call X) (w : World X) → Plain w → Plain (by_row (row_numbered n all) c w).world
-row_plain [] tell n c w h = h
-row_plain (r ∷ rest) tell n c w h = chosen_plain (r.number == n) r (row_numbered n rest) c w (tell.0.by c w h) (row_plain rest tell.1 n c w h)
-
-role_plain : {X : Type 0} (cell : CellLookup) (n : ℕ) (r : Routine) (kind : Role) (c : Call X) (w : World X) → IsFree 10 r.name → Plain w → Plain (by_role cell n r kind c w).world
-role_plain cell n r (role.Built own) c w free h = row_plain rows rows_tell own c w h
-role_plain cell n r (role.Pure k) c w free h = h
-role_plain cell n r role.World c w free h = told_plain c.caller (line.Call r.name c.values) w free h
-role_plain cell n r role.Uncallable c w free h = h
-
-abbrev IsNamed : Option Routine → Type 0
-IsNamed None = Unit {0}
-IsNamed (Some r) = IsFree 10 r.name
-
-named : (routines : List Routine) → AllByRecursion (λ (r : Routine). IsFree 10 r.name) routines → (n : ℕ) → IsNamed (slice_get routines n)
-named [] all n = tt
-named (r ∷ routines) all zero = all.0
-named (r ∷ routines) all (suc n) = named routines all.1 n
-
-routine_plain : {X : Type 0} (cell : CellLookup) (n : ℕ) (r : Option Routine) (c : Call X) (w : World X) → IsNamed r → Plain w → Plain (by_routine cell n r c w).world
-routine_plain cell n None c w free h = h
-routine_plain cell n (Some r) c w free h = role_plain cell n r r.role c w free h
+named : (routines : List Routine) → AllByRecursion (λ (r : Routine). IsFree 10 r.name) routines → (n : ℕ) (r : Routine) → slice_get routines n ≡ Some r → IsFree 10 r.name
+named [] all n r at = absurd (none-some r at)
+named (own ∷ routines) all zero r at = subst (λ (x : Routine). IsFree 10 x.name) (same_Some own r at) all.0
+named (own ∷ routines) all (suc n) r at = named routines all.1 n r at
 
 pub engine_plain : {X : Type 0} (table : EngineTable) (cell : CellLookup) (n : ℕ) (c : Call X) (w : World X) → HasPlainNames table → Plain w → Plain (engine table cell n c w).world
-unfolding engine
-engine_plain table cell n c w names h = routine_plain cell n (slice_get table.routines n) c w (named table.routines names n) h
+engine_plain table cell n c w names h =
+    engine_keeps Plain c table cell n (done_plain c) (λ r at w h. told_plain c.caller (line.Call r.name c.values) w (named table.routines names n r at) h) w h

@@ -1,8 +1,7 @@
 -- The types of answers.
 use Rattle.std.proofs.Common.{◌≡◌, ◌≢◌, ◌<◌, ◌+◌, nat_lt, arith, ℕ, ℤ, pos, negsuc, zero, suc, Bool, true, false, List, [], ◌∷◌, Option, None, Some, slice_get, refl, sym, ap, subst, ◌∙◌}
 use Rattle.std.specs.Prelude.{◌==◌, ◌&&◌, if◌then◌else◌}
-use Rattle.std.specs.Option.{IfSome}
-use Rattle.std.specs.List.{list_any, list_all, AllByRecursion}
+use Rattle.std.specs.List.{list_any, list_all}
 use Rattle.std.proofs.lemmas.Bool.{true≢false, eqb-true, and_parts}
 use Rattle.std.proofs.lemmas.Bool.Decides.{nat_tests}
 use Rattle.std.proofs.lemmas.Option.{none-some, same_Some}
@@ -15,9 +14,10 @@ use Rattle.nwq_value.specs.declared.engine.Routine.{Routine}
 use Rattle.nwq_value.specs.declared.value.Ty.{Ty}
 use Rattle.nwq_value.specs.declared.value.Ty.TheVariants.{Void, Int, Text, Object, Effect, Event, Action, Struct, Refused}
 use Rattle.nwq_value.specs.declared.value.Value.{Value}
+use Rattle.world_rules.specs.Arguments.{int_at}
 use Rattle.world_rules.specs.Pure.{CellLookup, pure}
 use Rattle.world_rules.specs.World.{World}
-use Rattle.world_rules.specs.Rows.{Call, Row, rows, drawn, drawn_from}
+use Rattle.world_rules.specs.Rows.{Call, Row, rows, drawn, drawn_from, Answer, Nothing, Random, ByTag, IsThere, IntOf, TextOf, EventOf, UserNumber, answer}
 use Rattle.world_rules.specs.Engine.{by_role, by_routine, by_row, engine, row_numbered, world_value}
 use Rattle.world_core.specs.Answers.{IsOfType, AnswersHaveTypes}
 use Rattle.world_core.proofs.EngineLemmas.{at_place, or_false}
@@ -58,20 +58,25 @@ decoded Refused none = refl
 
 -- ---- what rows give
 
-abbrev row_code : ℕ → ℕ
-row_code n =
-    if n == 0 then 1 else if n == 14 then 3 else if n == 15 then 2 else if n == 16 then 1 else if n == 17 then 1 else if n == 19 then 2 else
-    if n == 38 then 5 else if n == 40 then 1 else 0
+abbrev answer_type : Answer → Ty
+answer_type Nothing = Void
+answer_type (Random n) = Int
+answer_type (ByTag tag n) = Object
+answer_type (IsThere o) = Int
+answer_type (IntOf o f) = Int
+answer_type (TextOf o f) = Text
+answer_type (EventOf n) = Event
+answer_type UserNumber = Int
 
-abbrev code_of : {X : Type 0} → Option (Row X) → ℕ → ℕ
-code_of None n = 0
-code_of (Some r) n = row_code n
-
-abbrev pure_code : ℕ → ℕ
-pure_code n = if n == 0 then 1 else if n == 2 then 1 else if n == 4 then 1 else 2
-
-abbrev Gives : {X : Type 0} → ℕ → Row X → Type 0
-Gives {X = X} n r = (c : Call X) (w : World X) → IsOfType (decode (row_code n)) (r.does c w).value
+no_struct : (a : Answer) → IsNoStruct (answer_type a)
+no_struct Nothing = tt
+no_struct (Random n) = tt
+no_struct (ByTag tag n) = tt
+no_struct (IsThere o) = tt
+no_struct (IntOf o f) = tt
+no_struct (TextOf o f) = tt
+no_struct (EventOf n) = tt
+no_struct UserNumber = tt
 
 drawn_from_type : {X : Type 0} → (random : List ℕ) (n : ℕ) (w : World X) → IsOfType Int (drawn_from random n w).value
 drawn_from_type [] n w = refl
@@ -82,23 +87,33 @@ drawn_type (negsuc n) w = refl
 drawn_type (pos zero) w = refl
 drawn_type (pos (suc n)) w = drawn_from_type w.random (suc n) w
 
-all_rows : {X : Type 0} → AllByRecursion (λ (r : Row X). Gives r.number r) rows
-all_rows =
-    (λ c w. drawn_type _ w, (λ c w. tt, (λ c w. tt, (λ c w. tt, (λ c w. tt, (λ c w. tt, (λ c w. tt, (λ c w. tt, (λ c w. tt, (λ c w. tt, (λ c w. tt, (λ c w. refl, (λ c w. refl, (λ c w. refl, (λ c w. refl, (λ c w. tt, (λ c w. refl, (λ c w. tt, (λ c w. tt, (λ c w. tt, (λ c w. tt, (λ c w. tt, (λ c w. refl, (λ c w. tt, (λ c w. refl, tt)))))))))))))))))))))))))
+answer_is : {X : Type 0} → (a : Answer) (values : List Value) (w : World X) → IsOfType (answer_type a) (answer a values w)
+answer_is Nothing values w = tt
+answer_is (Random n) values w = drawn_type (int_at n values) w
+answer_is (ByTag tag n) values w = refl
+answer_is (IsThere o) values w = refl
+answer_is (IntOf o f) values w = refl
+answer_is (TextOf o f) values w = refl
+answer_is (EventOf n) values w = refl
+answer_is UserNumber values w = refl
 
-found_if : {X : Type 0} → (b : Bool) (n : ℕ) (r : Row X) (o : Option (Row X)) → (r.number == n) ≡ b → Gives r.number r → IfSome o (Gives n) → IfSome (if b then Some r else o) (Gives n)
-found_if {X = X} true n r o is own rest = subst (λ (k : ℕ). Gives {X = X} k r) (eqb-true r.number n is) own
-found_if false n r o is own rest = rest
+-- the row of a number; a number without one gives nothing
+abbrev row_type : Option Row → Ty
+row_type None = Void
+row_type (Some r) = answer_type r.answers
 
-found_row : {X : Type 0} → (n : ℕ) (all : List (Row X)) → AllByRecursion (λ (r : Row X). Gives r.number r) all → IfSome (row_numbered n all) (Gives n)
-found_row n [] own = tt
-found_row n (r ∷ all) own = found_if (r.number == n) n r (row_numbered n all) refl own.0 (found_row n all own.1)
+row_no_struct : (o : Option Row) → IsNoStruct (row_type o)
+row_no_struct None = tt
+row_no_struct (Some r) = no_struct r.answers
 
-by_row_type : {X : Type 0} → (n : ℕ) (o : Option (Row X)) (c : Call X) (w : World X) → IfSome o (Gives n) → IsOfType (decode (code_of o n)) (by_row o c w).value
-by_row_type n None c w given = tt
-by_row_type n (Some r) c w given = given c w
+by_row_type : {X : Type 0} → (o : Option Row) (c : Call X) (w : World X) → IsOfType (row_type o) (by_row o c w).value
+by_row_type None c w = tt
+by_row_type (Some r) c w = answer_is r.answers c.values w
 
 -- ---- what pure functions give
+
+abbrev pure_code : ℕ → ℕ
+pure_code n = if n == 0 then 1 else if n == 2 then 1 else if n == 4 then 1 else 2
 
 pure_type : (cell : CellLookup) (k : ℕ) (values : List Value) → k < 10 → IsOfType (decode (pure_code k)) (pure cell k values)
 pure_type cell zero values lt = refl
@@ -118,16 +133,16 @@ below a b is = grind (arith, nat_tests, is)
 
 -- ---- the header's functions have these types
 
-abbrev role_test : (X : Type 0) → Option Role → Ty → Bool
-role_test X (Some (role.Built own)) gives = code gives == code_of (row_numbered own (rows {X = X})) own
-role_test X (Some (role.Pure k)) gives = nat_lt k 10 && (code gives == pure_code k)
-role_test X (Some role.World) gives = true
-role_test X (Some role.Uncallable) gives = true
-role_test X None gives = true
+abbrev role_test : Option Role → Ty → Bool
+role_test (Some (role.Built own)) gives = code gives == code (row_type (row_numbered own rows))
+role_test (Some (role.Pure k)) gives = nat_lt k 10 && (code gives == pure_code k)
+role_test (Some role.World) gives = true
+role_test (Some role.Uncallable) gives = true
+role_test None gives = true
 
-all_typed : (X : Type 0) → list_all (λ (s : Signature). role_test X s.role s.gives) header_signatures ≡ true
+all_typed : list_all (λ (s : Signature). role_test s.role s.gives) header_signatures ≡ true
 unfolding header_routines
-all_typed X = refl
+all_typed = refl
 
 decoded_as : (t : Ty) (n : ℕ) → IsNoStruct t → (code t == n) ≡ true → t ≡ decode n
 decoded_as t n none is = sym (decoded t none) ∙ ap decode (eqb-true (code t) n is)
@@ -154,14 +169,15 @@ routine_at (x ∷ routines) (suc n) r all is = routine_at routines n r all.1 is
 
 role_type : {X : Type 0} → BuiltAsHeader → PureAsHeader → WorldIsCallable → (cell : CellLookup) (n : ℕ) (r : Routine) (own : Role) (c : Call X) (w : World X) → IsRoutine r → r.role ≡ own → own ≢ role.Uncallable →
     IsOfType r.result (by_role cell n r own c w).value
-role_type {X = X} built pures worlds cell n r (role.Built k) c w is same callable =
+role_type built pures worlds cell n r (role.Built k) c w is same callable =
     let row = built r.name r.result (types_of r.params) k (sym is.role ∙ same) in
-    let test = at_place (λ (s : Signature). role_test X s.role s.gives) header_signatures k _ (all_typed X) row in
-    subst (λ (t : Ty). IsOfType t (by_row (row_numbered k rows) c w).value) (sym (decoded_as r.result (code_of (row_numbered k (rows {X = X})) k) is.result_type test))
-    (by_row_type k (row_numbered k rows) c w (found_row k rows all_rows))
-role_type {X = X} built pures worlds cell n r (role.Pure k) c w is same callable =
+    let test = at_place (λ (s : Signature). role_test s.role s.gives) header_signatures k _ all_typed row in
+    let own = row_numbered k rows in
+    let type = decoded_as r.result (code (row_type own)) is.result_type test ∙ decoded (row_type own) (row_no_struct own) in
+    subst (λ (t : Ty). IsOfType t (by_row own c w).value) (sym type) (by_row_type own c w)
+role_type built pures worlds cell n r (role.Pure k) c w is same callable =
     let row = pures r.name r.result (types_of r.params) k (sym is.role ∙ same) in
-    let test = and_parts (nat_lt k 10) (code r.result == pure_code k) (at_place (λ (s : Signature). role_test X s.role s.gives) header_signatures (28 + k) _ (all_typed X) row) in
+    let test = and_parts (nat_lt k 10) (code r.result == pure_code k) (at_place (λ (s : Signature). role_test s.role s.gives) header_signatures (28 + k) _ all_typed row) in
     subst (λ (t : Ty). IsOfType t (pure cell k c.values)) (sym (decoded_as r.result (pure_code k) is.result_type test.1)) (pure_type cell k c.values (below k 10 test.0))
 role_type built pures worlds cell n r role.World c w is same callable =
     let free = worlds r.name r.result (types_of r.params) (sym is.role ∙ same) in
@@ -170,6 +186,6 @@ role_type built pures worlds cell n r role.Uncallable c w is same callable = abs
 
 pub answers_typed : {X : Type 0} → BuiltAsHeader → PureAsHeader → WorldIsCallable → AnswersHaveTypes X
 unfolding engine
-answers_typed {X = X} built pures worlds table cell n r c w is there callable =
+answers_typed built pures worlds table cell n r c w is there callable =
     subst (λ (o : Option Routine). IsOfType r.result (by_routine cell n o c w).value) (sym there)
     (role_type built pures worlds cell n r r.role c w (routine_at table.routines n r is.routines there) refl callable)

@@ -15,6 +15,7 @@ mod area;
 mod args;
 mod effects;
 mod events;
+mod names;
 mod parts;
 mod random;
 mod rows;

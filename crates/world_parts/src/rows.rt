@@ -1,14 +1,20 @@
-//! The rows: what a routine of each number does.
-ghost use Rattle.std.specs.Prelude.{◌≡◌, ◌<◌, ◌≤◌, ◌+◌, ◌^◌, ◌⊎◌, ◌≢◌, IfOk, OnErr, None, Some, Ok};
-ghost use Rattle.std.specs.Prelude.{IsErr, MatchResult, Option, ℕ};
+//! The rows: what the engine's own routine of each name does.
+ghost use Rattle.std.specs.Prelude.{◌≡◌, ◌<◌, ◌≤◌, ◌+◌, ◌^◌, IfOk, OnErr, None, Some, Ok};
+ghost use Rattle.std.specs.Prelude.{IsErr, MatchResult};
+ghost use Rattle.action_queue.specs.declared.queue.Item.TheVariants as item;
+ghost use Rattle.area_rules.specs.Area.{by_tag};
 ghost use Rattle.nwq_value.specs.declared.value.Value.TheVariants as value;
+ghost use Rattle.world_rules.specs.declared.data.Told.TheVariants as line;
 ghost use Rattle.world_rules.specs.AlikeLaws.{call};
+ghost use Rattle.world_rules.specs.Arguments.{effect_at, int_at, object_at, text_at};
+ghost use Rattle.world_rules.specs.Changes.{told};
 ghost use Rattle.world_rules.specs.Kept.{IsWorld};
-ghost use Rattle.world_rules.specs.Rows.{as_int};
+ghost use Rattle.world_rules.specs.Rows.{appended, applied_to, as_int, leaves, removed};
 ghost use Rattle.world_rules.specs.World.{count};
 ghost use Rattle.world_parts.specs.Row.{does};
 
 use crate::args::{event_at, int_at, object_at, take_effect, take_text, text_at};
+use crate::names::*;
 use crate::parts::Parts;
 use action_queue::Item;
 use nwq_value::{Args, NoMemory, Text, Value};
@@ -34,15 +40,17 @@ fn string(text: Result<Text, NoMemory>) -> Result<Option<Value>, NoMemory>
     }
 }
 
-fn as_int(test: bool) -> i32
-    ensures int { result ≡ as_int test }
+/// The answer of a test: 1 or 0.
+fn test(test: bool) -> Result<Option<Value>, NoMemory>
+    ensures answer { result ≡ Ok (Some (value.Int (as_int test))) }
 {
-    if test { 1 } else { 0 }
+    Ok(Some(Value::Int(if test { 1 } else { 0 })))
 }
 
 impl<X: Drop> Parts<X> {
-    /// The routine of this number in the built-in header. The room for a post and a line is there,
-    /// and all other room is taken before anything is changed.
+    /// The routine of this number in the built-in header; a number without one does nothing. The
+    /// room for a post and a line is there, and all other room is taken before anything is changed.
+    #[tactic(auto, unfolding(crate::specs::Row::does))]
     pub fn row(
         &mut self,
         number: u16,
@@ -62,192 +70,139 @@ impl<X: Drop> Parts<X> {
         ensures posts { self.old.posts ≤ self.new.posts + 1 }
     {
         match number {
-            6 | 7 | 10 => self.stored_row(number, caller, args, action),
-            14..=22 => {
-                drop(action);
-                let answer = self.area_row(number, &args);
-                drop(args);
-                answer
-            }
-            0..=13 => {
-                drop(action);
-                self.told_row(number, caller, args)
-            }
-            _ => {
-                drop(action);
-                self.effect_row(number, args)
-            }
-        }
-    }
-
-    /// What is to run later: the routines that take an action.
-    #[tactic(auto, unfolding(crate::specs::Row::does))]
-    fn stored_row(
-        &mut self,
-        number: u16,
-        caller: u32,
-        args: Args,
-        action: Option<X>,
-    ) -> Result<Option<Value>, NoMemory>
-        requires stores { (number ≡ 6) ⊎ (number ≡ 7) ⊎ (number ≡ 10) }
-        requires world { IsWorld self.old.world }
-        requires room { 1 ≤ self.old.posts }
-        requires few { self.old.world.agenda.next < 2 ^ 63 }
-        requires early { self.old.world.clock < 2 ^ 62 }
-        ensures ok { IfOk result (λ value. record { value = value; world = self.new.world }
-            ≡ does number (call caller args action) self.old.world) }
-        ensures err { OnErr result (self.new.world ≡ self.old.world) }
-        ensures posts { self.old.posts ≤ self.new.posts + 1 }
-    {
-        let target = object_at(&args, 0);
-        let ms = int_at(&args, 0);
-        drop(args);
-        match number {
-            6 => {
-                self.assign(target, action);
+            RANDOM => Ok(Some(Value::Int(self.random(int_at(&args, 0))))),
+            PRINT_STRING => self.print_text(caller, args),
+            PRINT_INTEGER => self.print(caller, Value::Int(int_at(&args, 0))),
+            PRINT_OBJECT => self.print(caller, Value::Object(object_at(&args, 0))),
+            ASSIGN_COMMAND => {
+                self.assign(object_at(&args, 0), action);
                 Ok(None)
             }
-            7 => {
-                self.delay(caller, ms, action);
+            DELAY_COMMAND => {
+                self.delay(caller, int_at(&args, 0), action);
                 Ok(None)
             }
-            _ => nothing(self.add_do(caller, action)),
-        }
-    }
-
-    /// Random numbers, what is told, and the caller's queue. The first argument is read by its
-    /// kind.
-    #[tactic(auto, unfolding(crate::specs::Row::does))]
-    fn told_row(&mut self, number: u16, caller: u32, args: Args) -> Result<Option<Value>, NoMemory>
-        requires last { number ≤ 13 }
-        requires assigns { number ≢ 6 }
-        requires delays { number ≢ 7 }
-        requires queues { number ≢ 10 }
-        requires world { IsWorld self.old.world }
-        requires caller { caller ≤ count self.old.world }
-        requires room { 1 ≤ self.old.posts }
-        requires line { 1 ≤ self.old.lines }
-        requires few { self.old.world.agenda.next < 2 ^ 63 }
-        ensures ok { (action : Option X) → IfOk result (λ value.
-            record { value = value; world = self.new.world }
-            ≡ does number (call caller args action) self.old.world) }
-        ensures err { OnErr result (self.new.world ≡ self.old.world) }
-        ensures posts { self.old.posts ≤ self.new.posts + 1 }
-    {
-        let n = int_at(&args, 0);
-        let o = object_at(&args, 0);
-        let alloc = self.alloc();
-        match number {
-            0 => Ok(Some(Value::Int(self.random(n)))),
-            1 => {
-                let text = take_text(alloc, args, 0)?;
-                self.tell(caller, Told::Print(Value::Text(text)));
-                Ok(None)
-            }
-            4 => {
-                self.tell(caller, Told::Print(Value::Int(n)));
-                Ok(None)
-            }
-            5 => {
-                self.tell(caller, Told::Print(Value::Object(o)));
-                Ok(None)
-            }
-            9 => {
+            CLEAR_ALL_ACTIONS => {
                 self.clear_all(caller);
                 Ok(None)
             }
-            11 => nothing(self.add_action(caller, Item::Wait(n))),
-            12 => {
-                let text = take_text(alloc, args, 0)?;
-                nothing(self.add_action(caller, Item::Speak(text)))
-            }
-            13 => {
-                let text = take_text(alloc, args, 0)?;
-                self.tell(caller, Told::Speak(text));
+            ACTION_DO_COMMAND => nothing(self.add_do(caller, action)),
+            ACTION_WAIT => nothing(self.add_action(caller, Item::Wait(int_at(&args, 0)))),
+            ACTION_SPEAK_STRING => self.add_speech(caller, args),
+            SPEAK_STRING => self.speak(caller, args),
+            GET_OBJECT_BY_TAG => self.by_tag(&args),
+            GET_TAG => string(Text::of(self.alloc(), self.tag(object_at(&args, 0)))),
+            GET_IS_OBJECT_VALID => test(self.is_valid(object_at(&args, 0))),
+            GET_LOCAL_INT => Ok(Some(Value::Int(self.get_local_int(&args)))),
+            SET_LOCAL_INT => nothing(self.put_local_int(&args)),
+            GET_LOCAL_STRING => string(Text::of(self.alloc(), self.get_local_text(&args))),
+            SET_LOCAL_STRING => nothing(self.put_local_text(&args)),
+            DELETE_LOCAL_INT => {
+                self.drop_local_int(&args);
                 Ok(None)
             }
+            DELETE_LOCAL_STRING => {
+                self.drop_local_text(&args);
+                Ok(None)
+            }
+            APPLY_EFFECT_TO_OBJECT => self.apply(args),
+            REMOVE_EFFECT => self.remove(args),
+            EVENT_USER_DEFINED => Ok(Some(Value::Event(int_at(&args, 0)))),
+            SIGNAL_EVENT => nothing(self.signal(object_at(&args, 0), event_at(&args, 1))),
+            GET_USER_DEFINED_EVENT_NUMBER => Ok(Some(Value::Int(self.user))),
             _ => Ok(None),
         }
     }
 
-    /// What is read and changed of the area's objects.
-    #[tactic(auto, unfolding(crate::specs::Row::does))]
-    fn area_row(&mut self, number: u16, args: &Args) -> Result<Option<Value>, NoMemory>
-        requires first { 14 ≤ number }
-        requires last { number ≤ 22 }
-        ensures ok { (caller : ℕ) (action : Option X) → IfOk result (λ value.
-            record { value = value; world = self.new.world }
-            ≡ does number (call caller args.now action) self.old.world) }
+    /// Tells an argument.
+    fn print(&mut self, caller: u32, value: Value) -> Result<Option<Value>, NoMemory>
+        requires line { 1 ≤ self.old.lines }
+        ensures told { result ≡ Ok None }
+        ensures world { self.new.world ≡ told caller (line.Print value) self.old.world }
+        ensures posts { self.new.posts ≡ self.old.posts }
+    {
+        self.tell(caller, Told::Print(value));
+        Ok(None)
+    }
+
+    /// Tells the first argument, a string.
+    fn print_text(&mut self, caller: u32, args: Args) -> Result<Option<Value>, NoMemory>
+        requires line { 1 ≤ self.old.lines }
+        ensures ok { IfOk result (λ given. record { value = given; world = self.new.world }
+            ≡ leaves (told caller (line.Print (value.Text (text_at 0 args))) self.old.world)) }
         ensures err { OnErr result (self.new.world ≡ self.old.world) }
         ensures posts { self.new.posts ≡ self.old.posts }
     {
-        let alloc = self.alloc();
-        match number {
-            14 => {
-                let object = self.area.by_tag(text_at(args, 0), int_at(args, 1));
-                Ok(Some(Value::Object(object)))
-            }
-            15 => string(Text::of(alloc, self.tag(object_at(args, 0)))),
-            16 => Ok(Some(Value::Int(as_int(self.is_valid(object_at(args, 0)))))),
-            17 => Ok(Some(Value::Int(self.get_local_int(args)))),
-            18 => nothing(self.put_local_int(args)),
-            19 => string(Text::of(alloc, self.get_local_text(args))),
-            20 => nothing(self.put_local_text(args)),
-            21 => {
-                self.drop_local_int(args);
-                Ok(None)
-            }
-            _ => {
-                self.drop_local_text(args);
-                Ok(None)
-            }
-        }
+        let text = take_text(self.alloc(), args, 0)?;
+        self.print(caller, Value::Text(text))
     }
 
-    /// Effects and events. A number without a routine does nothing.
-    #[tactic(auto, unfolding(crate::specs::Row::does))]
-    fn effect_row(&mut self, number: u16, args: Args) -> Result<Option<Value>, NoMemory>
-        requires first { 23 ≤ number }
+    /// Speaks the first argument.
+    fn speak(&mut self, caller: u32, args: Args) -> Result<Option<Value>, NoMemory>
+        requires line { 1 ≤ self.old.lines }
+        ensures ok { IfOk result (λ value. record { value = value; world = self.new.world }
+            ≡ leaves (told caller (line.Speak (text_at 0 args)) self.old.world)) }
+        ensures err { OnErr result (self.new.world ≡ self.old.world) }
+        ensures posts { self.new.posts ≡ self.old.posts }
+    {
+        let text = take_text(self.alloc(), args, 0)?;
+        self.tell(caller, Told::Speak(text));
+        Ok(None)
+    }
+
+    /// The caller is to speak the first argument.
+    fn add_speech(&mut self, caller: u32, args: Args) -> Result<Option<Value>, NoMemory>
+        requires world { IsWorld self.old.world }
+        requires room { 1 ≤ self.old.posts }
+        requires few { self.old.world.agenda.next < 2 ^ 63 }
+        ensures ok { IfOk result (λ value. record { value = value; world = self.new.world }
+            ≡ leaves (appended caller (item.Speak (text_at 0 args)) self.old.world)) }
+        ensures err { OnErr result (self.new.world ≡ self.old.world) }
+        ensures posts { self.old.posts ≤ self.new.posts + 1 }
+    {
+        let text = take_text(self.alloc(), args, 0)?;
+        nothing(self.add_action(caller, Item::Speak(text)))
+    }
+
+    /// The object of a tag that so many others of it are before.
+    fn by_tag(&self, args: &Args) -> Result<Option<Value>, NoMemory>
+        ensures object { result ≡ Ok (Some (value.Object (by_tag self.now.world.area
+            (text_at 0 args.now) (int_at 1 args.now)))) }
+    {
+        let object = self.area.by_tag(text_at(args, 0), int_at(args, 1));
+        Ok(Some(Value::Object(object)))
+    }
+
+    /// Applies an effect, by its duration type, itself, its object and its time.
+    fn apply(&mut self, args: Args) -> Result<Option<Value>, NoMemory>
         requires world { IsWorld self.old.world }
         requires room { 1 ≤ self.old.posts }
         requires line { 1 ≤ self.old.lines }
         requires few { self.old.world.agenda.next < 2 ^ 63 }
         requires early { self.old.world.clock < 2 ^ 62 }
-        ensures ok { (caller : ℕ) (action : Option X) → IfOk result (λ value.
-            record { value = value; world = self.new.world }
-            ≡ does number (call caller args action) self.old.world) }
+        ensures ok { IfOk result (λ value. record { value = value; world = self.new.world }
+            ≡ leaves (applied_to (int_at 0 args) (object_at 2 args) (effect_at 1 args)
+            (int_at 3 args) self.old.world)) }
         ensures err { OnErr result (self.new.world ≡ self.old.world) }
         ensures posts { self.old.posts ≤ self.new.posts + 1 }
     {
-        let alloc = self.alloc();
-        match number {
-            23 => {
-                let (duration, o, ms) = (int_at(&args, 0), object_at(&args, 2), int_at(&args, 3));
-                nothing(self.apply_to(duration, o, take_effect(alloc, args, 1)?, ms))
-            }
-            24 => {
-                let o = object_at(&args, 0);
-                self.remove_effect(o, take_effect(alloc, args, 1)?);
-                Ok(None)
-            }
-            38 => {
-                let user = int_at(&args, 0);
-                drop(args);
-                Ok(Some(Value::Event(user)))
-            }
-            39 => {
-                let (o, user) = (object_at(&args, 0), event_at(&args, 1));
-                drop(args);
-                nothing(self.signal(o, user))
-            }
-            40 => {
-                drop(args);
-                Ok(Some(Value::Int(self.user)))
-            }
-            _ => {
-                drop(args);
-                Ok(None)
-            }
-        }
+        let (duration, o, ms) = (int_at(&args, 0), object_at(&args, 2), int_at(&args, 3));
+        let effect = take_effect(self.alloc(), args, 1)?;
+        nothing(self.apply_to(duration, o, effect, ms))
+    }
+
+    /// Removes an effect of an object.
+    fn remove(&mut self, args: Args) -> Result<Option<Value>, NoMemory>
+        requires world { IsWorld self.old.world }
+        requires line { 1 ≤ self.old.lines }
+        ensures ok { IfOk result (λ value. record { value = value; world = self.new.world }
+            ≡ leaves (removed (object_at 0 args) (effect_at 1 args) self.old.world)) }
+        ensures err { OnErr result (self.new.world ≡ self.old.world) }
+        ensures posts { self.new.posts ≡ self.old.posts }
+    {
+        let o = object_at(&args, 0);
+        let effect = take_effect(self.alloc(), args, 1)?;
+        self.remove_effect(o, effect);
+        Ok(None)
     }
 }

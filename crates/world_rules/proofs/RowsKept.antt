@@ -1,7 +1,7 @@
 -- Each routine keeps what worlds keep.
-use Rattle.std.proofs.Common.{◌≡◌, ◌≢◌, ℕ, ℤ, pos, negsuc, ◌≤◌, zero, suc, Bool, true, false, not, List, [], ◌∷◌, ◌++◌, length, Option, None, Some, refl, sym, ap, subst, ◌∙◌, inl, inr, arith, slice_get, cond}
+use Rattle.std.proofs.Common.{◌≡◌, ◌≢◌, ℕ, ℤ, pos, negsuc, ◌≤◌, zero, suc, Bool, true, false, not, List, [], ◌∷◌, ◌++◌, length, Option, None, Some, refl, sym, ap, subst, ◌∙◌, inl, inr, arith, slice_get}
 use Rattle.std.specs.Prelude.{if◌then◌else◌, ◌==◌, ◌⊎◌, IsTrue}
-use Rattle.std.specs.List.{AllByRecursion, list_any}
+use Rattle.std.specs.List.{list_any}
 use Rattle.std.proofs.lemmas.Bool.Decides.{nat_tests}
 use Rattle.action_queue.specs.declared.queue.Item.{Item}
 use Rattle.action_queue.specs.declared.queue.Item.TheVariants.{Do, Wait, Speak}
@@ -19,9 +19,12 @@ use Rattle.world_rules.specs.Arguments.{int_at, text_at, object_at, effect_at, e
 use Rattle.world_rules.specs.Pure.{CellLookup}
 use Rattle.world_rules.specs.World.{World, count, is_valid, queue_of, effects_of}
 use Rattle.world_rules.specs.Changes.{told, post, later, with_action, with_actions, with_busy, with_effect, with_effects, with_variables, has_turn, without_turn, without_first, is_effect}
-use Rattle.world_rules.specs.Rows.{Call, Row, rows, drawn_from, drawn, assigned, delayed, awake, appended, appended_do, at_rest, cleared, changed_variables, applied, applied_to, removed, event_script, signalled}
+use Rattle.world_rules.specs.Rows.{Call, Row, rows, drawn_from, drawn, assigned, delayed, awake, appended, appended_do, at_rest, cleared, changed_variables, applied, applied_to, removed, event_script, signalled, argument, NewItem, TheAction, AWait, ASpeech, queued, varied, Change, Print, Say, Draw, Assign, Delay, Queue, Clear, Vary, Apply, Remove, Signal, done, all_done}
+use Rattle.world_rules.specs.RowLaws.{PostsOne, row_posts_one, all_done_posts}
 use Rattle.world_rules.specs.Engine.{row_numbered, by_row, by_role, by_routine, engine}
-use Rattle.world_rules.specs.Kept.{turns_allowed, IsWorld, IsSettled, IsStep, EngineKeeps}
+use Rattle.world_rules.specs.InPlan.{StaysInPlan}
+use Rattle.world_rules.specs.Settled.{stays_so, stays_on}
+use Rattle.world_rules.specs.Kept.{turns_allowed, IsWorld, IsActing, IsSettled, IsStep, EngineKeeps}
 use Rattle.world_rules.proofs.Queues.{other_queue, same_mark, no_actions, settled_by, busy_settled, cleared_settled}
 use Rattle.world_rules.proofs.KeptLemmas.{AgendaLaws, marks_actions, marks_kept, step_behind, SameShape, same_shape, shapes_join, shape_if, shape_effects, shape_variables, shape_kept, shape_step, stays_by, soon_later, late_later, step_after, step_if, post_step, same_or_other, valid_tells, none_when, woken_settled, awake_if, rest_step}
 
@@ -145,10 +148,7 @@ step_signalled : {X : Type 0} (laws : AgendaLaws X) (o : ℕ) (user : ℤ) (w : 
 step_signalled laws o user w h = step_if (is_valid o w) w (post w.clock (Event o (event_script (object w.area o).scripts) user) w) h
     (λ valid. post_step laws w.clock (Event o (event_script (object w.area o).scripts) user) w h (valid_tells o w valid).1 (omega arith) (omega arith) (λ p. refl))
 
--- ---- the rows
-
-record RowKeeps {X : Type 0} (r : Row X) : Type 0 where
-  by : (c : Call X) (w : World X) → IsWorld w → c.caller ≤ count w → IsStep w (r.does c w).world
+-- ---- small changes
 
 told_keeps : {X : Type 0} (o : ℕ) (what : Told) (w : World X) → IsWorld w → IsStep w (told o what w)
 told_keeps o what w h = shape_step w (told o what w) (shape_told o what w) h
@@ -156,97 +156,86 @@ told_keeps o what w h = shape_step w (told o what w) (shape_told o what w) h
 stays : {X : Type 0} (w : World X) → IsWorld w → IsStep w w
 stays w h = shape_step w w (same_shape w) h
 
-rows_keep : {X : Type 0} → AgendaLaws X → AllByRecursion RowKeeps (rows {X = X})
-rows_keep laws = (
-  record { by = λ c w h most. shape_step w (drawn (int_at 0 c.values) w).world (shape_drawn (int_at 0 c.values) w) h },
-  (
-    record { by = λ c w h most. told_keeps c.caller _ w h },
-    (
-      record { by = λ c w h most. told_keeps c.caller _ w h },
-      (
-        record { by = λ c w h most. told_keeps c.caller _ w h },
-        (
-          record { by = λ c w h most. step_assigned laws (object_at 0 c.values) c.action w h },
-          (
-            record { by = λ c w h most. step_delayed laws c.caller (int_at 0 c.values) c.action w h most },
-            (
-              record { by = λ c w h most. step_cleared laws c.caller w h },
-              (
-                record { by = λ c w h most. step_appended_do laws c.caller c.action w h },
-                (
-                  record { by = λ c w h most. step_appended laws c.caller (Wait (int_at 0 c.values)) w h },
-                  (
-                    record { by = λ c w h most. step_appended laws c.caller (Speak (text_at 0 c.values)) w h },
-                    (
-                      record { by = λ c w h most. told_keeps c.caller _ w h },
-                      (
-                        record { by = λ c w h most. stays w h },
-                        (
-                          record { by = λ c w h most. stays w h },
-                          (
-                            record { by = λ c w h most. stays w h },
-                            (
-                              record { by = λ c w h most. stays w h },
-                              (
-                                record { by = λ c w h most. step_variables (object_at 0 c.values) _ w h },
-                                (
-                                  record { by = λ c w h most. stays w h },
-                                  (
-                                    record { by = λ c w h most. step_variables (object_at 0 c.values) _ w h },
-                                    (
-                                      record { by = λ c w h most. step_variables (object_at 0 c.values) _ w h },
-                                      (
-                                        record { by = λ c w h most. step_variables (object_at 0 c.values) _ w h },
-                                        (
-                                          record { by = λ c w h most. step_applied_to laws (int_at 0 c.values) (object_at 2 c.values) (effect_at 1 c.values) (int_at 3 c.values) w h },
-                                          (
-                                            record { by = λ c w h most. step_removed (object_at 0 c.values) (effect_at 1 c.values) w h },
-                                            (
-                                              record { by = λ c w h most. stays w h },
-                                              (
-                                                record { by = λ c w h most. step_signalled laws (object_at 0 c.values) (event_at 1 c.values) w h },
-                                                (
-                                                  record { by = λ c w h most. stays w h },
-                                                  tt,
-                                                ),
-                                              ),
-                                            ),
-                                          ),
-                                        ),
-                                      ),
-                                    ),
-                                  ),
-                                ),
-                              ),
-                            ),
-                          ),
-                        ),
-                      ),
-                    ),
-                  ),
-                ),
-              ),
-            ),
-          ),
-        ),
-      ),
-    ),
-  ),
-)
+step_queued : {X : Type 0} (laws : AgendaLaws X) (item : NewItem) (c : Call X) (w : World X) → IsWorld w → IsStep w (queued item c w)
+step_queued laws TheAction c w h = step_appended_do laws c.caller c.action w h
+step_queued laws (AWait ms) c w h = step_appended laws c.caller (Wait (int_at ms c.values)) w h
+step_queued laws (ASpeech text) c w h = step_appended laws c.caller (Speak (text_at text c.values)) w h
 
-chosen_keeps : {X : Type 0} (b : Bool) (r : Row X) (rest : Option (Row X)) (c : Call X) (w : World X)
-    → IsStep w (r.does c w).world → IsStep w (by_row rest c w).world → IsStep w (by_row (cond b (Some r) rest) c w).world
-chosen_keeps true r rest c w own next = own
-chosen_keeps false r rest c w own next = next
+step_done : {X : Type 0} (laws : AgendaLaws X) (x : Change) (c : Call X) (w : World X) → IsWorld w → c.caller ≤ count w → IsStep w (done x c w)
+step_done laws (Print a) c w h most = told_keeps c.caller (line.Print (argument a c.values)) w h
+step_done laws (Say text) c w h most = told_keeps c.caller (line.Speak (text_at text c.values)) w h
+step_done laws (Draw n) c w h most = shape_step w (drawn (int_at n c.values) w).world (shape_drawn (int_at n c.values) w) h
+step_done laws (Assign o) c w h most = step_assigned laws (object_at o c.values) c.action w h
+step_done laws (Delay ms) c w h most = step_delayed laws c.caller (int_at ms c.values) c.action w h most
+step_done laws (Queue item) c w h most = step_queued laws item c w h
+step_done laws Clear c w h most = step_cleared laws c.caller w h
+step_done laws (Vary o change) c w h most = step_variables (object_at o c.values) (varied change c.values) w h
+step_done laws (Apply duration e o ms) c w h most = step_applied_to laws (int_at duration c.values) (object_at o c.values) (effect_at e c.values) (int_at ms c.values) w h
+step_done laws (Remove o e) c w h most = step_removed (object_at o c.values) (effect_at e c.values) w h
+step_done laws (Signal o e) c w h most = step_signalled laws (object_at o c.values) (event_at e c.values) w h
 
-row_keeps : {X : Type 0} (all : List (Row X)) → AllByRecursion RowKeeps all → (n : ℕ) (c : Call X) (w : World X)
-    → IsWorld w → c.caller ≤ count w → IsStep w (by_row (row_numbered n all) c w).world
-row_keeps [] keep n c w h most = stays w h
-row_keeps (r ∷ rest) keep n c w h most = chosen_keeps (r.number == n) r (row_numbered n rest) c w (keep.0.by c w h most) (row_keeps rest keep.1 n c w h most)
+-- ---- lists of them
+
+-- a step, but for how many entries it posts
+record Goes {X : Type 0} (w v : World X) : Type 0 where
+  world : IsWorld v
+  objects : count v ≡ count w
+  clock : v.clock ≡ w.clock
+  no_less : w.agenda.next ≤ v.agenda.next
+  acting : (o : ℕ) → IsActing o w → IsActing o v
+  settled : (o : ℕ) → IsSettled o w → IsSettled o v
+  plan : (until : ℕ) → StaysInPlan until w v
+
+goes_on : {X : Type 0} (w v u : World X) → IsStep w v → Goes v u → Goes w u
+goes_on w v u s g =
+    let less = s.no_less in
+    let more = g.no_less in
+    record {
+      world = g.world;
+      objects = g.objects ∙ s.objects;
+      clock = g.clock ∙ s.clock;
+      no_less = omega (arith, less, more);
+      acting = λ o a. g.acting o (s.acting o a);
+      settled = λ o a. g.settled o (s.settled o a);
+      plan = λ until. stays_on until w v u (s.plan until) (g.plan until);
+    }
+
+all_go : {X : Type 0} (laws : AgendaLaws X) (changes : List Change) (c : Call X) (w : World X) → IsWorld w → c.caller ≤ count w → Goes w (all_done changes c w)
+all_go laws [] c w h most = record {
+  world = h;
+  objects = refl;
+  clock = refl;
+  no_less = omega arith;
+  acting = λ o a. a;
+  settled = λ o a. a;
+  plan = λ until. stays_so until w;
+}
+all_go laws (x ∷ changes) c w h most =
+    let s = step_done laws x c w h most in
+    let same = s.objects in
+    goes_on w (done x c w) (all_done changes c (done x c w)) s (all_go laws changes c (done x c w) s.world (omega (arith, same, most)))
+
+-- ---- rows
+
+row_keeps : {X : Type 0} (laws : AgendaLaws X) (r : Option Row) (c : Call X) (w : World X) → PostsOne r → IsWorld w → c.caller ≤ count w → IsStep w (by_row r c w).world
+row_keeps laws None c w few h most = stays w h
+row_keeps laws (Some r) c w few h most =
+    let g = all_go laws r.changes c w h most in
+    let more = all_done_posts r.changes c w in
+    record {
+      world = g.world;
+      objects = g.objects;
+      clock = g.clock;
+      no_less = g.no_less;
+      at_most_one = omega (arith, few, more);
+      acting = g.acting;
+      settled = g.settled;
+      plan = g.plan;
+    }
 
 role_keeps : {X : Type 0} (laws : AgendaLaws X) (cell : CellLookup) (n : ℕ) (r : Routine) (kind : Role) (c : Call X) (w : World X)
     → IsWorld w → c.caller ≤ count w → IsStep w (by_role cell n r kind c w).world
-role_keeps laws cell n r (role.Built own) c w h most = row_keeps rows (rows_keep laws) own c w h most
+role_keeps laws cell n r (role.Built own) c w h most = row_keeps laws (row_numbered own rows) c w (row_posts_one own) h most
 role_keeps laws cell n r (role.Pure k) c w h most = stays w h
 role_keeps laws cell n r role.World c w h most = told_keeps c.caller (line.Call r.name c.values) w h
 role_keeps laws cell n r role.Uncallable c w h most = stays w h

@@ -15,15 +15,15 @@ use Rattle.world_rules.specs.Arguments.{ints_of}
 use Rattle.world_rules.specs.Pure.{CellLookup, pure}
 use Rattle.world_rules.specs.World.{World, is_valid}
 use Rattle.world_rules.specs.Changes.{told}
-use Rattle.world_rules.specs.Rows.{Call, Answered, Row, rows, leaves}
+use Rattle.world_rules.specs.Rows.{Call, Answered, Row, rows, called, leaves}
 
 -- the row of a number
-abbrev pub row_numbered : {X : Type 0} → ℕ → List (Row X) → Option (Row X)
+abbrev pub row_numbered : ℕ → List Row → Option Row
 row_numbered n all = find (λ r. r.number == n) all
 
-abbrev pub by_row : {X : Type 0} → Option (Row X) → Call X → World X → Answered X
+abbrev pub by_row : {X : Type 0} → Option Row → Call X → World X → Answered X
 by_row None c w = leaves w
-by_row (Some r) c w = r.does c w
+by_row (Some r) c w = called r c w
 
 -- what a world function gives: of an effect its number and the ints among its arguments, else the
 -- result type's starting value

@@ -5,6 +5,7 @@ pub mod World
 pub mod Changes
 pub mod Rows
 pub mod Engine
+pub mod RowLaws
 pub mod Turns
 pub mod Mapped
 pub mod Alike

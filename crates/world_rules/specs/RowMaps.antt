@@ -1,8 +1,8 @@
 -- Each routine does the same where the stored actions are changed.
 use Rattle.std.proofs.Common.{◌≡◌, ℕ, ℤ, pos, negsuc, zero, suc, Bool, true, false, List, [], ◌∷◌, Option, None, Some, refl, ap, ap₂, ◌∙◌}
-use Rattle.std.specs.Prelude.{if◌then◌else◌, ◌==◌, slice_get, cond}
+use Rattle.std.specs.Prelude.{if◌then◌else◌, ◌==◌, slice_get}
 use Rattle.std.specs.Option.{option_map}
-use Rattle.std.specs.List.{AllZip, list_any}
+use Rattle.std.specs.List.{list_any}
 use Rattle.action_queue.specs.declared.queue.Item.{Item}
 use Rattle.action_queue.specs.declared.queue.Item.TheVariants.{Do, Wait, Speak}
 use Rattle.area_rules.specs.Area.{object}
@@ -13,13 +13,14 @@ use Rattle.nwq_value.specs.declared.engine.Role.{Role}
 use Rattle.nwq_value.specs.declared.engine.Role.TheVariants as role
 use Rattle.nwq_value.specs.declared.engine.Routine.{Routine}
 use Rattle.nwq_value.specs.Effect.{Effect}
+use Rattle.nwq_value.specs.declared.value.Value.{Value}
 use Rattle.world_rules.specs.declared.data.Stood.{Stood}
 use Rattle.world_rules.specs.declared.data.Told.TheVariants as line
 use Rattle.world_rules.specs.Arguments.{int_at, text_at, object_at, effect_at, event_at}
 use Rattle.world_rules.specs.Pure.{CellLookup}
 use Rattle.world_rules.specs.World.{World, is_valid, queue_of, effects_of}
 use Rattle.world_rules.specs.Changes.{told, post, later, with_action, with_actions, with_busy, with_effect, with_effects, with_variables, has_turn, without_turn, without_first, is_effect}
-use Rattle.world_rules.specs.Rows.{Call, Row, rows, leaves, drawn_from, drawn, assigned, delayed, awake, appended, appended_do, at_rest, cleared, changed_variables, applied, applied_to, removed, event_script, signalled}
+use Rattle.world_rules.specs.Rows.{Call, Answered, Row, rows, drawn_from, drawn, assigned, delayed, awake, appended, appended_do, at_rest, cleared, changed_variables, applied, applied_to, removed, event_script, signalled, NewItem, TheAction, AWait, ASpeech, queued, varied, Change, Print, Say, Draw, Assign, Delay, Queue, Clear, Vary, Apply, Remove, Signal, done, all_done, Answer, Nothing, Random, ByTag, IsThere, IntOf, TextOf, EventOf, UserNumber, answer}
 use Rattle.world_rules.specs.Engine.{row_numbered, by_row, by_role, by_routine, engine}
 use Rattle.world_rules.specs.Mapped.{map_item, map_world, map_call, map_answered}
 use Rattle.world_rules.specs.WorldMaps.{map_if, post_map, has_turn_map, without_turn_map, queue_map, effects_map, with_effects_map, with_actions_map, with_busy_map, with_action_map, with_effect_map}
@@ -104,110 +105,48 @@ signalled_map : {X Y : Type 0} (f : X → Y) (o : ℕ) (user : ℤ) (w : World X
 signalled_map f o user w = where_map f (is_valid o w) w (post w.clock (Event o (event_script (object w.area o).scripts) user) w)
     (post w.clock (Event o (event_script (object w.area o).scripts) user) (map_world f w)) (post_map f w.clock (Event o (event_script (object w.area o).scripts) user) w)
 
--- ---- the rows
+-- ---- small changes, answers, rows
 
--- two rows of one number that do the same
-record Matches {X Y : Type 0} (f : X → Y) (r : Row X) (s : Row Y) : Type 0 where
-  number : s.number ≡ r.number
-  same : (c : Call X) (w : World X) → s.does (map_call f c) (map_world f w) ≡ map_answered f (r.does c w)
+queued_map : {X Y : Type 0} (f : X → Y) (item : NewItem) (c : Call X) (w : World X) → queued item (map_call f c) (map_world f w) ≡ map_world f (queued item c w)
+queued_map f TheAction c w = appended_do_map f c.caller c.action w
+queued_map f (AWait ms) c w = appended_map f c.caller (Wait (int_at ms c.values)) w
+queued_map f (ASpeech text) c w = appended_map f c.caller (Speak (text_at text c.values)) w
 
-matches_itself : {X Y : Type 0} (f : X → Y) → AllZip (Matches f) (rows {X = X}) (rows {X = Y})
-matches_itself f = (
-  record { number = refl; same = λ c w. drawn_map f (int_at 0 c.values) w },
-  (
-    record { number = refl; same = λ c w. refl },
-    (
-      record { number = refl; same = λ c w. refl },
-      (
-        record { number = refl; same = λ c w. refl },
-        (
-          record { number = refl; same = λ c w. ap leaves (assigned_map f (object_at 0 c.values) c.action w) },
-          (
-            record { number = refl; same = λ c w. ap leaves (delayed_map f c.caller (int_at 0 c.values) c.action w) },
-            (
-              record { number = refl; same = λ c w. ap leaves (cleared_map f c.caller w) },
-              (
-                record { number = refl; same = λ c w. ap leaves (appended_do_map f c.caller c.action w) },
-                (
-                  record { number = refl; same = λ c w. ap leaves (appended_map f c.caller (Wait (int_at 0 c.values)) w) },
-                  (
-                    record { number = refl; same = λ c w. ap leaves (appended_map f c.caller (Speak (text_at 0 c.values)) w) },
-                    (
-                      record { number = refl; same = λ c w. refl },
-                      (
-                        record { number = refl; same = λ c w. refl },
-                        (
-                          record { number = refl; same = λ c w. refl },
-                          (
-                            record { number = refl; same = λ c w. refl },
-                            (
-                              record { number = refl; same = λ c w. refl },
-                              (
-                                record { number = refl; same = λ c w. ap leaves (changed_variables_map f _ _ w) },
-                                (
-                                  record { number = refl; same = λ c w. refl },
-                                  (
-                                    record { number = refl; same = λ c w. ap leaves (changed_variables_map f _ _ w) },
-                                    (
-                                      record { number = refl; same = λ c w. ap leaves (changed_variables_map f _ _ w) },
-                                      (
-                                        record { number = refl; same = λ c w. ap leaves (changed_variables_map f _ _ w) },
-                                        (
-                                          record { number = refl; same = λ c w. ap leaves (applied_to_map f (int_at 0 c.values) (object_at 2 c.values) (effect_at 1 c.values) (int_at 3 c.values) w) },
-                                          (
-                                            record { number = refl; same = λ c w. ap leaves (removed_map f (object_at 0 c.values) (effect_at 1 c.values) w) },
-                                            (
-                                              record { number = refl; same = λ c w. refl },
-                                              (
-                                                record { number = refl; same = λ c w. ap leaves (signalled_map f (object_at 0 c.values) (event_at 1 c.values) w) },
-                                                (
-                                                  record { number = refl; same = λ c w. refl },
-                                                  tt,
-                                                ),
-                                              ),
-                                            ),
-                                          ),
-                                        ),
-                                      ),
-                                    ),
-                                  ),
-                                ),
-                              ),
-                            ),
-                          ),
-                        ),
-                      ),
-                    ),
-                  ),
-                ),
-              ),
-            ),
-          ),
-        ),
-      ),
-    ),
-  ),
-)
+done_map : {X Y : Type 0} (f : X → Y) (x : Change) (c : Call X) (w : World X) → done x (map_call f c) (map_world f w) ≡ map_world f (done x c w)
+done_map f (Print a) c w = refl
+done_map f (Say text) c w = refl
+done_map f (Draw n) c w = ap (λ (a : Answered _). a.world) (drawn_map f (int_at n c.values) w)
+done_map f (Assign o) c w = assigned_map f (object_at o c.values) c.action w
+done_map f (Delay ms) c w = delayed_map f c.caller (int_at ms c.values) c.action w
+done_map f (Queue item) c w = queued_map f item c w
+done_map f Clear c w = cleared_map f c.caller w
+done_map f (Vary o change) c w = changed_variables_map f (object_at o c.values) (varied change c.values) w
+done_map f (Apply duration e o ms) c w = applied_to_map f (int_at duration c.values) (object_at o c.values) (effect_at e c.values) (int_at ms c.values) w
+done_map f (Remove o e) c w = removed_map f (object_at o c.values) (effect_at e c.values) w
+done_map f (Signal o e) c w = signalled_map f (object_at o c.values) (event_at e c.values) w
 
-chosen_map : {X Y : Type 0} (f : X → Y) (b : Bool) (r : Row X) (s : Row Y) (rest : Option (Row X)) (others : Option (Row Y)) (c : Call X) (w : World X)
-    → s.does (map_call f c) (map_world f w) ≡ map_answered f (r.does c w)
-    → by_row others (map_call f c) (map_world f w) ≡ map_answered f (by_row rest c w)
-    → by_row (cond b (Some s) others) (map_call f c) (map_world f w) ≡ map_answered f (by_row (cond b (Some r) rest) c w)
-chosen_map f true r s rest others c w same next = same
-chosen_map f false r s rest others c w same next = next
+all_done_map : {X Y : Type 0} (f : X → Y) (changes : List Change) (c : Call X) (w : World X) → all_done changes (map_call f c) (map_world f w) ≡ map_world f (all_done changes c w)
+all_done_map f [] c w = refl
+all_done_map f (x ∷ changes) c w = ap (all_done changes (map_call f c)) (done_map f x c w) ∙ all_done_map f changes c (done x c w)
 
-row_map : {X Y : Type 0} (f : X → Y) (rs : List (Row X)) (ss : List (Row Y)) → AllZip (Matches f) rs ss
-    → (n : ℕ) (c : Call X) (w : World X) → by_row (row_numbered n ss) (map_call f c) (map_world f w) ≡ map_answered f (by_row (row_numbered n rs) c w)
-row_map f [] [] all n c w = refl
-row_map f [] (s ∷ ss) all n c w = absurd all
-row_map f (r ∷ rs) [] all n c w = absurd all
-row_map f (r ∷ rs) (s ∷ ss) all n c w =
-    ap (λ (m : ℕ). by_row (cond (m == n) (Some s) (row_numbered n ss)) (map_call f c) (map_world f w)) all.0.number
-    ∙ chosen_map f (r.number == n) r s (row_numbered n rs) (row_numbered n ss) c w (all.0.same c w) (row_map f rs ss all.1 n c w)
+answer_map : {X Y : Type 0} (f : X → Y) (a : Answer) (values : List Value) (w : World X) → answer a values (map_world f w) ≡ answer a values w
+answer_map f Nothing values w = refl
+answer_map f (Random n) values w = ap (λ (a : Answered _). a.value) (drawn_map f (int_at n values) w)
+answer_map f (ByTag tag n) values w = refl
+answer_map f (IsThere o) values w = refl
+answer_map f (IntOf o field) values w = refl
+answer_map f (TextOf o field) values w = refl
+answer_map f (EventOf n) values w = refl
+answer_map f UserNumber values w = refl
+
+row_map : {X Y : Type 0} (f : X → Y) (r : Option Row) (c : Call X) (w : World X) → by_row r (map_call f c) (map_world f w) ≡ map_answered f (by_row r c w)
+row_map f None c w = refl
+row_map f (Some r) c w =
+    ap₂ (λ (v : Option Value) (u : World _). record { value = v; world = u }) (answer_map f r.answers c.values w) (all_done_map f r.changes c w)
 
 role_map : {X Y : Type 0} (f : X → Y) (cell : CellLookup) (n : ℕ) (r : Routine) (kind : Role) (c : Call X) (w : World X)
     → by_role cell n r kind (map_call f c) (map_world f w) ≡ map_answered f (by_role cell n r kind c w)
-role_map f cell n r (role.Built own) c w = row_map f rows rows (matches_itself f) own c w
+role_map f cell n r (role.Built own) c w = row_map f (row_numbered own rows) c w
 role_map f cell n r (role.Pure k) c w = refl
 role_map f cell n r role.World c w = refl
 role_map f cell n r role.Uncallable c w = refl

@@ -1,11 +1,12 @@
--- The engine's own routines: what each gives, and how it leaves the world.
+-- The engine's own routines: each is a number, a name, a list of small changes that a call makes,
+-- and what it answers. A number among these is the place of an argument, counted from 0.
 use Prim.Native.String.{String}
-use Rattle.std.specs.Prelude.{ℕ, ℤ, pos, negsuc, zero, suc, ◌%◌, Bool, true, false, ◌==◌, not, if◌then◌else◌, List, [], ◌∷◌, Option, None, Some, codes, filter}
+use Rattle.std.specs.Prelude.{ℕ, ℤ, ◌+◌, pos, negsuc, zero, suc, ◌%◌, Bool, true, false, ◌==◌, not, if◌then◌else◌, List, [], ◌∷◌, Option, None, Some, codes, filter}
 use Rattle.std.specs.List.{list_any}
 use Rattle.action_queue.specs.declared.queue.Item.{Item}
 use Rattle.action_queue.specs.declared.queue.Item.TheVariants.{Do, Wait, Speak}
 use Rattle.area_rules.specs.Area.{by_tag, object, script_named}
-use Rattle.area_rules.specs.Objects.{Script}
+use Rattle.area_rules.specs.Objects.{AreaObject, Script}
 use Rattle.local_variables.specs.Variables.{Variable, IntVar, TextVar, int_named, text_named, is_int, is_text, put}
 use Rattle.delay_agenda.specs.declared.entry.Kind.TheVariants.{Event, Stored, Turn, Unapply}
 use Rattle.nwq_value.specs.Effect.{Effect}
@@ -135,42 +136,188 @@ event_script scripts = name_or (script_named (codes "ScriptUserDefine") scripts)
 abbrev pub signalled : {X : Type 0} → ℕ → ℤ → World X → World X
 signalled o user w = if is_valid o w then post w.clock (Event o (event_script (object w.area o).scripts) user) w else w
 
+-- ---- small changes
+
+-- an argument, by its type
+pub data Argument : Type 0 where
+  IntAt : ℕ → Argument
+  TextAt : ℕ → Argument
+  ObjectAt : ℕ → Argument
+
+abbrev pub argument : Argument → List Value → Value
+argument (IntAt i) values = value.Int (int_at i values)
+argument (TextAt i) values = value.Text (text_at i values)
+argument (ObjectAt i) values = value.Object (object_at i values)
+
+-- what is queued: the call's action, a wait of so many milliseconds, a text to speak
+pub data NewItem : Type 0 where
+  TheAction : NewItem
+  AWait : ℕ → NewItem
+  ASpeech : ℕ → NewItem
+
+abbrev pub queued : {X : Type 0} → NewItem → Call X → World X → World X
+queued TheAction c w = appended_do c.caller c.action w
+queued (AWait ms) c w = appended c.caller (Wait (int_at ms c.values)) w
+queued (ASpeech text) c w = appended c.caller (Speak (text_at text c.values)) w
+
+-- a change of an object's variables: one is set, by its name and what it is, or is deleted
+pub data VariableChange : Type 0 where
+  SetInt : ℕ → ℕ → VariableChange
+  SetText : ℕ → ℕ → VariableChange
+  DeleteInt : ℕ → VariableChange
+  DeleteText : ℕ → VariableChange
+
+abbrev pub varied : VariableChange → List Value → List Variable → List Variable
+varied (SetInt name n) values = put (IntVar (text_at name values) (int_at n values))
+varied (SetText name text) values = put (TextVar (text_at name values) (text_at text values))
+varied (DeleteInt name) values = filter (λ v. not (is_int (text_at name values) v))
+varied (DeleteText name) values = filter (λ v. not (is_text (text_at name values) v))
+
+-- A small change of the world.
+pub data Change : Type 0 where
+  -- the caller's line with an argument, and the one with a text that it speaks
+  Print : Argument → Change
+  Say : ℕ → Change
+  -- a random number below an int is drawn
+  Draw : ℕ → Change
+  -- the call's action is to run as an object, or as the caller after a time
+  Assign : ℕ → Change
+  Delay : ℕ → Change
+  -- the caller's queue: one action more, or none
+  Queue : NewItem → Change
+  Clear : Change
+  -- an object's variables
+  Vary : ℕ → VariableChange → Change
+  -- an effect is applied, by its duration type, itself, its object and its time, or is removed
+  Apply : ℕ → ℕ → ℕ → ℕ → Change
+  Remove : ℕ → ℕ → Change
+  -- an event comes to an object
+  Signal : ℕ → ℕ → Change
+
+abbrev pub done : {X : Type 0} → Change → Call X → World X → World X
+done (Print a) c w = told c.caller (line.Print (argument a c.values)) w
+done (Say text) c w = told c.caller (line.Speak (text_at text c.values)) w
+done (Draw n) c w = (drawn (int_at n c.values) w).world
+done (Assign o) c w = assigned (object_at o c.values) c.action w
+done (Delay ms) c w = delayed c.caller (int_at ms c.values) c.action w
+done (Queue item) c w = queued item c w
+done Clear c w = cleared c.caller w
+done (Vary o change) c w = changed_variables (object_at o c.values) (varied change c.values) w
+done (Apply duration e o ms) c w =
+    applied_to (int_at duration c.values) (object_at o c.values) (effect_at e c.values) (int_at ms c.values) w
+done (Remove o e) c w = removed (object_at o c.values) (effect_at e c.values) w
+done (Signal o e) c w = signalled (object_at o c.values) (event_at e c.values) w
+
+abbrev pub all_done : {X : Type 0} → List Change → Call X → World X → World X
+all_done [] c w = w
+all_done (x ∷ changes) c w = all_done changes c (done x c w)
+
+-- how many agenda entries a change posts at most
+abbrev pub posts : Change → ℕ
+posts (Print a) = 0
+posts (Say text) = 0
+posts (Draw n) = 0
+posts (Assign o) = 1
+posts (Delay ms) = 1
+posts (Queue item) = 1
+posts Clear = 0
+posts (Vary o change) = 0
+posts (Apply duration e o ms) = 1
+posts (Remove o e) = 0
+posts (Signal o e) = 1
+
+abbrev pub all_posts : List Change → ℕ
+all_posts [] = 0
+all_posts (x ∷ changes) = posts x + all_posts changes
+
+-- ---- answers
+
+-- what is read of an object: an int variable, by its name
+pub data IntField : Type 0 where
+  LocalInt : ℕ → IntField
+
+abbrev pub int_field : IntField → List Value → AreaObject → ℤ
+int_field (LocalInt name) values o = int_named (text_at name values) o.vars
+
+-- its tag, and a string variable by its name
+pub data TextField : Type 0 where
+  Tag : TextField
+  LocalText : ℕ → TextField
+
+abbrev pub text_field : TextField → List Value → AreaObject → List ℕ
+text_field Tag values o = o.tag
+text_field (LocalText name) values o = text_named (text_at name values) o.vars
+
+-- What a call answers, of the world that it begins in.
+pub data Answer : Type 0 where
+  Nothing : Answer
+  -- the random number below an int that is drawn
+  Random : ℕ → Answer
+  -- the object of a tag that so many others of it are before
+  ByTag : ℕ → ℕ → Answer
+  -- 1 where there is such an object, else 0
+  IsThere : ℕ → Answer
+  -- what is read of an object: 0 and the empty string where there is none
+  IntOf : ℕ → IntField → Answer
+  TextOf : ℕ → TextField → Answer
+  -- the event of a user number
+  EventOf : ℕ → Answer
+  -- the user number of the running entry's event
+  UserNumber : Answer
+
+abbrev pub answer : {X : Type 0} → Answer → List Value → World X → Option Value
+answer Nothing values w = None
+answer (Random n) values w = (drawn (int_at n values) w).value
+answer (ByTag tag n) values w = Some (value.Object (by_tag w.area (text_at tag values) (int_at n values)))
+answer (IsThere o) values w = Some (value.Int (as_int (is_valid (object_at o values) w)))
+answer (IntOf o f) values w =
+    Some (value.Int (read (object_at o values) (int_field f values (object w.area (object_at o values))) (pos 0) w))
+answer (TextOf o f) values w =
+    Some (string_value (read (object_at o values) (text_field f values (object w.area (object_at o values))) [] w))
+answer (EventOf n) values w = Some (value.Event (int_at n values))
+answer UserNumber values w = Some (value.Int w.user)
+
 -- ---- the rows
 
--- a routine's number in the built-in header, its name there, and what a call does
-pub record Row (X : Type 0) : Type 0 where
+-- a routine's number in the built-in header, its name there, and what a call changes and answers
+pub record Row : Type 0 where
   pub number : ℕ
   pub name : List ℕ
-  pub does : Call X → World X → Answered X
+  pub changes : List Change
+  pub answers : Answer
 
-abbrev pub row : {X : Type 0} → ℕ → String → (Call X → World X → Answered X) → Row X
-row number name does = record { number = number; name = codes name; does = does }
+abbrev pub row : ℕ → String → List Change → Answer → Row
+row number name changes answers = record { number = number; name = codes name; changes = changes; answers = answers }
 
-abbrev pub rows : {X : Type 0} → List (Row X)
+abbrev pub rows : List Row
 rows =
-    row 0 "Random" (λ c w. drawn (int_at 0 c.values) w) ∷
-    row 1 "PrintString" (λ c w. leaves (told c.caller (line.Print (value.Text (text_at 0 c.values))) w)) ∷
-    row 4 "PrintInteger" (λ c w. leaves (told c.caller (line.Print (value.Int (int_at 0 c.values))) w)) ∷
-    row 5 "PrintObject" (λ c w. leaves (told c.caller (line.Print (value.Object (object_at 0 c.values))) w)) ∷
-    row 6 "AssignCommand" (λ c w. leaves (assigned (object_at 0 c.values) c.action w)) ∷
-    row 7 "DelayCommand" (λ c w. leaves (delayed c.caller (int_at 0 c.values) c.action w)) ∷
-    row 9 "ClearAllActions" (λ c w. leaves (cleared c.caller w)) ∷
-    row 10 "ActionDoCommand" (λ c w. leaves (appended_do c.caller c.action w)) ∷
-    row 11 "ActionWait" (λ c w. leaves (appended c.caller (Wait (int_at 0 c.values)) w)) ∷
-    row 12 "ActionSpeakString" (λ c w. leaves (appended c.caller (Speak (text_at 0 c.values)) w)) ∷
-    row 13 "SpeakString" (λ c w. leaves (told c.caller (line.Speak (text_at 0 c.values)) w)) ∷
-    row 14 "GetObjectByTag" (λ c w. gives (value.Object (by_tag w.area (text_at 0 c.values) (int_at 1 c.values))) w) ∷
-    row 15 "GetTag" (λ c w. gives (string_value (read (object_at 0 c.values) (object w.area (object_at 0 c.values)).tag [] w)) w) ∷
-    row 16 "GetIsObjectValid" (λ c w. gives (value.Int (as_int (is_valid (object_at 0 c.values) w))) w) ∷
-    row 17 "GetLocalInt" (λ c w. gives (value.Int (read (object_at 0 c.values) (int_named (text_at 1 c.values) (object w.area (object_at 0 c.values)).vars) (pos 0) w)) w) ∷
-    row 18 "SetLocalInt" (λ c w. leaves (changed_variables (object_at 0 c.values) (put (IntVar (text_at 1 c.values) (int_at 2 c.values))) w)) ∷
-    row 19 "GetLocalString" (λ c w. gives (string_value (read (object_at 0 c.values) (text_named (text_at 1 c.values) (object w.area (object_at 0 c.values)).vars) [] w)) w) ∷
-    row 20 "SetLocalString" (λ c w. leaves (changed_variables (object_at 0 c.values) (put (TextVar (text_at 1 c.values) (text_at 2 c.values))) w)) ∷
-    row 21 "DeleteLocalInt" (λ c w. leaves (changed_variables (object_at 0 c.values) (filter (λ v. not (is_int (text_at 1 c.values) v))) w)) ∷
-    row 22 "DeleteLocalString" (λ c w. leaves (changed_variables (object_at 0 c.values) (filter (λ v. not (is_text (text_at 1 c.values) v))) w)) ∷
-    row 23 "ApplyEffectToObject" (λ c w. leaves (applied_to (int_at 0 c.values) (object_at 2 c.values) (effect_at 1 c.values) (int_at 3 c.values) w)) ∷
-    row 24 "RemoveEffect" (λ c w. leaves (removed (object_at 0 c.values) (effect_at 1 c.values) w)) ∷
-    row 38 "EventUserDefined" (λ c w. gives (value.Event (int_at 0 c.values)) w) ∷
-    row 39 "SignalEvent" (λ c w. leaves (signalled (object_at 0 c.values) (event_at 1 c.values) w)) ∷
-    row 40 "GetUserDefinedEventNumber" (λ c w. gives (value.Int w.user) w) ∷
+    row 0 "Random" (Draw 0 ∷ []) (Random 0) ∷
+    row 1 "PrintString" (Print (TextAt 0) ∷ []) Nothing ∷
+    row 4 "PrintInteger" (Print (IntAt 0) ∷ []) Nothing ∷
+    row 5 "PrintObject" (Print (ObjectAt 0) ∷ []) Nothing ∷
+    row 6 "AssignCommand" (Assign 0 ∷ []) Nothing ∷
+    row 7 "DelayCommand" (Delay 0 ∷ []) Nothing ∷
+    row 9 "ClearAllActions" (Clear ∷ []) Nothing ∷
+    row 10 "ActionDoCommand" (Queue TheAction ∷ []) Nothing ∷
+    row 11 "ActionWait" (Queue (AWait 0) ∷ []) Nothing ∷
+    row 12 "ActionSpeakString" (Queue (ASpeech 0) ∷ []) Nothing ∷
+    row 13 "SpeakString" (Say 0 ∷ []) Nothing ∷
+    row 14 "GetObjectByTag" [] (ByTag 0 1) ∷
+    row 15 "GetTag" [] (TextOf 0 Tag) ∷
+    row 16 "GetIsObjectValid" [] (IsThere 0) ∷
+    row 17 "GetLocalInt" [] (IntOf 0 (LocalInt 1)) ∷
+    row 18 "SetLocalInt" (Vary 0 (SetInt 1 2) ∷ []) Nothing ∷
+    row 19 "GetLocalString" [] (TextOf 0 (LocalText 1)) ∷
+    row 20 "SetLocalString" (Vary 0 (SetText 1 2) ∷ []) Nothing ∷
+    row 21 "DeleteLocalInt" (Vary 0 (DeleteInt 1) ∷ []) Nothing ∷
+    row 22 "DeleteLocalString" (Vary 0 (DeleteText 1) ∷ []) Nothing ∷
+    row 23 "ApplyEffectToObject" (Apply 0 1 2 3 ∷ []) Nothing ∷
+    row 24 "RemoveEffect" (Remove 0 1 ∷ []) Nothing ∷
+    row 38 "EventUserDefined" [] (EventOf 0) ∷
+    row 39 "SignalEvent" (Signal 0 1 ∷ []) Nothing ∷
+    row 40 "GetUserDefinedEventNumber" [] UserNumber ∷
     []
+
+-- what a call of a row gives
+abbrev pub called : {X : Type 0} → Row → Call X → World X → Answered X
+called r c w = record { value = answer r.answers c.values w; world = all_done r.changes c w }

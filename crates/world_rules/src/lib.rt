@@ -2,8 +2,10 @@
 //!
 //! `specs/World.antt` says what a world is, generic in the stored
 //! actions, and `specs/Changes.antt` the small changes that everything else is made of.
-//! `specs/Rows.antt` has the engine's own routines, one line each, `specs/Pure.antt` the functions
-//! of strings and numbers, and `specs/Engine.antt` what a call of a header's routine gives.
+//! `specs/Rows.antt` has the engine's own routines, one line each: a list of small changes, and an
+//! answer. `specs/Pure.antt` has the functions of strings and numbers, and `specs/Engine.antt` what
+//! a call of a header's routine gives. `specs/RowLaws.antt` proves of all rows, and of those to
+//! come, what is true of each small change; the proofs of the crates above take it from there.
 //! `specs/Turns.antt` tells how agenda entries are begun and what they do. `specs/Plays.antt` says
 //! how an entry is run by its kind, and what a play comes to: entry after entry, until none is due
 //! or a limit is met. It is generic in how scripts run, so that the play of files and the play of

@@ -1,6 +1,6 @@
 use Rattle.std.proofs.Common.{◌≡◌, ◌≤◌, ◌-◌}
 use Rattle.std.specs.VecDeque.{deque_capacity, deque_len}
-use Rattle.delay_agenda.specs.Queues.{in_row, put_all, AreQueues, IsCounted}
+use Rattle.delay_agenda.specs.Queues.{in_row, put_all, AreQueues, IsIndexed}
 use Rattle.delay_agenda.proofs.inbox.empty_inbox.Given as goal
 
 -- the entries stay the same list
@@ -8,7 +8,7 @@ abbrev pub invariant-loop-entry : goal.invariant-loop-entry
 invariant-loop-entry g l = record {
   entries : put_all l.inbox.items (in_row l.queues.entries) ≡ put_all l.initial.inbox.items (in_row l.initial.queues.entries);
   queues : AreQueues l.queues.entries;
-  counted : IsCounted l.index (in_row l.queues.entries);
+  indexed : IsIndexed l.index (in_row l.queues.entries);
   room : deque_capacity l.initial.inbox - deque_len l.initial.inbox ≤ deque_capacity l.inbox - deque_len l.inbox;
 }
 

@@ -1,23 +1,13 @@
-use Rattle.std.proofs.Common.{◌≤◌, ◌∙◌, sym, subst, arith}
-use Rattle.gff_tree.specs.Tree.{plain_node}
+use Rattle.std.proofs.Common.{◌∙◌, Ok, ap, sym}
 use Rattle.gff_tree.specs.Whole.{plain_gff}
-use Rattle.gff_write.specs.Flat.{tree_limit}
-use Rattle.gff_write.specs.File.{field_count}
-use Rattle.gff_write.proofs.FewLemmas.{few_fields, few_structs, too_large}
+use Rattle.gff_write.specs.File.{written}
+use Rattle.gff_write.proofs.FewLemmas.{too_large, within, fits}
 use Rattle.gff_write.proofs.writing.outcome.Goals as goal
 
-pub returns-then-node_size-gt-TREE_BYTES : goal.returns-then-node_size-gt-TREE_BYTES
-returns-then-node_size-gt-TREE_BYTES c =
-    too_large (plain_gff c.args.tree.now) c.node_size.result c.size.result c.node_size.ensures (omega (arith, c.if-node_size-gt-TREE_BYTES.true)) c.size.ensures.size
+pub returns-then-size : goal.returns-then-size
+returns-then-size c = too_large (written (plain_gff c.args.tree.now)) c.size_with-size.result c.size_with-size.ensures.size c.if-size.true
 
-pub rows_in-requires : goal.rows_in-requires
-rows_in-requires c = record {
-  few = few_structs (plain_node c.args.tree.now.top) c.node_size.result c.node_size.ensures (omega (arith, c.if-node_size-gt-TREE_BYTES.false));
-}
-
-pub file-requires : goal.file-requires
-file-requires c = record {
-  few =
-      subst (λ rows. field_count rows ≤ tree_limit) (sym (c.as_slice.ensures.items ∙ c.in_ok-rows.ensures))
-      (few_fields (plain_node c.args.tree.now.top) c.node_size.result c.node_size.ensures (omega (arith, c.if-node_size-gt-TREE_BYTES.false)));
-}
+pub returns : goal.returns
+returns c =
+    fits (written (plain_gff c.args.tree.now)) (within (written (plain_gff c.args.tree.now)) c.size_with-size.result c.size_with-size.ensures.size c.if-size.false)
+    ∙ ap Ok (sym (c.into_vec.ensures.items ∙ c.in_ok-bytes.ensures))

@@ -3,8 +3,8 @@ use Rattle.delay_agenda.specs.Waiting.{AgendaView}
 use Rattle.delay_agenda.proofs.Kept.{row_count, inbox_count, cancelled_kept, cancelled_view, inbox_left, queues_left}
 use Rattle.delay_agenda.proofs.agenda.Agenda.cancel_turn.Goals as goal
 
-pub cancel_counted-requires-clause-one : goal.cancel_counted-requires-clause-one
-cancel_counted-requires-clause-one g c =
+pub cancel_indexed-requires-clause-one : goal.cancel_indexed-requires-clause-one
+cancel_indexed-requires-clause-one g c =
     subst (λ n. n ≤ 1)
     (row_count c.args.object c.self.inside.next c.self.inside.inbox.items c.self.inside.queues.entries c.args.self.now.waiting
     (ap (λ (v : AgendaView _). v.waiting) c.self.view_is) c.in-None.ensures.turn)
@@ -14,12 +14,12 @@ pub invariant_of-self : goal.invariant_of-self
 invariant_of-self g c =
     let inbox = c.self.inside.inbox.items in
     let queues = c.self.inside.queues.entries in
-    let after = c.cancel_counted.new.queues.entries in
+    let after = c.cancel_indexed.new.queues.entries in
     record {
       kept =
-          cancelled_kept c.args.object c.self.inside.next inbox inbox queues after c.self.invariant.kept c.cancel_counted.ensures.queues
-          (queues_left c.args.object inbox queues after c.self.invariant.kept.sorted c.in-None.ensures.turn c.cancel_counted.ensures.left);
-      counted = c.cancel_counted.ensures.counted;
+          cancelled_kept c.args.object c.self.inside.next inbox inbox queues after c.self.invariant.kept c.cancel_indexed.ensures.queues
+          (queues_left c.args.object inbox queues after c.self.invariant.kept.sorted c.in-None.ensures.turn c.cancel_indexed.ensures.left);
+      indexed = c.cancel_indexed.ensures.indexed;
     }
 
 pub invariant_of-self-in-Some : goal.invariant_of-self-in-Some
@@ -32,22 +32,22 @@ invariant_of-self-in-Some g c =
           cancelled_kept c.args.object c.self.inside.next inbox now queues queues c.self.invariant.kept c.self.invariant.kept.sorted
           (inbox_left c.args.object c.in-Some.at c.self.inside.next inbox now queues c.args.self.now.waiting (ap (λ (v : AgendaView _). v.waiting) c.self.view_is)
           c.self.invariant.kept.sorted c.in-Some.ensures.turn c.requires.one c.take_from.ensures.left);
-      counted = c.self.invariant.counted;
+      indexed = c.self.invariant.indexed;
     }
 
 pub returns-in-None-clause-found : goal.returns-in-None-clause-found
 returns-in-None-clause-found g c =
     let same = row_count c.args.object c.self.inside.next c.self.inside.inbox.items c.self.inside.queues.entries c.args.self.now.waiting
     (ap (λ (v : AgendaView _). v.waiting) c.self.view_is) c.in-None.ensures.turn in
-    ((λ t. subst (λ n. 0 < n) (sym same) (c.cancel_counted.ensures.found.0 t)), (λ some. c.cancel_counted.ensures.found.1 (subst (λ n. 0 < n) same some)))
+    ((λ t. subst (λ n. 0 < n) (sym same) (c.cancel_indexed.ensures.found.0 t)), (λ some. c.cancel_indexed.ensures.found.1 (subst (λ n. 0 < n) same some)))
 
 pub returns-in-None-clause-left : goal.returns-in-None-clause-left
 returns-in-None-clause-left g c =
     let inbox = c.self.inside.inbox.items in
     let queues = c.self.inside.queues.entries in
-    let after = c.cancel_counted.new.queues.entries in
+    let after = c.cancel_indexed.new.queues.entries in
     cancelled_view c.args.object c.self.inside.next inbox inbox queues after c.args.self.now.waiting (ap (λ (v : AgendaView _). v.waiting) c.self.view_is)
-    (queues_left c.args.object inbox queues after c.self.invariant.kept.sorted c.in-None.ensures.turn c.cancel_counted.ensures.left)
+    (queues_left c.args.object inbox queues after c.self.invariant.kept.sorted c.in-None.ensures.turn c.cancel_indexed.ensures.left)
 
 pub returns-in-Some-clause-found : goal.returns-in-Some-clause-found
 returns-in-Some-clause-found g c = (

@@ -9,7 +9,7 @@ invariant_of-self g c =
       kept =
           posted_kept c.self.inside.inbox.items c.push_back_reserved.new.self.items c.self.inside.queues.entries c.self.inside.next c.args.due c.args.kind
           c.push_back_reserved.ensures.items c.self.invariant.kept;
-      counted = c.self.invariant.counted;
+      indexed = c.self.invariant.indexed;
     }
 
 pub returns-clause-posted : goal.returns-clause-posted

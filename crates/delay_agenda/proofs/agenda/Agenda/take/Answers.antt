@@ -11,16 +11,16 @@ invariant_of-self g c =
       kept =
           inbox_kept c.in-Some.at c.self.inside.next c.self.inside.inbox.items c.take_from.new.queue.items c.self.inside.queues.entries c.self.invariant.kept
           c.in-Some.ensures.first c.take_from.ensures.left;
-      counted = c.self.invariant.counted;
+      indexed = c.self.invariant.indexed;
     }
 
 pub invariant_of-self-in-None : goal.invariant_of-self-in-None
 invariant_of-self-in-None g c =
     record {
       kept =
-          queues_kept c.self.inside.next c.self.inside.inbox.items c.self.inside.queues.entries c.take_counted.new.queues.entries c.self.invariant.kept
-          c.in-None.ensures.first c.take_counted.ensures.queues c.take_counted.ensures.left;
-      counted = c.take_counted.ensures.counted;
+          queues_kept c.self.inside.next c.self.inside.inbox.items c.self.inside.queues.entries c.take_indexed.new.queues.entries c.self.invariant.kept
+          c.in-None.ensures.first c.take_indexed.ensures.queues c.take_indexed.ensures.left;
+      indexed = c.take_indexed.ensures.indexed;
     }
 
 pub returns-in-Some-clause-taken : goal.returns-in-Some-clause-taken
@@ -52,16 +52,16 @@ pub returns-in-None-clause-taken : goal.returns-in-None-clause-taken
 returns-in-None-clause-taken g c =
     let inbox = c.self.inside.inbox.items in
     let queues = c.self.inside.queues.entries in
-    let all = queues_taken inbox (in_row queues) (in_row c.take_counted.new.queues.entries) c.in-None.ensures.first c.take_counted.ensures.left in
-    taken_view inbox queues c.self.inside.next c.args.self.now.waiting c.take_counted.result _ (ap (λ (v : AgendaView _). v.waiting) c.self.view_is)
-    c.take_counted.ensures.entry all.0
+    let all = queues_taken inbox (in_row queues) (in_row c.take_indexed.new.queues.entries) c.in-None.ensures.first c.take_indexed.ensures.left in
+    taken_view inbox queues c.self.inside.next c.args.self.now.waiting c.take_indexed.result _ (ap (λ (v : AgendaView _). v.waiting) c.self.view_is)
+    c.take_indexed.ensures.entry all.0
 
 pub returns-in-None-clause-left : goal.returns-in-None-clause-left
 returns-in-None-clause-left g c =
     let inbox = c.self.inside.inbox.items in
     let queues = c.self.inside.queues.entries in
-    let after = c.take_counted.new.queues.entries in
-    let all = queues_taken inbox (in_row queues) (in_row after) c.in-None.ensures.first c.take_counted.ensures.left in
+    let after = c.take_indexed.new.queues.entries in
+    let all = queues_taken inbox (in_row queues) (in_row after) c.in-None.ensures.first c.take_indexed.ensures.left in
     left_view inbox inbox queues after c.self.inside.next c.args.self.now.waiting (ap (λ (v : AgendaView _). v.waiting) c.self.view_is) all.1
 
 pub returns-in-None-clause-least : goal.returns-in-None-clause-least
@@ -69,6 +69,6 @@ returns-in-None-clause-least g c =
     let inbox = c.self.inside.inbox.items in
     let queues = c.self.inside.queues.entries in
     let is = ap (λ (v : AgendaView _). v.waiting) c.self.view_is in
-    let all = queues_taken inbox (in_row queues) (in_row c.take_counted.new.queues.entries) c.in-None.ensures.first c.take_counted.ensures.left in
-    least_view inbox queues c.self.inside.next c.args.self.now.waiting c.take_counted.result is c.self.invariant.kept
-    (taken_view inbox queues c.self.inside.next c.args.self.now.waiting c.take_counted.result _ is c.take_counted.ensures.entry all.0)
+    let all = queues_taken inbox (in_row queues) (in_row c.take_indexed.new.queues.entries) c.in-None.ensures.first c.take_indexed.ensures.left in
+    least_view inbox queues c.self.inside.next c.args.self.now.waiting c.take_indexed.result is c.self.invariant.kept
+    (taken_view inbox queues c.self.inside.next c.args.self.now.waiting c.take_indexed.result _ is c.take_indexed.ensures.entry all.0)

@@ -1,10 +1,10 @@
-use Rattle.std.proofs.Common.{◌≡◌, ◌∙◌, sym, ap}
+use Rattle.std.proofs.Common.{false, ◌≡◌, ◌∙◌, sym, ap}
 use Rattle.std.specs.FinMap as names
 use Rattle.memory_disk.proofs.DriveLemmas.{makes_whole}
 use Rattle.memory_disk.proofs.drive.MemoryDisk.make_file.Goals as goal
 
 pub returns-then-room-bytes : goal.returns-then-room-bytes
-returns-then-room-bytes c = record { makes = λ name. c.make_part.ensures.part name c.args.bytes.now c.args.like }
+returns-then-room-bytes c = record { makes = λ name. c.make_part.ensures.part name c.args.bytes.now c.args.like false }
 
 pub returns-in-Ok : goal.returns-in-Ok
 returns-in-Ok c = record {

@@ -5,6 +5,6 @@ use Rattle.memory_disk.proofs.drive.MemoryDisk.make_part.Goals as goal
 
 pub returns-in-Ok : goal.returns-in-Ok
 returns-in-Ok c = record {
-  part = λ name bytes like. makes_part c.args.self.now c.put_file.new.self c.args.new.now _ _ _
+  part = λ name bytes like lasting. makes_part c.args.self.now c.put_file.new.self c.args.new.now _ _ _
       (ap (λ n. names.get n c.args.new.now) (sym c.nodes.ensures) ∙ sym c.in-None.ensures.node) c.in-Ok.ensures.ok;
 }

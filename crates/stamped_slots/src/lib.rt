@@ -1,0 +1,14 @@
+//! A list whose items stand under rising stamps, each in a slot of its own.
+//!
+//! Contracts see a [`Stamped`] as its items under their stamps, how many slots there are, and for
+//! how many there is memory (`specs/Stamps.antt`). An item is found, put and taken out by a binary
+//! search for its stamp. What is taken out leaves its slot empty, so that no other is moved; where
+//! half of the slots are empty they go, and their memory with them. The first slot never is empty.
+//!
+//! The variables of an object, its effects, and the entries of one due time are kept so.
+#![tactic(auto)]
+
+mod slots;
+mod stamped;
+
+pub use stamped::Stamped;
