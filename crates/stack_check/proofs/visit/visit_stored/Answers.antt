@@ -9,7 +9,7 @@ use Rattle.stack_check.proofs.Storing.{sees_before, stores_as, stores_none}
 use Rattle.stack_check.proofs.visit.visit_stored.Goals as goal
 
 pub resumed-requires : goal.resumed-requires
-resumed-requires c = record { inside = c.requires.keeps.inside.rows c.args.at.now.from.trial c.args.at.now.from.place c.args.at.now.from.held c.requires.row; }
+resumed-requires c = record { inside = c.requires.keeps.inside.rows c.args.at.now.from.trial c.args.at.now.from.place c.args.at.now.from.held c.requires.row }
 
 pub returns-in-None : goal.returns-in-None
 returns-in-None c = record {
