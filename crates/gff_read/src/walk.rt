@@ -83,7 +83,7 @@ fn read_fields(
     ensures charged { IfOk result (λ fields. left.old + rows_charge (map plain_row rows.items)
         ≡ left.new + fields_charge (fields_list fields.items)) }
 {
-    let mut fields = Vec::new(alloc);
+    let mut fields = Vec::with_capacity(alloc, rows.len())?;
     for row in rows {
         let FieldRow { label, shape } = row;
         let leaf = read_leaf(alloc, view, marks, shape, depth, left)?;
