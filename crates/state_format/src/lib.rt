@@ -35,5 +35,6 @@ pub use put::{put_magic, put_parts};
 pub use read::read_parts;
 pub use tally::Tally;
 pub use written::{
-    Writer, put_blob, put_count, put_short, put_signed, put_small, put_tag, put_wide, put_word, roomy,
+    Writer, put_blob, put_count, put_short, put_signed, put_small, put_tag, put_wide, put_word,
+    roomy,
 };

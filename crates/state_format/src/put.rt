@@ -176,7 +176,11 @@ impl Written for Item {
 fn put_busy<W: Writer>(out: &mut W, busy: bool) -> Result<(), NoMemory>
     ensures put { OnOk result (W.taken out.new ≡ W.taken out.old ++ joined (busy_fields busy)) }
 {
-    if busy { put_tag(out, 1) } else { put_tag(out, 0) }
+    if busy {
+        put_tag(out, 1)
+    } else {
+        put_tag(out, 0)
+    }
 }
 
 fn put_object<W: Writer>(out: &mut W, object: &Object) -> Result<(), NoMemory>

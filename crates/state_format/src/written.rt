@@ -129,7 +129,10 @@ fn put_members<T: Written, W: Writer>(out: &mut W, members: &[T]) -> Result<(), 
 }
 
 /// Parts in a row behind their count.
-pub(crate) fn put_list<T: Written, W: Writer>(out: &mut W, members: &Items<T>) -> Result<(), NoMemory>
+pub(crate) fn put_list<T: Written, W: Writer>(
+    out: &mut W,
+    members: &Items<T>,
+) -> Result<(), NoMemory>
     ensures put { OnOk result (W.taken out.new ≡ W.taken out.old ++ joined (list_of T.laid_out members.now)) }
 {
     put_count(out, members.len())?;
