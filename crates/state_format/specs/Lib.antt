@@ -2,3 +2,4 @@ pub mod Parts
 pub mod Fields
 pub mod Place
 pub mod Reading
+pub mod WritingLemmas

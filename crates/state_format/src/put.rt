@@ -1,6 +1,6 @@
 //! The parts of a state, written as its bytes.
 
-ghost use Rattle.std.specs.Prelude.{◌≡◌, ◌++◌, ◌<◌, ◌≤◌, length, OnOk, MatchResult};
+ghost use Rattle.std.specs.Prelude.{◌≡◌, ◌++◌, ◌<◌, ◌≤◌, length, OnOk, IfOk, MatchResult};
 ghost use Rattle.nwq_value.specs.Limits.{file_limit};
 ghost use Rattle.state_format.specs.Fields.{magic, joined, blob_fields, number_fields};
 ghost use Rattle.state_format.specs.Fields.{maybe_fields, effect_fields, cell_fields};
@@ -16,8 +16,10 @@ use crate::magic::MAGIC;
 use crate::parts::{
     Captured, Cell, Effect, Entry, Item, KindPart, Object, Parts, Script, Standing, Variable,
 };
+use crate::tally::Tally;
 use crate::written::{
-    Written, put_blob, put_list, put_short, put_signed, put_small, put_wide, put_word,
+    Writer, Written, put_blob, put_list, put_short, put_signed, put_small, put_tag, put_wide,
+    put_word, roomy,
 };
 use nwq_value::{FILE_BYTES, Items, NoMemory};
 use std::alloc::Global;
@@ -27,40 +29,40 @@ impl Written for i32 {
 
     ghost laid_out = { signed_fields };
 
-    fn put(&self, out: &mut Items<u8>) -> Result<(), NoMemory> {
+    fn put<W: Writer>(&self, out: &mut W) -> Result<(), NoMemory> {
         put_signed(out, *self)
     }
 }
 
-fn put_effect(out: &mut Items<u8>, effect: &Effect) -> Result<(), NoMemory>
-    ensures put { OnOk result (out.new ≡ out.old ++ joined (effect_fields effect.now)) }
+fn put_effect<W: Writer>(out: &mut W, effect: &Effect) -> Result<(), NoMemory>
+    ensures put { OnOk result (W.taken out.new ≡ W.taken out.old ++ joined (effect_fields effect.now)) }
 {
     put_short(out, effect.routine)?;
     put_list(out, &effect.ints)
 }
 
-fn put_cell(out: &mut Items<u8>, cell: &Cell) -> Result<(), NoMemory>
-    ensures put { OnOk result (out.new ≡ out.old ++ joined (cell_fields cell.now)) }
+fn put_cell<W: Writer>(out: &mut W, cell: &Cell) -> Result<(), NoMemory>
+    ensures put { OnOk result (W.taken out.new ≡ W.taken out.old ++ joined (cell_fields cell.now)) }
 {
     match cell {
         Cell::Int(n) => {
-            out.push(0x03)?;
+            put_tag(out, 0x03)?;
             put_signed(out, *n)
         }
         Cell::Text(text) => {
-            out.push(0x05)?;
-            put_blob(out, text)
+            put_tag(out, 0x05)?;
+            put_blob(out, text.as_slice())
         }
         Cell::Object(object) => {
-            out.push(0x06)?;
+            put_tag(out, 0x06)?;
             put_word(out, *object)
         }
         Cell::Effect(effect) => {
-            out.push(0x10)?;
+            put_tag(out, 0x10)?;
             put_effect(out, effect)
         }
         Cell::Event(user) => {
-            out.push(0x11)?;
+            put_tag(out, 0x11)?;
             put_signed(out, *user)
         }
     }
@@ -71,13 +73,13 @@ impl Written for Cell {
 
     ghost laid_out = { cell_fields };
 
-    fn put(&self, out: &mut Items<u8>) -> Result<(), NoMemory> {
+    fn put<W: Writer>(&self, out: &mut W) -> Result<(), NoMemory> {
         put_cell(out, self)
     }
 }
 
-fn put_captured(out: &mut Items<u8>, state: &Captured) -> Result<(), NoMemory>
-    ensures put { OnOk result (out.new ≡ out.old ++ joined (captured_fields state.now)) }
+fn put_captured<W: Writer>(out: &mut W, state: &Captured) -> Result<(), NoMemory>
+    ensures put { OnOk result (W.taken out.new ≡ W.taken out.old ++ joined (captured_fields state.now)) }
 {
     put_word(out, state.script)?;
     put_word(out, state.place)?;
@@ -85,19 +87,19 @@ fn put_captured(out: &mut Items<u8>, state: &Captured) -> Result<(), NoMemory>
     put_list(out, &state.locals)
 }
 
-fn put_variable(out: &mut Items<u8>, variable: &Variable) -> Result<(), NoMemory>
-    ensures put { OnOk result (out.new ≡ out.old ++ joined (variable_fields variable.now)) }
+fn put_variable<W: Writer>(out: &mut W, variable: &Variable) -> Result<(), NoMemory>
+    ensures put { OnOk result (W.taken out.new ≡ W.taken out.old ++ joined (variable_fields variable.now)) }
 {
     match variable {
         Variable::Int(name, n) => {
-            out.push(1)?;
-            put_blob(out, name)?;
+            put_tag(out, 1)?;
+            put_blob(out, name.as_slice())?;
             put_signed(out, *n)
         }
         Variable::Text(name, text) => {
-            out.push(3)?;
-            put_blob(out, name)?;
-            put_blob(out, text)
+            put_tag(out, 3)?;
+            put_blob(out, name.as_slice())?;
+            put_blob(out, text.as_slice())
         }
     }
 }
@@ -107,26 +109,26 @@ impl Written for Variable {
 
     ghost laid_out = { variable_fields };
 
-    fn put(&self, out: &mut Items<u8>) -> Result<(), NoMemory> {
+    fn put<W: Writer>(&self, out: &mut W) -> Result<(), NoMemory> {
         put_variable(out, self)
     }
 }
 
-fn put_number(out: &mut Items<u8>, number: Option<u64>) -> Result<(), NoMemory>
+fn put_number<W: Writer>(out: &mut W, number: Option<u64>) -> Result<(), NoMemory>
     ensures put { OnOk result
-        (out.new ≡ out.old ++ joined (maybe_fields (number_fields 8) number)) }
+        (W.taken out.new ≡ W.taken out.old ++ joined (maybe_fields (number_fields 8) number)) }
 {
     match number {
-        None => out.push(0),
+        None => put_tag(out, 0),
         Some(n) => {
-            out.push(1)?;
+            put_tag(out, 1)?;
             put_wide(out, n)
         }
     }
 }
 
-fn put_standing(out: &mut Items<u8>, standing: &Standing) -> Result<(), NoMemory>
-    ensures put { OnOk result (out.new ≡ out.old ++ joined (standing_fields standing.now)) }
+fn put_standing<W: Writer>(out: &mut W, standing: &Standing) -> Result<(), NoMemory>
+    ensures put { OnOk result (W.taken out.new ≡ W.taken out.old ++ joined (standing_fields standing.now)) }
 {
     put_number(out, standing.number)?;
     put_effect(out, &standing.effect)
@@ -137,26 +139,26 @@ impl Written for Standing {
 
     ghost laid_out = { standing_fields };
 
-    fn put(&self, out: &mut Items<u8>) -> Result<(), NoMemory> {
+    fn put<W: Writer>(&self, out: &mut W) -> Result<(), NoMemory> {
         put_standing(out, self)
     }
 }
 
-fn put_item(out: &mut Items<u8>, item: &Item) -> Result<(), NoMemory>
-    ensures put { OnOk result (out.new ≡ out.old ++ joined (item_fields item.now)) }
+fn put_item<W: Writer>(out: &mut W, item: &Item) -> Result<(), NoMemory>
+    ensures put { OnOk result (W.taken out.new ≡ W.taken out.old ++ joined (item_fields item.now)) }
 {
     match item {
         Item::Do(state) => {
-            out.push(0)?;
+            put_tag(out, 0)?;
             put_captured(out, state)
         }
         Item::Wait(ms) => {
-            out.push(1)?;
+            put_tag(out, 1)?;
             put_signed(out, *ms)
         }
         Item::Speak(text) => {
-            out.push(2)?;
-            put_blob(out, text)
+            put_tag(out, 2)?;
+            put_blob(out, text.as_slice())
         }
     }
 }
@@ -166,19 +168,23 @@ impl Written for Item {
 
     ghost laid_out = { item_fields };
 
-    fn put(&self, out: &mut Items<u8>) -> Result<(), NoMemory> {
+    fn put<W: Writer>(&self, out: &mut W) -> Result<(), NoMemory> {
         put_item(out, self)
     }
 }
 
-fn put_busy(out: &mut Items<u8>, busy: bool) -> Result<(), NoMemory>
-    ensures put { OnOk result (out.new ≡ out.old ++ joined (busy_fields busy)) }
+fn put_busy<W: Writer>(out: &mut W, busy: bool) -> Result<(), NoMemory>
+    ensures put { OnOk result (W.taken out.new ≡ W.taken out.old ++ joined (busy_fields busy)) }
 {
-    if busy { out.push(1) } else { out.push(0) }
+    if busy {
+        put_tag(out, 1)
+    } else {
+        put_tag(out, 0)
+    }
 }
 
-fn put_object(out: &mut Items<u8>, object: &Object) -> Result<(), NoMemory>
-    ensures put { OnOk result (out.new ≡ out.old ++ joined (object_fields object.now)) }
+fn put_object<W: Writer>(out: &mut W, object: &Object) -> Result<(), NoMemory>
+    ensures put { OnOk result (W.taken out.new ≡ W.taken out.old ++ joined (object_fields object.now)) }
 {
     put_busy(out, object.busy)?;
     put_list(out, &object.variables)?;
@@ -191,13 +197,13 @@ impl Written for Object {
 
     ghost laid_out = { object_fields };
 
-    fn put(&self, out: &mut Items<u8>) -> Result<(), NoMemory> {
+    fn put<W: Writer>(&self, out: &mut W) -> Result<(), NoMemory> {
         put_object(out, self)
     }
 }
 
-fn put_kind(out: &mut Items<u8>, kind: &KindPart) -> Result<(), NoMemory>
-    ensures put { OnOk result (out.new ≡ out.old ++ joined (kind_fields kind.now)) }
+fn put_kind<W: Writer>(out: &mut W, kind: &KindPart) -> Result<(), NoMemory>
+    ensures put { OnOk result (W.taken out.new ≡ W.taken out.old ++ joined (kind_fields kind.now)) }
 {
     match kind {
         KindPart::Event {
@@ -205,29 +211,29 @@ fn put_kind(out: &mut Items<u8>, kind: &KindPart) -> Result<(), NoMemory>
             script,
             user,
         } => {
-            out.push(0)?;
+            put_tag(out, 0)?;
             put_word(out, *object)?;
-            put_blob(out, script)?;
+            put_blob(out, script.as_slice())?;
             put_signed(out, *user)
         }
         KindPart::Stored { object, state } => {
-            out.push(1)?;
+            put_tag(out, 1)?;
             put_word(out, *object)?;
             put_captured(out, state)
         }
         KindPart::Turn { object } => {
-            out.push(2)?;
+            put_tag(out, 2)?;
             put_word(out, *object)
         }
         KindPart::Unapply { object } => {
-            out.push(3)?;
+            put_tag(out, 3)?;
             put_word(out, *object)
         }
     }
 }
 
-fn put_entry(out: &mut Items<u8>, entry: &Entry) -> Result<(), NoMemory>
-    ensures put { OnOk result (out.new ≡ out.old ++ joined (entry_fields entry.now)) }
+fn put_entry<W: Writer>(out: &mut W, entry: &Entry) -> Result<(), NoMemory>
+    ensures put { OnOk result (W.taken out.new ≡ W.taken out.old ++ joined (entry_fields entry.now)) }
 {
     put_wide(out, entry.due)?;
     put_wide(out, entry.number)?;
@@ -239,16 +245,16 @@ impl Written for Entry {
 
     ghost laid_out = { entry_fields };
 
-    fn put(&self, out: &mut Items<u8>) -> Result<(), NoMemory> {
+    fn put<W: Writer>(&self, out: &mut W) -> Result<(), NoMemory> {
         put_entry(out, self)
     }
 }
 
-fn put_script(out: &mut Items<u8>, script: &Script) -> Result<(), NoMemory>
-    ensures put { OnOk result (out.new ≡ out.old ++ joined (script_fields script.now)) }
+fn put_script<W: Writer>(out: &mut W, script: &Script) -> Result<(), NoMemory>
+    ensures put { OnOk result (W.taken out.new ≡ W.taken out.old ++ joined (script_fields script.now)) }
 {
-    put_blob(out, &script.name)?;
-    put_blob(out, &script.code)
+    put_blob(out, script.name.as_slice())?;
+    put_blob(out, script.code.as_slice())
 }
 
 impl Written for Script {
@@ -256,7 +262,7 @@ impl Written for Script {
 
     ghost laid_out = { script_fields };
 
-    fn put(&self, out: &mut Items<u8>) -> Result<(), NoMemory> {
+    fn put<W: Writer>(&self, out: &mut W) -> Result<(), NoMemory> {
         put_script(out, self)
     }
 }
@@ -266,27 +272,27 @@ impl Written for u32 {
 
     ghost laid_out = { number_fields 4 };
 
-    fn put(&self, out: &mut Items<u8>) -> Result<(), NoMemory> {
+    fn put<W: Writer>(&self, out: &mut W) -> Result<(), NoMemory> {
         put_word(out, *self)
     }
 }
 
-fn put_header(out: &mut Items<u8>, header: &Option<Items<u8>>) -> Result<(), NoMemory>
+fn put_header<W: Writer>(out: &mut W, header: &Option<Items<u8>>) -> Result<(), NoMemory>
     ensures put { OnOk result
-        (out.new ≡ out.old ++ joined (maybe_fields blob_fields header.now)) }
+        (W.taken out.new ≡ W.taken out.old ++ joined (maybe_fields blob_fields header.now)) }
 {
     match header {
-        None => out.push(0),
+        None => put_tag(out, 0),
         Some(text) => {
-            out.push(1)?;
-            put_blob(out, text)
+            put_tag(out, 1)?;
+            put_blob(out, text.as_slice())
         }
     }
 }
 
 /// The limits, clock and counts behind the version.
-fn put_counts(out: &mut Items<u8>, parts: &Parts) -> Result<(), NoMemory>
-    ensures put { OnOk result (out.new ≡ out.old ++ joined (count_fields parts.now)) }
+fn put_counts<W: Writer>(out: &mut W, parts: &Parts) -> Result<(), NoMemory>
+    ensures put { OnOk result (W.taken out.new ≡ W.taken out.old ++ joined (count_fields parts.now)) }
 {
     put_small(out, parts.version)?;
     put_wide(out, parts.limit)?;
@@ -298,50 +304,71 @@ fn put_counts(out: &mut Items<u8>, parts: &Parts) -> Result<(), NoMemory>
     put_wide(out, parts.next)
 }
 
-fn put_magic(out: &mut Items<u8>) -> Result<(), NoMemory>
-    ensures put { OnOk result (out.new ≡ out.old ++ magic) }
+/// Puts the format's name.
+pub fn put_magic<W: Writer>(out: &mut W) -> Result<(), NoMemory>
+    ensures put { OnOk result (W.taken out.new ≡ W.taken out.old ++ magic) }
 {
-    out.extend(MAGIC.as_slice())
+    out.put(MAGIC.as_slice())
 }
 
 /// Puts what stands in front of the random numbers.
-fn put_first(out: &mut Items<u8>, parts: &Parts) -> Result<(), NoMemory>
-    ensures put { OnOk result (out.new ≡ out.old ++ joined (first_fields parts.now)) }
+fn put_first<W: Writer>(out: &mut W, parts: &Parts) -> Result<(), NoMemory>
+    ensures put { OnOk result (W.taken out.new ≡ W.taken out.old ++ joined (first_fields parts.now)) }
 {
     put_magic(out)?;
     put_header(out, &parts.header)?;
     put_list(out, &parts.scripts)?;
-    put_blob(out, &parts.area)?;
+    put_blob(out, parts.area.as_slice())?;
     put_counts(out, parts)
 }
 
 /// Puts the random numbers, the objects and the agenda.
-fn put_last(out: &mut Items<u8>, parts: &Parts) -> Result<(), NoMemory>
-    ensures put { OnOk result (out.new ≡ out.old ++ joined (last_fields parts.now)) }
+fn put_last<W: Writer>(out: &mut W, parts: &Parts) -> Result<(), NoMemory>
+    ensures put { OnOk result (W.taken out.new ≡ W.taken out.old ++ joined (last_fields parts.now)) }
 {
     put_list(out, &parts.random)?;
     put_list(out, &parts.objects)?;
     put_list(out, &parts.agenda)
 }
 
-fn put_fields(out: &mut Items<u8>, parts: &Parts) -> Result<(), NoMemory>
-    ensures put { OnOk result (out.new ≡ out.old ++ joined (parts_fields parts.now)) }
+fn put_fields<W: Writer>(out: &mut W, parts: &Parts) -> Result<(), NoMemory>
+    ensures put { OnOk result (W.taken out.new ≡ W.taken out.old ++ joined (parts_fields parts.now)) }
 {
     put_first(out, parts)?;
     put_last(out, parts)
 }
 
-/// The bytes of a state's parts, where these aren't more than a file may have.
+/// How many bytes a state's parts have.
 #[tactic(auto, unfolding(crate::specs::Fields::parts_bytes))]
+fn parts_size(parts: &Parts) -> Result<u64, NoMemory>
+    ensures size { IfOk result (λ size. size ≡ length (parts_bytes parts.now)) }
+{
+    let mut tally = Tally::new();
+    put_fields(&mut tally, parts)?;
+    Ok(tally.size())
+}
+
+/// The bytes of a state's parts, which are so many, in a list with room for these.
+#[tactic(auto, unfolding(crate::specs::Fields::parts_bytes))]
+fn written_parts(alloc: Global, parts: &Parts, size: u64) -> Result<Vec<u8>, NoMemory>
+    ensures bytes { IfOk result (λ v. v.items ≡ parts_bytes parts.now) }
+{
+    let mut out = roomy(alloc, size)?;
+    put_fields(&mut out, parts)?;
+    Ok(out.into_vec())
+}
+
+/// The bytes of a state's parts, where these aren't more than a file may have: that is decided
+/// before any is made.
 pub fn put_parts(alloc: Global, parts: &Parts) -> Result<Vec<u8>, SaveFault>
     ensures exact { MatchResult result
         (λ v. (v.items ≡ parts_bytes parts.now) × (length v.items ≤ file_limit))
         (λ e. IsTooLarge (parts_bytes parts.now) e) }
 {
-    let mut out = Items::new(alloc);
-    put_fields(&mut out, parts)?;
-    if out.len() > FILE_BYTES {
-        return Err(SaveFault::Large(out.len() as u64));
+    let size = parts_size(parts)?;
+    if size > FILE_BYTES as u64 {
+        return Err(SaveFault::Large(size));
     }
-    Ok(out.into_vec())
+    let bytes = written_parts(alloc, parts, size)?;
+    Ok(bytes)
 }

@@ -1,10 +1,10 @@
 use Rattle.std.proofs.lemmas.Result.{on_ok_weaker}
 use Rattle.state_format.specs.Fields.{busy_fields, variable_fields, standing_fields, item_fields, list_of}
-use Rattle.state_format.proofs.Writing.{put_then}
+use Rattle.state_format.specs.WritingLemmas.{put_then}
 use Rattle.state_format.proofs.put.put_object.Goals as goal
 
 pub returns : goal.returns
-returns c =
+returns g c =
     let o = c.args.object.now in
     record {
       put = on_ok_weaker c.put_list-3.result
