@@ -74,11 +74,7 @@ pub(crate) fn put_taken(
 }
 
 /// MOVSP.
-pub(crate) fn put_removed(
-    out: &mut Vec<u8>,
-    offset: i32,
-    cells: &[Slot],
-) -> Result<(), NoMemory> {
+pub(crate) fn put_removed(out: &mut Vec<u8>, offset: i32, cells: &[Slot]) -> Result<(), NoMemory> {
     if offset > 0 {
         return put(out, "its offset is above the stack");
     }
@@ -152,7 +148,14 @@ fn put_over(
     put(out, slot_word(to))?;
     put(out, ", cell ")?;
     put_size(out, depth.saturating_add(1))?;
-    put(out, if is_beneath { " down from BP" } else { " from the top" })
+    put(
+        out,
+        if is_beneath {
+            " down from BP"
+        } else {
+            " from the top"
+        },
+    )
 }
 
 /// An int changes where it lies.
@@ -166,7 +169,14 @@ pub(crate) fn put_counted(
         if let Some(slot) = slot_at(slots, found.above) {
             put(out, "it changes an int, and cell ")?;
             put_size(out, found.above.saturating_add(1))?;
-            put(out, if is_beneath { " down from BP is " } else { " from the top is " })?;
+            put(
+                out,
+                if is_beneath {
+                    " down from BP is "
+                } else {
+                    " from the top is "
+                },
+            )?;
             return put(out, slot_word(slot));
         }
     }

@@ -13,5 +13,4 @@ mod reason;
 mod why;
 mod words;
 
-pub use reason::put_reason;
 pub use why::put_why;

@@ -25,12 +25,7 @@ fn put_restored(out: &mut Vec<u8>, shape: &Shape) -> Result<(), NoMemory> {
 }
 
 /// STORE_STATE.
-fn put_stored(
-    out: &mut Vec<u8>,
-    globals: u32,
-    locals: u32,
-    shape: &Shape,
-) -> Result<(), NoMemory> {
+fn put_stored(out: &mut Vec<u8>, globals: u32, locals: u32, shape: &Shape) -> Result<(), NoMemory> {
     let under = shape.under.as_slice();
     if let Some(count) = cell_count(globals) {
         if under.len() < count {
@@ -68,7 +63,11 @@ fn put_on_cells(out: &mut Vec<u8>, op: &Op<'_>, cells: &[Slot]) -> Result<(), No
         }
         Op::Add { kind } => put_two(out, *kind == 0x20 || *kind == 0x23, *kind, cells),
         Op::Neg { kind } => {
-            if *kind == 0x03 { put_one(out, cells) } else { put(out, left_out(*kind)) }
+            if *kind == 0x03 {
+                put_one(out, cells)
+            } else {
+                put(out, left_out(*kind))
+            }
         }
         Op::Comp | Op::Not | Op::Jz { .. } | Op::Jnz { .. } => put_one(out, cells),
         Op::MovSp { offset } => put_removed(out, *offset, cells),
@@ -154,9 +153,15 @@ fn put_trouble(
         Trouble::NoRule => put_no_rule(out, op, table, shape),
         Trouble::NotEnded => {
             if shape.saved.is_empty() {
-                put(out, "the routine ends with a stored state that no ACTION has taken")
+                put(
+                    out,
+                    "the routine ends with a stored state that no ACTION has taken",
+                )
             } else {
-                put(out, "the routine ends with a base that no RESTOREBP has taken off")
+                put(
+                    out,
+                    "the routine ends with a base that no RESTOREBP has taken off",
+                )
             }
         }
         Trouble::OtherCells(other) => {
@@ -196,7 +201,7 @@ fn put_routine(out: &mut Vec<u8>, reason: &Reason) -> Result<(), NoMemory> {
 }
 
 /// Puts a reason in words.
-pub fn put_reason(
+pub(crate) fn put_reason(
     out: &mut Vec<u8>,
     code: &Code,
     table: &Table,
@@ -205,7 +210,10 @@ pub fn put_reason(
     put(out, "at offset ")?;
     put_count(out, reason.place as u64)?;
     match code.op_at(reason.place) {
-        None => put(out, ", behind the last instruction: no instruction begins there")?,
+        None => put(
+            out,
+            ", behind the last instruction: no instruction begins there",
+        )?,
         Some((op, _size)) => {
             put(out, ", ")?;
             put_name(out, &op)?;

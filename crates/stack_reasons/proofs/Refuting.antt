@@ -108,7 +108,7 @@ call_row header code table entry place offset shape x y meets stands r =
     ap (λ (s : TopShape). s.cells) r.is ∙ ap (λ z. z ++ x) c.cells ∙ append_assoc c.callee.taken c.rest x in
     let under : shape.under ≡ c.callee.under ++ (c.deeper ++ beneath_under x y r.own.saved) =
     ap (λ (s : TopShape). s.under) r.is ∙ ap (λ z. z ++ beneath_under x y r.own.saved) c.under
-        ∙ append_assoc c.callee.under c.deeper (beneath_under x y r.own.saved) in
+    ∙ append_assoc c.callee.under c.deeper (beneath_under x y r.own.saved) in
     record {
       call = c;
       deep = c.deeper ++ beneath_under x y r.own.saved;
@@ -295,4 +295,3 @@ reason_refutes law stores header code reason h w =
     let b = come_rows header code table reason.entry reason.called_at h.first law stores w.1 h.comes in
     let r = way_rows header code table reason.entry h.first reason.place (top_first reason.shape) b.x b.y law w.1 b.row h.way in
     trouble_refutes header code table reason.entry h.first reason.place (top_first reason.shape) reason.trouble b.x b.y law w.1 b.row r h.trouble
-

@@ -78,6 +78,7 @@ pub are_none : (header : EngineTable) (code : List PlainOp) (home : Home) → Ar
 are_none header code home = record { all = tt }
 
 pub ruleset putting = (are_put)
+
 pub ruleset knowing = (is_at)
 
 -- ---- the first place
@@ -320,4 +321,5 @@ pub reason_found : ReasonsRefute → (header : EngineTable) (code : List PlainOp
 reason_found law header code reason h w = law header code reason h w
 
 pub ruleset taking = (are_rest, is_taken)
+
 pub ruleset finding = (reason_found)

@@ -94,5 +94,9 @@ pub fn known<'a>(
         return None;
     }
     let spot = &seen[number - 1];
-    if spot.place == place { Some(spot) } else { None }
+    if spot.place == place {
+        Some(spot)
+    } else {
+        None
+    }
 }

@@ -1,4 +1,4 @@
-ghost use Rattle.std.specs.Prelude.{◌≡◌, ◌≢◌, ◌↔◌, ◌<◌, IfOk, IfSome, IsTrue, [], length, reverse, slice_get};
+ghost use Rattle.std.specs.Prelude.{◌≡◌, ◌≢◌, ◌↔◌, ◌<◌, IfOk, IfSome, IsTrue, reverse, slice_get};
 ghost use Rattle.std.specs.Prelude.{◌++◌, map, ℕ};
 ghost use Rattle.stack_shape.specs.Rule.{top_first};
 ghost use Rattle.stack_shape.specs.Stored.{stored_shape};

@@ -1,6 +1,6 @@
-ghost use Rattle.std.specs.Prelude.{◌≡◌, IfOk, IfSome, Some};
+ghost use Rattle.std.specs.Prelude.{◌≡◌, IfOk, IfSome};
 ghost use Rattle.stack_reasons.specs.Reasons.{IsReason};
-ghost use Rattle.stack_reasons.specs.Walks.{AreThere, IsHome, IsLast, IsThere, IsTurned, IsVisited};
+ghost use Rattle.stack_reasons.specs.Walks.{IsHome, IsLast, IsThere, IsTurned, IsVisited};
 ghost use Rattle.stack_reasons.specs.Walks.{IsWrong, TrailFits};
 
 use crate::home::{Home, Judged, Spot};

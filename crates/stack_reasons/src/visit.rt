@@ -1,10 +1,10 @@
-ghost use Rattle.std.specs.Prelude.{◌≡◌, ◌<◌, ◌^◌, ◌↔◌, IfOk, IsTrue, Some, None};
+ghost use Rattle.std.specs.Prelude.{◌≡◌, ◌<◌, ◌^◌, ◌↔◌, IfOk, IsTrue, Some};
 ghost use Rattle.ncs_code.specs.Plain.{plain, Retn};
 ghost use Rattle.ncs_code.specs.File.{op_at};
 ghost use Rattle.machine_rules.specs.Act.{next_place};
 ghost use Rattle.stack_shape.specs.Rule.{IsOneStep, rule, top_first};
 ghost use Rattle.stack_reasons.specs.Ways.{IsEnded};
-ghost use Rattle.stack_reasons.specs.Walks.{IsHome, IsLead, IsThere, IsVisited};
+ghost use Rattle.stack_reasons.specs.Walks.{IsLead, IsThere, IsVisited};
 
 use crate::home::{Home, Judged, Spot};
 use crate::leads::{Lead, leads_of};

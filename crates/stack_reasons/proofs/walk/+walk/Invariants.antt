@@ -2,8 +2,8 @@ use Rattle.std.proofs.Common.{◌+◌, ◌*◌}
 use Rattle.stack_reasons.specs.Walks.{TrailFits}
 use Rattle.stack_reasons.proofs.walk.+walk.Given as goal
 
-abbrev pub invariant-walk-loop-_turn : goal.invariant-walk-loop-_turn
-invariant-walk-loop-_turn l = TrailFits l.judged.table.now l.judged.code.now l.home l.trail
+abbrev pub invariant-walk-loop-turn : goal.invariant-walk-loop-turn
+invariant-walk-loop-turn l = TrailFits l.judged.table.now l.judged.code.now l.home l.trail
 
 abbrev pub decreases-walk : goal.decreases-walk
 decreases-walk l = 5 * l.depth + 4
