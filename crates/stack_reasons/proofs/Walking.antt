@@ -171,7 +171,7 @@ pub ruleset returning = (last_of, left_of)
 pub call_of : (code : List PlainOp) (place : ℕ) (op : PlainOp) (target next : ℕ) → op_at code place ≡ Some op → IsCall place op target
     → next ≡ next_place place op → GoesInto code place target next
 call_of code place op target next stands c n =
-    record { offset = c.offset; stands = stands ∙ ap Some c.is; leads = c.leads; next = n ∙ ap (next_place place) c.is }
+    record { offset = c.offset; stands = stands ∙ ap Some c.is; leads = c.leads; behind = n ∙ ap (next_place place) c.is }
 
 pub return_of : (code : List PlainOp) (place : ℕ) (op : PlainOp) → op_at code place ≡ Some op → op ≡ ops.Retn → op_at code place ≡ Some ops.Retn
 return_of code place op stands e = stands ∙ ap Some e
@@ -192,7 +192,7 @@ callee_home header code home spot target next callee h t g e c a f = record {
 pub callee_enters : (code : List PlainOp) (spot : Spot) (target next : ℕ) (callee : Home) → GoesInto code spot.place target next
     → callee.entry ≡ Called target → top_first callee.first ≡ entered (top_first spot.shape) → Enters code spot callee next
 callee_enters code spot target next callee g e f =
-    record { offset = g.offset; stands = g.stands; entry = e ∙ ap Called g.leads; first = f; next = g.next }
+    record { offset = g.offset; stands = g.stands; entry = e ∙ ap Called g.leads; first = f; behind = g.behind }
 
 pub left_there : (header : EngineTable) (code : List PlainOp) (home : Home) (spot : Spot) (callee : Home) (last : Spot) (next : ℕ) (after : Shape)
     → IsThere header code home spot → Enters code spot callee next → IsLast header code callee last
@@ -203,7 +203,7 @@ left_there header code home spot callee last next after t n l e =
     (subst (λ e. Way header code e (top_first callee.first) last.place (top_first last.shape)) n.entry l.there.way) in
     record {
       way = subst (λ s. Way header code home.entry (top_first home.first) next s) (sym e)
-          (subst (λ p. Way header code home.entry (top_first home.first) p (left_by (top_first last.shape) (top_first spot.shape))) (sym n.next)
+          (subst (λ p. Way header code home.entry (top_first home.first) p (left_by (top_first last.shape) (top_first spot.shape))) (sym n.behind)
           (Returns home.entry (top_first home.first) spot.place (top_first spot.shape) n.offset last.place (top_first last.shape) t.way n.stands inner
           l.return.stands l.ended));
     }

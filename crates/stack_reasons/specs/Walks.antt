@@ -75,7 +75,7 @@ pub record GoesInto (code : List PlainOp) (place target next : ℕ) : Type 0 whe
   pub offset : ℤ
   pub stands : op_at code place ≡ Some (ops.Jsr offset)
   pub leads : target ≡ jump_place place offset
-  pub next : next ≡ next_place place (ops.Jsr offset)
+  pub behind : next ≡ next_place place (ops.Jsr offset)
 
 -- the routine is the called one, on the stack that is there
 pub record Enters (code : List PlainOp) (spot : Spot) (callee : Home) (next : ℕ) : Type 0 where
@@ -83,7 +83,7 @@ pub record Enters (code : List PlainOp) (spot : Spot) (callee : Home) (next : �
   pub stands : op_at code spot.place ≡ Some (ops.Jsr offset)
   pub entry : callee.entry ≡ Called (jump_place spot.place offset)
   pub first : top_first callee.first ≡ entered (top_first spot.shape)
-  pub next : next ≡ next_place spot.place (ops.Jsr offset)
+  pub behind : next ≡ next_place spot.place (ops.Jsr offset)
 
 -- ---- one place
 
