@@ -1,3 +1,2 @@
 pub mod Ways
 pub mod Reasons
-pub mod Walks
