@@ -20,7 +20,7 @@ use crate::values::two_ints;
 use machine_rules::equality_is_tested;
 use nwq_value::{NoMemory, Value};
 use saved_state::{Cell, Stack};
-use stack_shape::{CellRange, cell_count, cells_of_bytes, range_at, ranges_of_cells};
+use stack_shape::{CellRange, cell_count, cells_of_bytes, depth_of, range_at, ranges_of_cells};
 use std::alloc::Global;
 
 /// The one cell over which so many others lie.
@@ -218,6 +218,16 @@ pub fn drop_values(stack: &mut Stack, count: Option<usize>)
         Some(1) => stack.drop_one(),
         Some(count) => stack.drop_top(count),
     }
+}
+
+/// MOVSP at any offset.
+#[inline(never)]
+pub fn drop_sp(stack: &mut Stack, offset: i32)
+    requires case { values_dropped (depth_of offset) stack.old.cells ≢ None }
+    ensures cells { values_dropped (depth_of offset) stack.old.cells ≡ Some stack.new.cells }
+    ensures bp { stack.new.bp ≡ stack.old.bp }
+{
+    drop_values(stack, depth_of(offset));
 }
 
 /// Of the `total` values on top those are kept that begin `offset` cells above the lowest of them.
