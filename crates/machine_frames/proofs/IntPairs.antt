@@ -1,5 +1,5 @@
 -- Two ints that are compared.
-use Rattle.std.proofs.Common.{◌≡◌, ◌≢◌, ℕ, List, [], ◌∷◌, Some, Bool, true, false, ap, ◌∙◌, refl}
+use Rattle.std.proofs.Common.{◌≡◌, ◌≢◌, ℕ, List, [], ◌∷◌, Some, None, Bool, true, false, ap, ◌∙◌, refl}
 use Rattle.std.specs.Prelude.{◌&&◌, not}
 use Rattle.std.specs.Ordering.{int_eq}
 use Rattle.nwq_value.specs.declared.value.Ty.TheVariants.{Int as IntTy}
