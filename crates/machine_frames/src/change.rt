@@ -11,17 +11,16 @@ ghost use Rattle.machine_frames.specs.Operations.{binary_of, divides};
 
 use crate::operation::{Binary, Unary};
 use crate::ranges::{
-    cells, change_bp, change_int, change_sp, compare, drop_values, keep_range, one_cell, push_bp,
-    push_range, push_sp, write_bp, write_range, write_sp,
+    cells, change_bp, change_int, change_sp, compare, drop_sp, drop_values, keep_range, one_cell,
+    push_bp, push_range, push_sp, write_bp, write_range, write_sp,
 };
 use crate::top::cell;
 use crate::values::{
-    add, kind_ints, negate, one_int, push_object, push_start, push_text, take_zero,
+    add, complement, kind_ints, negate, one_int, push_object, push_start, push_text, take_zero,
 };
 use decoded_code::Step;
 use nwq_value::{NoMemory, Value};
 use saved_state::{Cell, Stack};
-use stack_shape::depth_of;
 use std::alloc::Global;
 
 /// Whether an int that is 0 is on top.
@@ -127,8 +126,8 @@ pub fn change(
             change_int(stack, one_cell(*above), Unary::Inc)?;
             Ok(at + 6)
         }
-        Step::LogAnd => operate(stack, 0x20, Binary::LogAnd, at),
-        Step::LogOr => operate(stack, 0x20, Binary::LogOr, at),
+        Step::LogAnd => operate_apart(stack, 0x20, Binary::LogAnd, at),
+        Step::LogOr => operate_apart(stack, 0x20, Binary::LogOr, at),
         Step::IncOr => operate_apart(stack, 0x20, Binary::IncOr, at),
         Step::ExcOr => operate_apart(stack, 0x20, Binary::ExcOr, at),
         Step::BoolAnd => operate_apart(stack, 0x20, Binary::BoolAnd, at),
@@ -182,11 +181,11 @@ pub fn change(
             Ok(at + 2)
         }
         Step::Comp => {
-            one_int(stack, Unary::Comp)?;
+            complement(stack)?;
             Ok(at + 2)
         }
         Step::MovSp { offset } => {
-            drop_values(stack, depth_of(*offset));
+            drop_sp(stack, *offset);
             Ok(at + 6)
         }
         Step::Jmp { offset } => Ok(jump(at, *offset)),

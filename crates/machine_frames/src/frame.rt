@@ -11,6 +11,7 @@ ghost use Rattle.machine_rules.specs.Act.{is_division, restored};
 ghost use Rattle.machine_rules.specs.Act.{returned, stored, stored_cells};
 ghost use Rattle.std.specs.Prelude.{◌∷◌};
 ghost use Rattle.std.specs.Option.{option_map};
+ghost use Rattle.std.specs.Vec.{vec_len, vec_capacity};
 ghost use Rattle.decoded_code.specs.Steps.{op_of};
 ghost use Rattle.machine_frames.specs.Tops.{bp_on_top};
 ghost use Rattle.machine_rules.specs.Frames.{Frame as FrameView};
@@ -135,6 +136,7 @@ impl Frame {
     }
 
     /// DIV. `false` says that its divisor is 0.
+    #[inline(never)]
     #[tactic(auto, using(crate::proofs::FrameLemmas::division_lemmas), unfolding(machine_rules::specs::Act::cells_after))]
     pub fn divides(&mut self, kind: u8) -> Result<bool, NoMemory>
         requires case { moved (Div kind) self.old ≢ None }
@@ -151,6 +153,7 @@ impl Frame {
     }
 
     /// MOD. `false` says that its divisor is 0.
+    #[inline(never)]
     #[tactic(auto, using(crate::proofs::FrameLemmas::division_lemmas), unfolding(machine_rules::specs::Act::cells_after))]
     pub fn leaves_remainder(&mut self) -> Result<bool, NoMemory>
         requires case { moved Mod self.old ≢ None }
@@ -167,6 +170,7 @@ impl Frame {
     }
 
     /// JSR, of this size.
+    #[inline(always)]
     #[tactic(auto, using(crate::proofs::FrameLemmas::pushed_last))]
     pub fn call(&mut self, offset: i32, size: u32) -> Result<(), NoMemory>
         requires size { size ≡ op_size (Jsr offset) }
@@ -174,12 +178,16 @@ impl Frame {
         ensures act { OnOk result (subroutine_called offset self.old ≡ Moves self.new) }
         ensures script { self.new.script ≡ self.old.script }
     {
-        self.calls.push(self.place + size)?;
+        if self.calls.len() == self.calls.capacity() {
+            more_calls(&mut self.calls)?;
+        }
+        self.calls.push_reserved(self.place + size);
         self.place = jump(self.place, offset);
         Ok(())
     }
 
     /// RETN. `false` says that the script is over.
+    #[inline(always)]
     #[tactic(auto, using(crate::proofs::FrameLemmas::popped_lemmas))]
     pub fn give_back(&mut self) -> bool
         ensures act { returned self.old.calls self.old
@@ -196,6 +204,7 @@ impl Frame {
     }
 
     /// SAVEBP, of this size.
+    #[inline(never)]
     pub fn save_bp(&mut self, size: u32) -> Result<(), NoMemory>
         requires size { size ≡ op_size SaveBp }
         requires small { self.old.place + size ≤ file_limit }
@@ -211,6 +220,7 @@ impl Frame {
     }
 
     /// RESTOREBP, of this size. The BP that is restored is a place of the stack.
+    #[inline(never)]
     #[tactic(auto, using(crate::proofs::FrameLemmas::restored_lemmas))]
     pub fn restore_bp(&mut self, size: u32)
         requires case { restored self.old.stack.cells self.old ≢ None }
@@ -240,6 +250,7 @@ impl Frame {
     }
 
     /// STORE_STATE, of this size.
+    #[inline(never)]
     #[tactic(auto, using(crate::proofs::FrameLemmas::stored_lemmas))]
     pub fn store(&mut self, globals: u32, locals: u32, size: u32) -> Result<(), NoMemory>
         requires case { stored globals locals self.old ≢ None }
@@ -279,4 +290,14 @@ impl Frame {
     {
         self.stack.push(Cell::Value(value))
     }
+}
+
+/// Makes room for one more kept place: a call of its own, since it is rare.
+#[inline(never)]
+fn more_calls(calls: &mut Vec<u32>) -> Result<(), NoMemory>
+    ensures same { calls.new.items ≡ calls.old.items }
+    ensures room { OnOk result (vec_len calls.new < vec_capacity calls.new) }
+{
+    calls.reserve(1)?;
+    Ok(())
 }

@@ -2,6 +2,7 @@
 ghost use Rattle.std.specs.Prelude.{◌≡◌, ◌≢◌, ◌+◌, ◌≤◌, ◌<◌, ◌^◌, None, Some, OnOk, IfSome, drop};
 ghost use Rattle.std.specs.Prelude.{length};
 ghost use Rattle.nwq_value.specs.Operators.{values_eq};
+ghost use Rattle.nwq_value.specs.declared.value.Ty.TheVariants.{Int as IntTy};
 ghost use Rattle.machine_rules.specs.Act.{bp_range, compared};
 ghost use Rattle.machine_rules.specs.Cells.{int_changed, pair_compared, range_kept, range_pushed};
 ghost use Rattle.machine_rules.specs.Cells.{range_written, runs_compared, values_dropped};
@@ -12,13 +13,14 @@ ghost use Rattle.stack_shape.specs.StackEffects.{type_of_both};
 ghost use Rattle.machine_frames.specs.Operations.{unary_of};
 ghost use Rattle.machine_frames.specs.Tops.{AreValues, answer_of, int_at, reached};
 
-use crate::operation::{Unary, as_int, of_one};
+use crate::operation::{Binary, Unary, as_int, of_one};
 use crate::runs::{copy_down, push_copies};
 use crate::top::{int, put, value};
+use crate::values::two_ints;
 use machine_rules::equality_is_tested;
 use nwq_value::{NoMemory, Value};
 use saved_state::{Cell, Stack};
-use stack_shape::{CellRange, cell_count, cells_of_bytes, range_at, ranges_of_cells};
+use stack_shape::{CellRange, cell_count, cells_of_bytes, depth_of, range_at, ranges_of_cells};
 use std::alloc::Global;
 
 /// The one cell over which so many others lie.
@@ -218,6 +220,16 @@ pub fn drop_values(stack: &mut Stack, count: Option<usize>)
     }
 }
 
+/// MOVSP at any offset.
+#[inline(never)]
+pub fn drop_sp(stack: &mut Stack, offset: i32)
+    requires case { values_dropped (depth_of offset) stack.old.cells ≢ None }
+    ensures cells { values_dropped (depth_of offset) stack.old.cells ≡ Some stack.new.cells }
+    ensures bp { stack.new.bp ≡ stack.old.bp }
+{
+    drop_values(stack, depth_of(offset));
+}
+
 /// Of the `total` values on top those are kept that begin `offset` cells above the lowest of them.
 #[tactic(auto, using(crate::proofs::RangeLemmas::kept_lemmas))]
 fn keep_values(
@@ -299,10 +311,42 @@ fn compare_runs(stack: &mut Stack, count: usize, negated: bool) -> Result<(), No
     stack.push(Cell::Value(Value::Int(as_int(same != negated))))
 }
 
-/// EQUAL and NEQUAL.
+/// EQUAL and NEQUAL of ints.
+#[inline(always)]
+#[tactic(auto, using(crate::proofs::IntPairs::pair_lemmas))]
+fn compare_ints(stack: &mut Stack, negated: bool) -> Result<(), NoMemory>
+    requires case { pair_compared (answer_of negated) (Some IntTy) stack.old.cells ≢ None }
+    ensures cells { OnOk result (pair_compared (answer_of negated) (Some IntTy) stack.old.cells
+        ≡ Some stack.new.cells) }
+    ensures bp { OnOk result (stack.new.bp ≡ stack.old.bp) }
+{
+    if negated {
+        two_ints(stack, Binary::Differs)
+    } else {
+        two_ints(stack, Binary::Same)
+    }
+}
+
+/// EQUAL and NEQUAL. Ints are compared here.
+#[inline(always)]
+#[tactic(auto, using(crate::proofs::IntPairs::kind_lemmas))]
+pub fn compare(stack: &mut Stack, kind: u8, size: u16, negated: bool) -> Result<(), NoMemory>
+    requires case { compared (answer_of negated) kind size stack.old.cells ≢ None }
+    ensures cells { OnOk result
+        (compared (answer_of negated) kind size stack.old.cells ≡ Some stack.new.cells) }
+    ensures bp { OnOk result (stack.new.bp ≡ stack.old.bp) }
+{
+    if kind == 0x20 {
+        compare_ints(stack, negated)
+    } else {
+        compare_apart(stack, kind, size, negated)
+    }
+}
+
+/// EQUAL and NEQUAL of any values.
 #[inline(never)]
 #[tactic(auto, using(crate::proofs::RangeLemmas::pair_lemmas))]
-pub fn compare(stack: &mut Stack, kind: u8, size: u16, negated: bool) -> Result<(), NoMemory>
+fn compare_apart(stack: &mut Stack, kind: u8, size: u16, negated: bool) -> Result<(), NoMemory>
     requires case { compared (answer_of negated) kind size stack.old.cells ≢ None }
     ensures cells { OnOk result
         (compared (answer_of negated) kind size stack.old.cells ≡ Some stack.new.cells) }

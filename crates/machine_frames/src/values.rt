@@ -1,6 +1,6 @@
 //! Instructions that pop and push values.
 ghost use Rattle.std.specs.Prelude.{◌≡◌, ◌≢◌, ◌&&◌, false, None, Some, OnOk};
-ghost use Rattle.nwq_value.specs.Operators.{opposite, joined_texts};
+ghost use Rattle.nwq_value.specs.Operators.{complement, opposite, joined_texts};
 ghost use Rattle.ncs_code.specs.Plain.{Object as ObjectLit, Text as TextLit};
 ghost use Rattle.decoded_code.specs.Steps.{whole};
 ghost use Rattle.machine_rules.specs.Act.{added, if_ints, int_dropped};
@@ -71,6 +71,16 @@ pub fn negate(stack: &mut Stack, kind: u8) -> Result<(), NoMemory>
     } else {
         unreachable!()
     }
+}
+
+/// COMP.
+#[inline(never)]
+pub fn complement(stack: &mut Stack) -> Result<(), NoMemory>
+    requires case { of_int complement stack.old.cells ≢ None }
+    ensures cells { OnOk result (of_int complement stack.old.cells ≡ Some stack.new.cells) }
+    ensures bp { OnOk result (stack.new.bp ≡ stack.old.bp) }
+{
+    one_int(stack, Unary::Comp)
 }
 
 /// The two texts on top become one.

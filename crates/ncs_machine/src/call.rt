@@ -100,7 +100,8 @@ impl Machine {
         self.execute(alloc, scripts, world, name_in(values), target)
     }
 
-    /// ACTION.
+    /// ACTION: a call of its own, so that the loop over steps stays short.
+    #[inline(never)]
     #[tactic(auto, using(crate::proofs::Calls::cut_lemmas))]
     pub(crate) fn call_engine(
         &mut self,

@@ -167,7 +167,9 @@ impl Machine {
             .take_arguments(alloc, routine, number, count, size, args)
     }
 
-    /// The running script is over: the newest of those that wait goes on.
+    /// The running script is over: the newest of those that wait goes on. Rare, and so a call of its
+    /// own.
+    #[inline(never)]
     #[tactic(auto, using(crate::proofs::Frames::pushed_last))]
     fn end_script(&mut self) -> StepOutcome
         ensures next { (w : WorldView SavedView) → over self.old.waiting (state self.old w)
@@ -184,6 +186,7 @@ impl Machine {
     }
 
     /// RETN.
+    #[inline(always)]
     #[tactic(auto, using(crate::proofs::Frames::return_lemmas))]
     pub(crate) fn give_back(&mut self) -> StepOutcome
         ensures next { (h : Host (WorldView SavedView)) (w : WorldView SavedView) →
