@@ -1,6 +1,6 @@
 -- In each table the row at a place of a run is the run's shape, as far as the routine sees it. So a
 -- run that can't go on refutes every table.
-use Rattle.std.proofs.Common.{arith, ◌≡◌, ℕ, ℤ, zero, suc, List, [], ◌∷◌, ◌++◌, map, Option, None, Some, inl, inr, ◌⊎◌, sym, subst, ◌∙◌, ap, refl}
+use Rattle.std.proofs.Common.{◌≡◌, ℕ, ℤ, List, [], ◌++◌, Option, None, Some, inl, inr, sym, subst, ◌∙◌, ap, refl}
 use Rattle.std.proofs.lemmas.List.{append_assoc, append-nil}
 use Rattle.nwq_value.specs.Engine.{EngineTable}
 use Rattle.ncs_code.specs.Plain.{PlainOp}
@@ -15,12 +15,11 @@ use Rattle.stack_shape.specs.Laws.{beneath_under, deeper, deeper_saved, RuleLook
 use Rattle.stack_shape.specs.Rule.{IsOneStep, rule, top_first}
 use Rattle.machine_rules.specs.Act.{next_place}
 use Rattle.stack_rules.specs.Tables.{Callee, ShapeTable, empty_shape, first_shape}
-use Rattle.stack_rules.specs.Rules.{Leads, Follows, GoesOnBehindCall, MayCall, MayReturn, MayStore, Obeys, MeetsRules, WellStacked}
-use Rattle.stack_reasons.specs.declared.reason.Reason.{Reason}
+use Rattle.stack_rules.specs.Rules.{Leads, Follows, GoesOnBehindCall, MayCall, MayReturn, MayStore, Obeys, MeetsRules}
 use Rattle.stack_reasons.specs.declared.reason.Trouble.{Trouble}
 use Rattle.stack_reasons.specs.declared.reason.Trouble.TheVariants.{NothingThere, NoRule, NotEnded, OtherCells, OtherResult}
 use Rattle.stack_reasons.specs.Ways.{LeadsTo, first_place, entered, left_by, IsEnded, Way, Begins, Steps, Returns, Comes, Starts, Calls, Stores}
-use Rattle.stack_reasons.specs.Reasons.{HasNoRule, IsCalled, IsReturn, IsLeft, ComesOtherwise, LeavesOtherwise, IsTrouble, IsReason, ReasonsRefute}
+use Rattle.stack_reasons.specs.Reasons.{HasNoRule, IsLeft, LeavesOtherwise, IsTrouble, ReasonsRefute}
 
 some_is : {A : Type 0} (a b : A) → Some a ≡ Some b → a ≡ b
 some_is a b h = cc
