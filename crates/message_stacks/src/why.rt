@@ -31,6 +31,7 @@ fn sentence_for(alloc: Global, code: &Code, table: &Table) -> Result<Option<Vec<
 }
 
 /// The sentence for the code of a file that is refused.
+#[tactic(auto, using(crate::proofs::Telling::telling))]
 fn sentence_of(alloc: Global, bytes: &[u8], table: &Table) -> Result<Option<Vec<u8>>, NoMemory>
     ensures refused { IfOk result (λ sentence. IfSome sentence (λ _. IsRefused table.now
         bytes.now)) }

@@ -18,7 +18,6 @@ use std::alloc::Global;
 const MOST_CALLS: u32 = 200;
 
 /// The script's start.
-#[tactic(auto, using(crate::proofs::Walking::starting))]
 fn start(alloc: Global, judged: &Judged<'_>) -> Home
     ensures { IsHome judged.now.table.now judged.now.code.now result }
 {

@@ -57,24 +57,20 @@ fn leave(
     home: &Home,
     spot: &Spot,
     callee: &Home,
-    last: Spot,
+    last: &Spot,
     next: u32,
 ) -> Result<Spot, NoMemory>
     requires there { IsThere judged.now.table.now judged.now.code.now home.now spot.now }
     requires enters { Enters judged.now.code.now spot.now callee.now next }
-    requires last { IsLast judged.now.table.now judged.now.code.now callee.now last }
+    requires last { IsLast judged.now.table.now judged.now.code.now callee.now last.now }
     ensures { IfOk result (λ after. IsThere judged.now.table.now judged.now.code.now home.now
         after) }
 {
     let _ = judged;
     let _ = home;
     let _ = callee;
-    let left = left_by(alloc, &last.shape, &spot.shape);
-    drop(last);
-    Ok(Spot {
-        place: next,
-        shape: left?,
-    })
+    let shape = left_by(alloc, &last.shape, &spot.shape)?;
+    Ok(Spot { place: next, shape })
 }
 
 /// What a call comes to.
@@ -97,8 +93,12 @@ fn behind(
         Walked::Found(reason) => Ok(Visited::Found(reason)),
         Walked::Ended(None) => Ok(Visited::Nothing),
         Walked::Ended(Some(last)) => {
-            let after = leave(alloc, judged, home, spot, callee, last, next)?;
-            Ok(Visited::One(after))
+            let after = leave(alloc, judged, home, spot, callee, &last, next);
+            drop(last);
+            match after {
+                Err(error) => Err(error),
+                Ok(after) => Ok(Visited::One(after)),
+            }
         }
     }
 }
