@@ -12,8 +12,6 @@ mod instructions;
 #[cfg(test)]
 mod passed;
 #[cfg(test)]
-mod reasons;
-#[cfg(test)]
 mod unstacked;
 #[cfg(test)]
 mod windows;
