@@ -1,1 +1,4 @@
 pub mod Refuting
+pub mod Walking
+pub mod Starting
+pub mod Knowing
