@@ -405,8 +405,9 @@ fn put_message<F: Files, E: Sink>(
 }
 
 /// Says why the program ended with its number, or what is to be noted where it did its work. `all`
-/// are its words, the first of which is its name, and the files are read once more. No file is
-/// written, and nothing that fails here has any effect but on what is said.
+/// are its words, the first of which is its name, and the files are those that the work read, as
+/// they were kept. No file is written, and nothing that fails here has any effect but on what is
+/// said.
 pub fn tell_end<F: Files, E: Sink>(
     alloc: Global,
     all: &[String],

@@ -9,7 +9,7 @@ mod tests;
 mod whole;
 
 use crate::end::{Words, end_of};
-use command_messages::LastLine;
+use command_messages::{KeptFiles, LastLine};
 use nwq_outside::RealSink;
 use real_files::{HostDisk, RealFiles};
 use std::env;
@@ -39,21 +39,10 @@ fn host_files(rt: &HostRuntime) -> Option<RealFiles<HostDisk<HostRuntime>>> {
 fn main(rt: HostRuntime) -> ExitCode {
     let words = all_words(&rt);
     let mut files = match host_files(&rt) {
-        Some(files) => files,
-        None => return ExitCode::from(8),
-    };
-    let mut again = match host_files(&rt) {
-        Some(files) => files,
+        Some(files) => KeptFiles::new(rt.alloc(), files),
         None => return ExitCode::from(8),
     };
     let mut out = LastLine::new(rt.alloc(), RealSink::new(rt.stdout()));
     let mut err = RealSink::new(rt.stderr());
-    end_of(
-        rt.alloc(),
-        words,
-        &mut files,
-        &mut out,
-        &mut again,
-        &mut err,
-    )
+    end_of(rt.alloc(), words, &mut files, &mut out, &mut err)
 }
