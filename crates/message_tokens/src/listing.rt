@@ -15,7 +15,7 @@ use nwq_value::NoMemory;
 use std::alloc::Global;
 
 /// What is tried at a place: each kind of token once, what is told first at the front.
-const TRIED: [&[u8]; 58] = [
+const TRIED: [&[u8]; 74] = [
     b";",
     b")",
     b"a",
@@ -27,6 +27,7 @@ const TRIED: [&[u8]; 58] = [
     b"}",
     b"=",
     b"OBJECT_SELF",
+    b"OBJECT_INVALID",
     b"int",
     b"string",
     b"object",
@@ -47,6 +48,12 @@ const TRIED: [&[u8]; 58] = [
     b"effect",
     b"event",
     b"float",
+    b"1.0",
+    b"vector",
+    b"location",
+    b"talent",
+    b"itemproperty",
+    b"action",
     b":",
     b".",
     b"+",
@@ -68,6 +75,15 @@ const TRIED: [&[u8]; 58] = [
     b"--",
     b"+=",
     b"-=",
+    b"*=",
+    b"/=",
+    b"%=",
+    b"&=",
+    b"|=",
+    b"^=",
+    b"<<=",
+    b">>=",
+    b">>>=",
     b"&",
     b"|",
     b"^",

@@ -14,7 +14,8 @@ ghost use Rattle.telling_sink.specs.Told.{Told};
 ghost use Rattle.nwq.specs.Ending.{EndsWanting, form_in};
 
 use crate::whole::run_all;
-use command_messages::{Again, End, KeptFiles, LastLine, tell_end};
+use command_messages::{End, LastLine, tell_end};
+use kept_files::{Again, KeptFiles};
 use nwq_outside::{Files, MemFiles, Sink};
 use nwq_top::Remarks;
 use nwq_top::laws::one_outcome;
@@ -29,8 +30,8 @@ const WANT_OF_MEMORY: u8 = 8;
 #[derive(Drop)]
 pub(crate) enum Words {
     All(Vec<String>),
-    /// Some of them are no text.
-    NoText,
+    /// Some of them are no text: the first that isn't.
+    NoText(Vec<u8>),
     NoMemory,
 }
 
@@ -41,8 +42,16 @@ impl Words {
     {
         match self {
             Words::All(all) => all.as_slice(),
-            Words::NoText => &[],
+            Words::NoText(_) => &[],
             Words::NoMemory => &[],
+        }
+    }
+
+    /// The first word that is no text, if there is one.
+    fn no_text(&self) -> Option<&[u8]> {
+        match self {
+            Words::NoText(word) => Some(word.as_slice()),
+            _ => None,
         }
     }
 }
@@ -68,7 +77,7 @@ impl<D: Disk> Watched for KeptFiles<RealFiles<D>> {
 /// kept, and ends with the number whatever comes of that. No file is opened for it.
 fn told<F: Watched, S: Sink, E: Sink>(
     alloc: Global,
-    all: &[String],
+    words: &Words,
     number: u8,
     remarks: Remarks,
     files: &F,
@@ -82,9 +91,10 @@ fn told<F: Watched, S: Sink, E: Sink>(
         line: out.line(),
         trouble: files.trouble(),
         random_used_up: remarks.random_used_up,
+        no_text: words.no_text(),
     };
     let mut again = Again::of(files.kept());
-    tell_end(alloc, all, end, &mut again, err);
+    tell_end(alloc, words.as_slice(), end, &mut again, err);
     ExitCode::from(number)
 }
 
@@ -156,7 +166,7 @@ fn number_of<F: Files, S: Sink>(
     ensures memory { EndsWanting words.now result }
 {
     match words {
-        Words::All(_) | Words::NoText => run_words(alloc, words, files, out, remarks),
+        Words::All(_) | Words::NoText(_) => run_words(alloc, words, files, out, remarks),
         Words::NoMemory => {
             one_outcome();
             WANT_OF_MEMORY
@@ -204,5 +214,5 @@ pub(crate) fn end_of<F: Files + Watched, S: Sink, E: Sink>(
 {
     let mut remarks = Remarks::none();
     let number = number_of(alloc, &words, files, out, &mut remarks);
-    told(alloc, words.as_slice(), number, remarks, files, out, err)
+    told(alloc, &words, number, remarks, files, out, err)
 }

@@ -9,12 +9,20 @@ mod tests;
 mod whole;
 
 use crate::end::{Words, end_of};
-use command_messages::{KeptFiles, LastLine};
+use command_messages::LastLine;
+use kept_files::KeptFiles;
 use nwq_outside::RealSink;
 use real_files::{HostDisk, RealFiles};
+use std::alloc::Global;
 use std::env;
+use std::env::{Env, FillError};
 use std::io::ErrorKind;
 use std::process::ExitCode;
+
+/// How many words are searched at most for the one that is no text, and how long it is.
+const MOST_WORDS: usize = 64;
+
+const MOST_OF_A_WORD: usize = 4_096;
 
 /// The program's name and the words after it.
 fn all_words(rt: &HostRuntime) -> Words {
@@ -24,7 +32,31 @@ fn all_words(rt: &HostRuntime) -> Words {
             Err(_) => Words::NoMemory,
         },
         Err(error) if error.kind() == ErrorKind::OutOfMemory => Words::NoMemory,
-        Err(_) => Words::NoText,
+        Err(_) => without_text(rt),
+    }
+}
+
+/// The first of the words that is no text.
+fn without_text(rt: &HostRuntime) -> Words {
+    let mut buffer = [0u8; MOST_OF_A_WORD];
+    for i in 0..MOST_WORDS {
+        match rt.arg(i, &mut buffer) {
+            Ok(len) if len <= buffer.len() => {
+                if str::from_utf8(&buffer[..len]).is_err() {
+                    return no_text(rt.alloc(), &buffer[..len]);
+                }
+            }
+            Err(FillError::NotPresent) => return no_text(rt.alloc(), b""),
+            _ => {}
+        }
+    }
+    no_text(rt.alloc(), b"")
+}
+
+fn no_text(alloc: Global, word: &[u8]) -> Words {
+    match Vec::from_slice(alloc, word) {
+        Ok(word) => Words::NoText(word),
+        Err(_) => Words::NoText(Vec::new(alloc)),
     }
 }
 

@@ -2,7 +2,8 @@
 //! it has ended. No crate stands on it, so these tests stand here.
 
 use crate::end::{Watched, Words, end_of};
-use command_messages::{KeptFiles, LastLine};
+use command_messages::LastLine;
+use kept_files::KeptFiles;
 use nwq_outside::{MemFiles, MemSink};
 use nwq_value::NoMemory;
 use real_files::Trouble;
@@ -182,13 +183,20 @@ fn the_program_over_memory(rt: HostRuntime) -> Result<(), Fail> {
 }
 
 /// Where words are no text, and where there is no memory for them.
-const NO_TEXT: Row = ("", 1, b"refused words\n", b"nwq", ("p.ncs", None));
+const NO_TEXT: Row = (
+    "",
+    1,
+    b"refused words\n",
+    b"nwq 1.1: error: `caf\\xe9` is no text",
+    ("p.ncs", None),
+);
 
 const NO_MEMORY: Row = ("", 8, b"", b"nwq", ("p.ncs", None));
 
 #[test]
 fn words_that_are_not_read(rt: HostRuntime) -> Result<(), Fail> {
-    assert!(rt; comes(rt.alloc(), Words::NoText, &NO_TEXT)?);
+    let word = Vec::from_slice(rt.alloc(), b"caf\xe9")?;
+    assert!(rt; comes(rt.alloc(), Words::NoText(word), &NO_TEXT)?);
     assert!(rt; comes(rt.alloc(), Words::NoMemory, &NO_MEMORY)?);
     Ok(())
 }

@@ -3,7 +3,7 @@
 ghost use Rattle.std.specs.Prelude.{◌≡◌, IsTrue};
 ghost use Rattle.nwq_outside.specs.Outside.{content, next, ReadsContent, IsFileSize, CountsRead};
 ghost use Rattle.nwq_outside.specs.Outside.{CountsWrite, KeepsOthers, Leaves};
-ghost use Rattle.command_messages.specs.Kept.{Keeps, KeepsRead};
+ghost use Rattle.kept_files.specs.Kept.{Keeps, KeepsRead};
 
 use nwq_outside::{Done, Files, MemFiles, Read};
 use std::alloc::Global;
