@@ -10,6 +10,9 @@ use crate::places::{Spot, put_cause, token_at};
 use crate::units::{Ask, name_in, put_of_scripts, read_named, scripts_of, table_of};
 use command_words::command_of;
 use command_work::Status;
+use message_lines::{
+    LineFault, code_fault, list_fault, plan_fault, put_line_fault, table_fault,
+};
 use message_sentences::{
     Told, kind_of, line_in, place_of_line, put_end, put_fault, put_flaw, put_head, put_kind,
     put_memory, put_name, put_no_text, put_sentence, put_usage, put_whole, put_words, same,
@@ -181,17 +184,49 @@ fn is_named(file: Option<&str>, name: &str) -> bool {
     }
 }
 
-/// What a line of a file is that is no source text.
-fn line_sentence(inputs: Inputs<'_>, name: &str) -> &'static str {
-    if name.as_bytes().ends_with(b".2da") {
-        "this line breaks the rules of 2DA files"
+/// What is wrong with a line of a file that is no source text.
+fn fault_of<'a>(
+    inputs: Inputs<'_>,
+    name: &str,
+    flaw: &[u8],
+    text: &'a [u8],
+    number: u64,
+) -> LineFault<'a> {
+    if same(kind_of(flaw), b"target") {
+        LineFault {
+            at: 0,
+            sentence: "this instruction leads to no beginning of one",
+            piece: b"",
+            earlier: None,
+        }
     } else if is_named(inputs.plan, name) {
-        "this is no line of a plan: one blank stands between fields, and none at the end"
+        plan_fault(text, number)
     } else if is_named(inputs.list, name) {
-        "this line names no table: a name in lower case, once, without `.2da`"
+        list_fault(text, number)
+    } else if inputs.list.is_some() && name.as_bytes().ends_with(b".2da") {
+        table_fault(text, number)
     } else {
-        "this is no instruction with its arguments, or it leads to no beginning of one"
+        code_fault(text, number)
     }
+}
+
+/// Appends the message on a line of a file that is no source text.
+fn put_line_message(
+    out: &mut Vec<u8>,
+    inputs: Inputs<'_>,
+    name: &str,
+    flaw: &[u8],
+    text: &[u8],
+    number: u64,
+) -> Result<(), NoMemory>
+    requires { length text.now ≤ file_limit }
+{
+    let fault = fault_of(inputs, name, flaw, text, number);
+    let place = place_of_line(text, number);
+    let at = place.saturating_add(fault.at).min(text.len());
+    put_head(out, name.as_bytes(), text, at as u32)?;
+    put_line_fault(out, fault)?;
+    put_end(out, kind_of(flaw), text, at as u32)
 }
 
 /// Appends the message on a file that is no source text.
@@ -208,10 +243,7 @@ fn put_flaw_message<F: Files>(
     if let Some(number) = line_in(flaw)
         && let Some(bytes) = read_named(alloc, name, files)
     {
-        let at = place_of_line(bytes.as_slice(), number) as u32;
-        put_head(out, name.as_bytes(), bytes.as_slice(), at)?;
-        put_words(out, line_sentence(inputs, name))?;
-        return put_end(out, kind_of(flaw), bytes.as_slice(), at);
+        return put_line_message(out, inputs, name, flaw, bytes.as_slice(), number);
     }
     put_name(out, name.as_bytes())?;
     put_words(out, ": error: ")?;

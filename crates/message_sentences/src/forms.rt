@@ -18,7 +18,7 @@ struct Form {
     /// Which of them is the name of a script.
     script: Option<usize>,
     /// Which of them is a number, and what is said where it is none.
-    number: Option<(usize, &'static str)>,
+    number: Option<usize>,
 }
 
 const NO_SCRIPT: &str =
@@ -99,7 +99,7 @@ const FORMS: [Form; 10] = [
         least: 5,
         most: 6,
         script: None,
-        number: Some((3, NO_ENTRIES)),
+        number: Some(3),
     },
     Form {
         command: "resume",
@@ -117,7 +117,7 @@ const FORMS: [Form; 10] = [
         least: 1,
         most: 1,
         script: None,
-        number: Some((0, NO_NUMBER)),
+        number: Some(0),
     },
 ];
 
@@ -151,6 +151,15 @@ fn put_counts(out: &mut Vec<u8>, form: &Form, given: usize) -> Result<(), NoMemo
     put_words(out, if given == 1 { " word" } else { " words" })
 }
 
+/// What is said of a word that isn't the number that a command takes.
+fn number_sentence(form: &Form) -> &'static str {
+    if form.command == "save" {
+        NO_ENTRIES
+    } else {
+        NO_NUMBER
+    }
+}
+
 /// Appends that a word isn't what its command takes there, by one sentence for a word of its kind.
 fn put_wrong_word(
     out: &mut Vec<u8>,
@@ -172,7 +181,7 @@ fn put_wrong_rest(out: &mut Vec<u8>, form: &Form, rest: &[String]) -> Result<(),
     }
     match (form.script, form.number) {
         (Some(at), _) => put_wrong_word(out, form, rest, at, NO_SCRIPT),
-        (None, Some((at, sentence))) => put_wrong_word(out, form, rest, at, sentence),
+        (None, Some(at)) => put_wrong_word(out, form, rest, at, number_sentence(form)),
         (None, None) => put_sentence(
             out,
             "`%` isn't given what it takes",

@@ -45,6 +45,7 @@ fn is_said(alloc: Global, row: &Row, random_used_up: bool) -> Result<bool, NoMem
         line: row.line,
         trouble: None,
         random_used_up,
+        no_text: None,
     };
     tell_end(alloc, words.as_slice(), end, &mut files, &mut err);
     Ok(err.bytes() == row.said.as_bytes())
