@@ -14,7 +14,8 @@ use nss_parser::{ParseFault, parse};
 use nwq_value::NoMemory;
 use std::alloc::Global;
 
-/// What is tried at a place: each kind of token once, what is told first at the front.
+/// What is tried at a place: each kind of token of a unit once, what is told first at the front, and
+/// what the profile leaves out at the end.
 const TRIED: [&[u8]; 74] = [
     b";",
     b")",
@@ -47,13 +48,6 @@ const TRIED: [&[u8]; 74] = [
     b"const",
     b"effect",
     b"event",
-    b"float",
-    b"1.0",
-    b"vector",
-    b"location",
-    b"talent",
-    b"itemproperty",
-    b"action",
     b":",
     b".",
     b"+",
@@ -90,6 +84,13 @@ const TRIED: [&[u8]; 74] = [
     b"<<",
     b">>",
     b">>>",
+    b"float",
+    b"1.0",
+    b"vector",
+    b"location",
+    b"talent",
+    b"itemproperty",
+    b"action",
 ];
 
 /// The one token of a short text.
