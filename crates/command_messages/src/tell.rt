@@ -10,9 +10,7 @@ use crate::places::{Spot, put_cause, token_at};
 use crate::units::{Ask, name_in, put_of_scripts, read_named, scripts_of, table_of};
 use command_words::command_of;
 use command_work::Status;
-use message_lines::{
-    LineFault, code_fault, list_fault, plan_fault, put_line_fault, table_fault,
-};
+use message_lines::{LineFault, code_fault, list_fault, plan_fault, put_line_fault, table_fault};
 use message_sentences::{
     Told, kind_of, line_in, place_of_line, put_end, put_fault, put_flaw, put_head, put_kind,
     put_memory, put_name, put_no_text, put_sentence, put_usage, put_whole, put_words, same,

@@ -1,7 +1,7 @@
 //! The files that a message is made of, as they were kept: headers, plans, units of scripts. Nothing
 //! is written.
 
-ghost use Rattle.std.specs.Prelude.{◌≡◌, ◌≤◌, length, IfOk, IfSome};
+ghost use Rattle.std.specs.Prelude.{◌≡◌, ◌≤◌, length, IfSome};
 ghost use Rattle.nwq_value.specs.Limits.{file_limit, token_limit};
 
 use crate::asked::include_of;
@@ -238,9 +238,7 @@ fn has_file<F: Files>(
 
 /// Whether a file is that of a script.
 fn is_source_of(name: &[u8], script: &[u8]) -> bool {
-    name.len() > 4
-        && &name[..name.len() - 4] == script
-        && same(&name[name.len() - 4..], b".nss")
+    name.len() > 4 && &name[..name.len() - 4] == script && same(&name[name.len() - 4..], b".nss")
 }
 
 /// Appends what the first of the scripts with the file of the place answers that does. Whether one

@@ -75,11 +75,18 @@ fn heading_fault<'a>(text: &[u8], line: &'a [u8]) -> LineFault<'a> {
         );
     }
     match line {
-        [b'N', b'W', b'Q', b' ', b'P', b'L', b'A', b'N', b' ', version @ ..] => fault_at(
-            9,
-            "`%` is no version of plans: there are 1 and 2",
-            version,
-        ),
+        [
+            b'N',
+            b'W',
+            b'Q',
+            b' ',
+            b'P',
+            b'L',
+            b'A',
+            b'N',
+            b' ',
+            version @ ..,
+        ] => fault_at(9, "`%` is no version of plans: there are 1 and 2", version),
         _ => fault_at(
             0,
             "a plan begins with the line `NWQ PLAN 1` or `NWQ PLAN 2`, with nothing before it",
@@ -113,7 +120,12 @@ fn limit_fault<'a>(
     }
     match first_beginning(text, first_word(line)) {
         Some(first) if first < number => {
-            again(0, "`%` is given once at most, and stands", first_word(line), first)
+            again(
+                0,
+                "`%` is given once at most, and stands",
+                first_word(line),
+                first,
+            )
         }
         _ => fault_at(0, "`%` can't be given here", first_word(line)),
     }
@@ -168,7 +180,11 @@ fn script_fault<'a>(text: &[u8], line: &'a [u8], number: u64) -> LineFault<'a> {
     }
     match first_listing(text, name) {
         Some(first) if first < number => again(at, "`%` is listed already,", name, first),
-        _ => fault_at(at, "`%` is script number 257 of the plan, one too many", name),
+        _ => fault_at(
+            at,
+            "`%` is script number 257 of the plan, one too many",
+            name,
+        ),
     }
 }
 
@@ -184,7 +200,10 @@ fn bad_field<'a>(
     }
     match field(line, number) {
         Some(given) => Some(fault_at(given.at, sentence, given.bytes)),
-        None => Some(missing(line, "this line ends too early: see what follows `%` in a plan")),
+        None => Some(missing(
+            line,
+            "this line ends too early: see what follows `%` in a plan",
+        )),
     }
 }
 

@@ -57,7 +57,11 @@ pub fn table_fault(text: &[u8], number: u64) -> LineFault<'_> {
         return heading_fault(text);
     }
     if number == 2 {
-        return fault_at(0, "the second line is empty, or begins with `DEFAULT:`", b"");
+        return fault_at(
+            0,
+            "the second line is empty, or begins with `DEFAULT:`",
+            b"",
+        );
     }
     if let Some(at) = open_quote(line) {
         return fault_at(at, "this quote isn't closed on its line", b"");

@@ -59,10 +59,11 @@ pub fn put_name(out: &mut Vec<u8>, name: &[u8]) -> Result<(), NoMemory>
     ensures appends { OnOk result (ShowsName name.now out.old.items out.new.items) }
 {
     if is_plain_name(name) {
-        put_plain(out, name)
+        put_plain(out, name)?;
     } else {
-        put_text(out, name)
+        put_text(out, name)?;
     }
+    Ok(())
 }
 
 /// Appends the name of a file, and the line and column of a place of it.

@@ -118,11 +118,7 @@ fn longest_named(alloc: Global, text: &[u8], names: &[String]) -> Result<usize, 
 
 /// What a line tells of a file that is no source text, whose name is one of the command's words, or
 /// else goes as far as the first word of a flaw.
-fn flaw_told<'a>(
-    alloc: Global,
-    text: &'a [u8],
-    names: &[String],
-) -> Result<Told<'a>, NoMemory> {
+fn flaw_told<'a>(alloc: Global, text: &'a [u8], names: &[String]) -> Result<Told<'a>, NoMemory> {
     let len = longest_named(alloc, text, names)?;
     if len == 0 || len >= text.len() {
         return Ok(flaw_in(text));

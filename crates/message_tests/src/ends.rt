@@ -93,13 +93,22 @@ const ASKING: &[(&[&str], &str)] = &[
 
 /// Words that are no form of a command.
 const WRONG: &[(&[&str], &str)] = &[
-    (&["nwq", "rnu"], "nwq 1.1: error: `rnu` is no command [words]\nusage:\n"),
-    (&["nwq", "run", "-", "P"], "nwq 1.1: error: `P` is no name of a script"),
+    (
+        &["nwq", "rnu"],
+        "nwq 1.1: error: `rnu` is no command [words]\nusage:\n",
+    ),
+    (
+        &["nwq", "run", "-", "P"],
+        "nwq 1.1: error: `P` is no name of a script",
+    ),
     (
         &["nwq", "tree"],
         "nwq 1.1: error: `tree` takes FILE, and was given 0 words [words]\n",
     ),
-    (&["nwq", "tree", "-x"], "nwq 1.1: error: `-x` begins with `-`"),
+    (
+        &["nwq", "tree", "-x"],
+        "nwq 1.1: error: `-x` begins with `-`",
+    ),
     (
         &["nwq", "resume", "a.nwq"],
         "nwq 1.1: error: `resume` takes STATE TO [TABLES], and was given 1 word [words]\n",
@@ -112,7 +121,10 @@ const WRONG: &[(&[&str], &str)] = &[
         &["nwq", "generate", "1000001"],
         "nwq 1.1: error: `1000001` is no NUMBER: it is one of 0 to 1,000,000, in digits [words]\n",
     ),
-    (&["nwq", "--version", "2"], "nwq 1.1: error: `--version` begins with `-`"),
+    (
+        &["nwq", "--version", "2"],
+        "nwq 1.1: error: `--version` begins with `-`",
+    ),
 ];
 
 fn all_begin(alloc: Global, rows: &[(&[&str], &str)]) -> bool {
@@ -145,9 +157,11 @@ fn tells_no_text(alloc: Global) -> Result<bool, NoMemory> {
         no_text: Some(b"caf\xe9"),
     };
     tell_end(alloc, &[], end, &mut files, &mut err);
-    Ok(err
-        .bytes()
-        .starts_with(b"nwq 1.1: error: `caf\\xe9` is no text: words are UTF-8 [words]\nusage:\n"))
+    Ok(
+        err.bytes().starts_with(
+            b"nwq 1.1: error: `caf\\xe9` is no text: words are UTF-8 [words]\nusage:\n",
+        ),
+    )
 }
 
 #[test]

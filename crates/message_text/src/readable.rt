@@ -33,8 +33,9 @@ fn begins_hidden(bytes: &[u8]) -> bool
         [] => false,
         [_] => false,
         [a, b] => is_latin_control(*a, *b) || is_arabic_mark(*a, *b),
-        [a, b, c, ..] =>
-            is_latin_control(*a, *b) || is_arabic_mark(*a, *b) || is_general_mark(*a, *b, *c),
+        [a, b, c, ..] => is_latin_control(*a, *b)
+            || is_arabic_mark(*a, *b)
+            || is_general_mark(*a, *b, *c),
     }
 }
 

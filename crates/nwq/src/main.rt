@@ -12,8 +12,8 @@ use crate::end::{Words, end_of};
 use command_messages::LastLine;
 use kept_files::KeptFiles;
 use nwq_outside::RealSink;
+use nwq_value::NoMemory;
 use real_files::{HostDisk, RealFiles};
-use std::alloc::Global;
 use std::env;
 use std::env::{Env, FillError};
 use std::io::ErrorKind;
@@ -32,32 +32,31 @@ fn all_words(rt: &HostRuntime) -> Words {
             Err(_) => Words::NoMemory,
         },
         Err(error) if error.kind() == ErrorKind::OutOfMemory => Words::NoMemory,
-        Err(_) => without_text(rt),
+        Err(_) => Words::NoText(no_text(rt).unwrap_or(Vec::new(rt.alloc()))),
     }
 }
 
-/// The first of the words that is no text.
-fn without_text(rt: &HostRuntime) -> Words {
-    let mut buffer = [0u8; MOST_OF_A_WORD];
+/// Whether a word of so many bytes, which stands at the front of a buffer, is no text.
+fn is_no_text(buffer: &[u8], len: usize) -> bool {
+    len <= buffer.len() && str::from_utf8(&buffer[..len]).is_err()
+}
+
+/// The first of the words that is no text, the empty one where none is found.
+fn no_text(rt: &HostRuntime) -> Result<Vec<u8>, NoMemory> {
+    let mut buffer = vec![in rt.alloc(); 0u8; MOST_OF_A_WORD]?;
     for i in 0..MOST_WORDS {
-        match rt.arg(i, &mut buffer) {
-            Ok(len) if len <= buffer.len() => {
-                if str::from_utf8(&buffer[..len]).is_err() {
-                    return no_text(rt.alloc(), &buffer[..len]);
+        match rt.arg(i, buffer.as_mut_slice()) {
+            Err(FillError::NotPresent) => break,
+            Err(FillError::TooLong) => {}
+            Ok(len) => {
+                if is_no_text(buffer.as_slice(), len) {
+                    buffer.truncate(len);
+                    return Ok(buffer);
                 }
             }
-            Err(FillError::NotPresent) => return no_text(rt.alloc(), b""),
-            _ => {}
         }
     }
-    no_text(rt.alloc(), b"")
-}
-
-fn no_text(alloc: Global, word: &[u8]) -> Words {
-    match Vec::from_slice(alloc, word) {
-        Ok(word) => Words::NoText(word),
-        Err(_) => Words::NoText(Vec::new(alloc)),
-    }
+    Ok(Vec::new(rt.alloc()))
 }
 
 /// The files of the host, unless there is no memory for them.

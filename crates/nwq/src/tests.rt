@@ -131,13 +131,7 @@ fn begun(alloc: Global) -> Left {
 /// Runs the program over the files.
 fn run(alloc: Global, words: Words, left: &mut Left) -> Result<(), NoMemory> {
     add_all(&mut left.files.inner)?;
-    left.code = end_of(
-        alloc,
-        words,
-        &mut left.files,
-        &mut left.out,
-        &mut left.err,
-    );
+    left.code = end_of(alloc, words, &mut left.files, &mut left.out, &mut left.err);
     Ok(())
 }
 
