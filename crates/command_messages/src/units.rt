@@ -1,5 +1,5 @@
-//! The files that a message is made of, as they were kept: headers, plans, units of scripts. Nothing
-//! is written.
+//! The files that a message is made of, as they were kept: headers, plans, units of scripts.
+//! Nothing is written.
 
 ghost use Rattle.std.specs.Prelude.{◌≡◌, ◌≤◌, length, IfSome};
 ghost use Rattle.nwq_value.specs.Limits.{file_limit, token_limit};

@@ -1,9 +1,9 @@
 //! What is wrong with a line of a plan, of a list of tables, of a 2DA file or of an assembler text.
 //!
 //! Each of these texts is refused at its first line without a reading. [`plan_fault`],
-//! [`list_fault`], [`table_fault`] and [`code_fault`] look at that line once more, and tell its first
-//! field that can't stand there and a sentence on it. What is told lies in the line. The page on
-//! messages is docs/MESSAGES.md.
+//! [`list_fault`], [`table_fault`] and [`code_fault`] look at that line once more, and tell its
+//! first field that can't stand there and a sentence on it. The page on messages is
+//! docs/MESSAGES.md.
 #![tactic(auto)]
 
 mod code;

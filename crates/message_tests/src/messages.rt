@@ -279,8 +279,8 @@ const OTHERS: &[Row] = &[
         }],
         number: 4,
         line: b"refused a.plan line 3\n",
-        said: "a.plan:3:7: error: two blanks stand here, and one parts fields [line]\nlimit  4\n      \
-            ^\n",
+        said: "a.plan:3:7: error: two blanks stand here, and one parts fields \
+            [line]\nlimit  4\n      ^\n",
     },
     Row {
         words: &["nwq", "play", "-", "a.git", "a.plan", "b.git"],
