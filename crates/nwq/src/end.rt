@@ -165,12 +165,10 @@ fn number_of<F: Files, S: Sink>(
     ensures only { ComesOf (form_in words.now) (status_numbered result) }
     ensures memory { EndsWanting words.now result }
 {
+    one_outcome();
     match words {
         Words::All(_) | Words::NoText(_) => run_words(alloc, words, files, out, remarks),
-        Words::NoMemory => {
-            one_outcome();
-            WANT_OF_MEMORY
-        }
+        Words::NoMemory => WANT_OF_MEMORY,
     }
 }
 

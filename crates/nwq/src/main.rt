@@ -32,7 +32,10 @@ fn all_words(rt: &HostRuntime) -> Words {
             Err(_) => Words::NoMemory,
         },
         Err(error) if error.kind() == ErrorKind::OutOfMemory => Words::NoMemory,
-        Err(_) => Words::NoText(no_text(rt).unwrap_or(Vec::new(rt.alloc()))),
+        Err(_) => match no_text(rt) {
+            Ok(word) => Words::NoText(word),
+            Err(NoMemory) => Words::NoText(Vec::new(rt.alloc())),
+        },
     }
 }
 
