@@ -128,8 +128,7 @@ const WRONG: &[(&[&str], &str)] = &[
 ];
 
 fn all_begin(alloc: Global, rows: &[(&[&str], &str)]) -> bool {
-    rows.iter()
-        .all(|(words, wanted)| begins(alloc, words, 1, wanted))
+    rows.iter().all(|row| begins(alloc, row.0, 1, row.1))
 }
 
 #[test]
