@@ -1,12 +1,12 @@
 //! Assembler texts.
 
 use crate::fault::{LineFault, fault_at};
-use crate::fields::{blank_fault, field, is_marked, line_numbered};
+use crate::fields::{blank_fault, field_behind, is_marked, line_numbered};
 use ncs_code::opcode_named;
 
 /// What is wrong with a line that begins with the name of an instruction.
 fn arguments_fault(line: &[u8]) -> LineFault<'_> {
-    match field(line, 1) {
+    match field_behind(line, 1) {
         None => fault_at(
             line.len(),
             "a blank and a type byte follow the name of an instruction",
@@ -29,7 +29,7 @@ pub fn code_fault(text: &[u8], number: u64) -> LineFault<'_> {
     if let Some(fault) = blank_fault(line, 2) {
         return fault;
     }
-    let name = match field(line, 0) {
+    let name = match field_behind(line, 0) {
         Some(name) => name.bytes,
         None => line,
     };

@@ -21,7 +21,7 @@ fn front(bytes: &[u8]) -> &[u8] {
 }
 
 /// The field behind so many blanks, up to the next one.
-pub(crate) fn field(line: &[u8], number: u32) -> Option<Field<'_>> {
+pub(crate) fn field_behind(line: &[u8], number: u32) -> Option<Field<'_>> {
     let mut passed = 0u32;
     for (i, byte) in line.iter().enumerate() {
         if passed == number {

@@ -1,7 +1,7 @@
 //! Plans.
 
 use crate::fault::{LineFault, again, fault_at};
-use crate::fields::{Field, blank_fault, field, is_marked, is_number, line_numbered};
+use crate::fields::{Field, blank_fault, field_behind, is_marked, is_number, line_numbered};
 use message_sentences::same;
 use nwq_text::{Lines, is_script_name};
 
@@ -47,7 +47,7 @@ fn first_listing(text: &[u8], name: &[u8]) -> Option<u64> {
 }
 
 fn first_word(line: &[u8]) -> &[u8] {
-    match field(line, 0) {
+    match field_behind(line, 0) {
         Some(word) => word.bytes,
         None => b"",
     }
@@ -109,13 +109,13 @@ fn limit_fault<'a>(
     high: u64,
     sentence: &'static str,
 ) -> LineFault<'a> {
-    let Some(given) = field(line, 1) else {
+    let Some(given) = field_behind(line, 1) else {
         return missing(line, "a number follows `%` and a blank");
     };
     if !is_number(given.bytes, low, high) {
         return fault_at(given.at, sentence, given.bytes);
     }
-    if let Some(more) = field(line, 2) {
+    if let Some(more) = field_behind(line, 2) {
         return fault_at(more.at, "`%` is one field too many", more.bytes);
     }
     match first_beginning(text, first_word(line)) {
@@ -154,7 +154,7 @@ fn first_odd(line: &[u8]) -> Option<Field<'_>> {
 
 /// What is wrong with a line of random numbers.
 fn random_fault(line: &[u8]) -> LineFault<'_> {
-    if field(line, 1).is_none() {
+    if field_behind(line, 1).is_none() {
         return missing(line, "a number follows `%` and a blank");
     }
     match first_odd(line) {
@@ -198,7 +198,7 @@ fn bad_field<'a>(
     if is_right {
         return None;
     }
-    match field(line, number) {
+    match field_behind(line, number) {
         Some(given) => Some(fault_at(given.at, sentence, given.bytes)),
         None => Some(missing(
             line,
@@ -220,8 +220,8 @@ fn is_label(label: &[u8]) -> bool {
 
 /// The first of the fields before the tag that isn't as it is to be.
 fn aimed_fault<'a>(line: &'a [u8], third: bool, sentence: &'static str) -> Option<LineFault<'a>> {
-    let time = bytes_of(field(line, 1));
-    let nth = bytes_of(field(line, 2));
+    let time = bytes_of(field_behind(line, 1));
+    let nth = bytes_of(field_behind(line, 2));
     if let Some(fault) = bad_field(line, 1, is_number(time, 0, MOST), NO_TIME) {
         return Some(fault);
     }
@@ -233,7 +233,7 @@ fn aimed_fault<'a>(line: &'a [u8], third: bool, sentence: &'static str) -> Optio
 
 /// What is wrong with the tag of a line, or with the number of such lines.
 fn tag_fault(line: &[u8]) -> LineFault<'_> {
-    match field(line, 4) {
+    match field_behind(line, 4) {
         None => missing(line, "a blank and a tag end this line"),
         Some(tag) => fault_at(
             tag.at,
@@ -244,7 +244,7 @@ fn tag_fault(line: &[u8]) -> LineFault<'_> {
 }
 
 fn event_fault(line: &[u8]) -> LineFault<'_> {
-    let label = bytes_of(field(line, 3));
+    let label = bytes_of(field_behind(line, 3));
     match aimed_fault(
         line,
         is_label(label),
@@ -257,25 +257,25 @@ fn event_fault(line: &[u8]) -> LineFault<'_> {
 
 /// What is wrong with the start of a script for no object.
 fn free_fault(line: &[u8]) -> LineFault<'_> {
-    let time = bytes_of(field(line, 1));
-    let name = bytes_of(field(line, 3));
+    let time = bytes_of(field_behind(line, 1));
+    let name = bytes_of(field_behind(line, 3));
     if let Some(fault) = bad_field(line, 1, is_number(time, 0, MOST), NO_TIME) {
         return fault;
     }
     if let Some(fault) = bad_field(line, 3, is_script_name(name), NO_NAME) {
         return fault;
     }
-    match field(line, 4) {
+    match field_behind(line, 4) {
         Some(more) => fault_at(more.at, "`%` is one field too many", more.bytes),
         None => fault_at(0, "this is event or start number 65,537, one too many", b""),
     }
 }
 
 fn start_fault(line: &[u8]) -> LineFault<'_> {
-    if same(bytes_of(field(line, 2)), b"-") {
+    if same(bytes_of(field_behind(line, 2)), b"-") {
         return free_fault(line);
     }
-    let name = bytes_of(field(line, 3));
+    let name = bytes_of(field_behind(line, 3));
     match aimed_fault(line, is_script_name(name), NO_NAME) {
         Some(fault) => fault,
         None => tag_fault(line),
