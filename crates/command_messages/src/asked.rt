@@ -139,31 +139,43 @@ pub(crate) fn include_of<F: Files>(
     Ok(None)
 }
 
+/// Whether a file has this name with an ending of four bytes.
+fn is_file(wanted: &[u8], name: &[u8], ending: &[u8]) -> bool {
+    wanted.len() > 4
+        && &wanted[..wanted.len() - 4] == name
+        && same(&wanted[wanted.len() - 4..], ending)
+}
+
 /// Whether a line of a plan lists the script, or the binary, of this file.
 fn lists(line: &[u8], wanted: &[u8]) -> bool {
     match line {
-        [b's', b'c', b'r', b'i', b'p', b't', b' ', name @ ..] => {
-            wanted.len() > 4 && name == &wanted[..wanted.len() - 4]
-        }
-        [b'b', b'i', b'n', b'a', b'r', b'y', b' ', name @ ..] => {
-            wanted.len() > 4 && name == &wanted[..wanted.len() - 4]
-        }
+        [b's', b'c', b'r', b'i', b'p', b't', b' ', name @ ..] => is_file(wanted, name, b".nss"),
+        [b'b', b'i', b'n', b'a', b'r', b'y', b' ', name @ ..] => is_file(wanted, name, b".ncs"),
         _ => false,
     }
 }
 
-/// Whether a line of a list of tables names the table of this file.
-fn names_table(line: &[u8], wanted: &[u8]) -> bool {
-    wanted.len() > 4 && line == &wanted[..wanted.len() - 4]
+/// A text whose lines ask for files.
+#[derive(Clone, Copy)]
+pub(crate) enum Lister {
+    Plan,
+    Tables,
 }
 
-/// The place of the first line of a plan, or of a list of tables, that asks for a file.
-fn line_for(text: &[u8], wanted: &[u8]) -> Option<usize>
+fn asks(lister: Lister, line: &[u8], wanted: &[u8]) -> bool {
+    match lister {
+        Lister::Plan => lists(line, wanted),
+        Lister::Tables => is_file(wanted, line, b".2da"),
+    }
+}
+
+/// The place of the first line that asks for a file.
+fn line_for(text: &[u8], lister: Lister, wanted: &[u8]) -> Option<usize>
     ensures { IfSome result (λ at. at ≤ length text.now) }
 {
     let mut lines = Lines::of(text);
     while let Some(line) = lines.next_line() {
-        if lists(line.bytes, wanted) || names_table(line.bytes, wanted) {
+        if asks(lister, line.bytes, wanted) {
             return Some(line.place);
         }
     }
@@ -174,6 +186,7 @@ fn line_for(text: &[u8], wanted: &[u8]) -> Option<usize>
 pub(crate) fn line_of_file<F: Files>(
     alloc: Global,
     name: &str,
+    lister: Lister,
     wanted: &[u8],
     files: &mut F,
 ) -> Result<Option<Asking>, NoMemory>
@@ -182,7 +195,7 @@ pub(crate) fn line_of_file<F: Files>(
     let Some(bytes) = read_named(alloc, name, files) else {
         return Ok(None);
     };
-    match line_for(bytes.as_slice(), wanted) {
+    match line_for(bytes.as_slice(), lister, wanted) {
         None => Ok(None),
         Some(at) => {
             let name = String::from_str(alloc, name)?;

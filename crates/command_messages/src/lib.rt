@@ -2,10 +2,11 @@
 //! on a play.
 //!
 //! [`tell_end`] comes after the work of a command. It is given how that ended, the last line on
-//! standard output, which [`LastLine`] kept, and files that it reads once more; it puts one message
-//! to a sink of its own. It writes no file, and its answer is nothing: so it can't change what the
-//! command did, and where a read or the put fails nothing comes of it. Where the files no longer
-//! are what the command read, the message tells what the line tells.
+//! standard output, which [`LastLine`] kept, and files that it reads once more: the program gives
+//! it those that `kept_files` kept, so that nothing is opened for a message. It puts one message to
+//! a sink of its own. It writes no file, and its answer is nothing: so it can't change what the
+//! command did, and where the put fails nothing comes of it. What isn't among the files is told
+//! without its line.
 //!
 //! Here stands what is found for a message: the token at a place, the unit that is refused there,
 //! the line that asks for a file. The sentences are those of `message_sentences`, types and

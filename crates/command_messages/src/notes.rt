@@ -11,7 +11,7 @@ use message_sentences::{put_note, same};
 use nss_include::{Unit, gather};
 use nss_lexer::Token;
 use nwq_outside::Files;
-use nwq_text::{put_count, put_text};
+use nwq_text::put_count;
 use nwq_value::{NoMemory, Role, Table, Text};
 use plan_text::read_plan;
 use state_format::read_parts;
@@ -132,12 +132,6 @@ fn put_random_note<F: Files>(
     )
 }
 
-fn escaped(alloc: Global, name: &str) -> Result<Vec<u8>, NoMemory> {
-    let mut text = Vec::new(alloc);
-    put_text(&mut text, name.as_bytes())?;
-    Ok(text)
-}
-
 /// How many random numbers a plan gives, unless it is none.
 fn given_by(alloc: Global, bytes: &[u8]) -> Option<usize> {
     match read_plan(alloc, bytes) {
@@ -228,14 +222,12 @@ fn put_plan_notes<F: Files>(
     ) else {
         return Ok(());
     };
-    let area_name = escaped(alloc, area)?;
-    let plan_name = escaped(alloc, plan)?;
     let area_input = Input {
-        name: area_name.as_slice(),
+        name: area.as_bytes(),
         bytes: area_bytes.as_slice(),
     };
     let plan_input = Input {
-        name: plan_name.as_slice(),
+        name: plan.as_bytes(),
         bytes: plan_bytes.as_slice(),
     };
     put_play_notes(alloc, out, plan_input, area_input)?;
@@ -257,10 +249,7 @@ fn put_rest_notes<F: Files>(
     }
     match held_by(alloc, state, files) {
         None | Some(0) => Ok(()),
-        Some(held) => {
-            let name = escaped(alloc, state)?;
-            put_used_up(alloc, out, name.as_slice(), STATE_USED_UP, held)
-        }
+        Some(held) => put_used_up(alloc, out, state.as_bytes(), STATE_USED_UP, held),
     }
 }
 
@@ -274,7 +263,7 @@ fn put_run_notes<F: Files>(
 ) -> Result<(), NoMemory>
     ensures same { F.contents files.new ≡ F.contents files.old }
 {
-    let mut name = escaped(alloc, script)?;
+    let mut name = Vec::from_slice(alloc, script.as_bytes())?;
     name.extend_from_slice(b".nss")?;
     put_random_note(alloc, out, inputs, name.as_slice(), files)
 }

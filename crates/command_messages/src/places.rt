@@ -14,7 +14,7 @@ use std::alloc::Global;
 /// How many tokens are named at most that could stand at a place.
 const MOST_NAMED: usize = 6;
 
-/// A place of a source text, whose name is escaped.
+/// A place of a source text.
 #[derive(Clone, Copy)]
 pub(crate) struct Spot<'a> {
     pub name: &'a [u8],
@@ -52,6 +52,8 @@ fn name_of(text: &[u8]) -> Option<&'static str> {
         Some("a name")
     } else if same(text, b"1") {
         Some("a number")
+    } else if same(text, b"1.0") {
+        Some("a number with a point")
     } else if same(text, b"\"\"") {
         Some("a string")
     } else {
@@ -102,7 +104,7 @@ fn put_token_sentence(out: &mut Vec<u8>, spot: Spot<'_>, token: Token<'_>) -> Re
     let after = token_from(spot.bytes, token.end);
     let sentence = sentence_of(spot.cause, Some(token), after);
     let piece = match after {
-        Some(name) if same(token.text, b".") => name.text,
+        Some(name) if same(token.text, b".") && same(spot.cause, b"unknown") => name.text,
         _ => token.text,
     };
     put_sentence(out, sentence, piece)

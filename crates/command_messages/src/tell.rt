@@ -3,33 +3,36 @@
 ghost use Rattle.std.specs.Prelude.{◌≡◌, ◌≤◌, length};
 ghost use Rattle.nwq_value.specs.Limits.{file_limit};
 
-use crate::asked::{Asking, include_of, line_of_file};
+use crate::asked::{Asking, Lister, include_of, line_of_file};
 use crate::inputs::{Inputs, inputs_of};
 use crate::notes::notes_on;
 use crate::places::{Spot, put_cause, token_at};
-use crate::units::{Ask, put_of_scripts, read_escaped, scripts_of, table_of};
+use crate::units::{Ask, name_in, put_of_scripts, read_named, scripts_of, table_of};
 use command_words::command_of;
 use command_work::Status;
+use message_lines::{LineFault, code_fault, list_fault, plan_fault, put_line_fault, table_fault};
 use message_sentences::{
     Told, kind_of, line_in, place_of_line, put_end, put_fault, put_flaw, put_head, put_kind,
-    put_memory, put_plain, put_sentence, put_usage, put_whole, put_words, same, told_by,
+    put_memory, put_name, put_no_text, put_sentence, put_usage, put_whole, put_words, same,
+    told_by,
 };
 use message_types::{given_at, put_parameters};
 use nss_lexer::TokenKind;
 use nwq_outside::{Files, Sink};
-use nwq_text::put_text;
 use nwq_value::{NoMemory, Table, Text};
 use real_files::Trouble;
 use std::alloc::Global;
 
 /// How the program ended: its number, the last line on standard output, the last name at which the
-/// system failed, and whether a play that came to its end left no random numbers.
+/// system failed, whether a play that came to its end left no random numbers, and the first word
+/// that is no text, where the words weren't taken for that.
 #[derive(Clone, Copy)]
 pub struct End<'a> {
     pub number: u8,
     pub line: &'a [u8],
     pub trouble: Option<&'a Trouble>,
     pub random_used_up: bool,
+    pub no_text: Option<&'a [u8]>,
 }
 
 /// The table of the header, where a cause is told by it.
@@ -144,52 +147,84 @@ fn put_place_message<F: Files>(
     alloc: Global,
     out: &mut Vec<u8>,
     inputs: Inputs<'_>,
-    name: &[u8],
+    name: &str,
     at: u32,
     cause: &[u8],
     files: &mut F,
 ) -> Result<(), NoMemory>
     ensures same { F.contents files.new ≡ F.contents files.old }
 {
-    match read_escaped(alloc, name, files)? {
+    match read_named(alloc, name, files) {
         Some(bytes) if at as usize <= bytes.len() => {
             let spot = Spot {
-                name,
+                name: name.as_bytes(),
                 bytes: bytes.as_slice(),
                 at,
                 cause,
             };
-            put_head(out, name, spot.bytes, at)?;
+            put_head(out, spot.name, spot.bytes, at)?;
             put_told(alloc, out, inputs, spot, files)?;
             put_end(out, cause, spot.bytes, at)
         }
         _ => {
-            put_plain(out, name)?;
+            put_name(out, name.as_bytes())?;
             put_words(out, ": error: the file is refused")?;
             put_kind(out, cause)
         }
     }
 }
 
-/// Whether a file that a command reads has this escaped name.
-fn is_named(file: Option<&str>, name: &[u8]) -> bool {
+/// Whether a file that a command reads has this name.
+fn is_named(file: Option<&str>, name: &str) -> bool {
     match file {
-        Some(file) => same(file.as_bytes(), name),
+        Some(file) => file == name,
         None => false,
     }
 }
 
-/// What a line of a file is that is no source text.
-fn line_sentence(inputs: Inputs<'_>, name: &[u8]) -> &'static str {
-    if name.ends_with(b".2da") {
-        "this line breaks the rules of 2DA files"
+/// What is wrong with a line of a file that is no source text.
+fn fault_of<'a>(
+    inputs: Inputs<'_>,
+    name: &str,
+    flaw: &[u8],
+    text: &'a [u8],
+    number: u64,
+) -> LineFault<'a> {
+    if same(kind_of(flaw), b"target") {
+        LineFault {
+            at: 0,
+            sentence: "this instruction leads to no beginning of one",
+            piece: b"",
+            earlier: None,
+        }
     } else if is_named(inputs.plan, name) {
-        "this is no line of a plan: one blank stands between fields, and none at the end"
+        plan_fault(text, number)
     } else if is_named(inputs.list, name) {
-        "this line names no table: a name in lower case, once, without `.2da`"
+        list_fault(text, number)
+    } else if inputs.list.is_some() && name.as_bytes().ends_with(b".2da") {
+        table_fault(text, number)
     } else {
-        "this is no instruction with its arguments, or it leads to no beginning of one"
+        code_fault(text, number)
     }
+}
+
+/// Appends the message on a line of a file that is no source text.
+fn put_line_message(
+    out: &mut Vec<u8>,
+    inputs: Inputs<'_>,
+    name: &str,
+    flaw: &[u8],
+    text: &[u8],
+    number: u64,
+) -> Result<(), NoMemory>
+    requires { length text.now ≤ file_limit }
+{
+    let fault = fault_of(inputs, name, flaw, text, number);
+    let place = place_of_line(text, number);
+    let at = place.saturating_add(fault.at).min(text.len());
+    put_head(out, name.as_bytes(), text, at as u32)?;
+    put_line_fault(out, fault)?;
+    put_end(out, kind_of(flaw), text, at as u32)
 }
 
 /// Appends the message on a file that is no source text.
@@ -197,21 +232,18 @@ fn put_flaw_message<F: Files>(
     alloc: Global,
     out: &mut Vec<u8>,
     inputs: Inputs<'_>,
-    name: &[u8],
+    name: &str,
     flaw: &[u8],
     files: &mut F,
 ) -> Result<(), NoMemory>
     ensures same { F.contents files.new ≡ F.contents files.old }
 {
     if let Some(number) = line_in(flaw)
-        && let Some(bytes) = read_escaped(alloc, name, files)?
+        && let Some(bytes) = read_named(alloc, name, files)
     {
-        let at = place_of_line(bytes.as_slice(), number) as u32;
-        put_head(out, name, bytes.as_slice(), at)?;
-        put_words(out, line_sentence(inputs, name))?;
-        return put_end(out, kind_of(flaw), bytes.as_slice(), at);
+        return put_line_message(out, inputs, name, flaw, bytes.as_slice(), number);
     }
-    put_plain(out, name)?;
+    put_name(out, name.as_bytes())?;
     put_words(out, ": error: ")?;
     put_flaw(out, flaw)?;
     put_kind(out, kind_of(flaw))
@@ -221,6 +253,7 @@ fn put_flaw_message<F: Files>(
 fn line_asking<F: Files>(
     alloc: Global,
     file: Option<&str>,
+    lister: Lister,
     wanted: &[u8],
     files: &mut F,
 ) -> Result<Option<Asking>, NoMemory>
@@ -228,7 +261,7 @@ fn line_asking<F: Files>(
 {
     match file {
         None => Ok(None),
-        Some(name) => line_of_file(alloc, name, wanted, files),
+        Some(name) => line_of_file(alloc, name, lister, wanted, files),
     }
 }
 
@@ -241,10 +274,10 @@ fn asking_for<F: Files>(
 ) -> Result<Option<Asking>, NoMemory>
     ensures same { F.contents files.new ≡ F.contents files.old }
 {
-    if let Some(asking) = line_asking(alloc, inputs.list, wanted, files)? {
+    if let Some(asking) = line_asking(alloc, inputs.list, Lister::Tables, wanted, files)? {
         return Ok(Some(asking));
     }
-    if let Some(asking) = line_asking(alloc, inputs.plan, wanted, files)? {
+    if let Some(asking) = line_asking(alloc, inputs.plan, Lister::Plan, wanted, files)? {
         return Ok(Some(asking));
     }
     let scripts = scripts_of(alloc, inputs, files)?;
@@ -279,43 +312,84 @@ fn put_missing<F: Files>(
     ensures same { F.contents files.new ≡ F.contents files.old }
 {
     match asking_for(alloc, inputs, name, files)? {
-        Some(asking) => put_asked(alloc, out, name, &asking),
+        Some(asking) => put_asked(out, name, &asking),
         None => put_whole(out, name, "there is no such file", "missing"),
     }
 }
 
-fn put_asked(
-    alloc: Global,
-    out: &mut Vec<u8>,
-    name: &[u8],
-    asking: &Asking,
-) -> Result<(), NoMemory> {
-    let mut asker = Vec::new(alloc);
-    put_text(&mut asker, asking.name.as_bytes())?;
-    put_head(out, asker.as_slice(), asking.bytes.as_slice(), asking.at)?;
+fn put_asked(out: &mut Vec<u8>, name: &[u8], asking: &Asking) -> Result<(), NoMemory> {
+    put_head(
+        out,
+        asking.name.as_bytes(),
+        asking.bytes.as_slice(),
+        asking.at,
+    )?;
     put_sentence(out, "there is no file `%`, which this line asks for", name)?;
     put_end(out, b"missing", asking.bytes.as_slice(), asking.at)
+}
+
+/// Appends the message on what a line of refusal tells of the file of this name.
+fn put_told_of<F: Files>(
+    alloc: Global,
+    out: &mut Vec<u8>,
+    inputs: Inputs<'_>,
+    told: Told<'_>,
+    name: &str,
+    files: &mut F,
+) -> Result<(), NoMemory>
+    ensures same { F.contents files.new ≡ F.contents files.old }
+{
+    match told {
+        Told::Nothing => Ok(()),
+        Told::Missing(_) => put_missing(alloc, out, inputs, name.as_bytes(), files),
+        Told::Long(_) => put_whole(
+            out,
+            name.as_bytes(),
+            "the file has more than 16,777,216 bytes",
+            "long",
+        ),
+        Told::Place { at, cause, .. } => {
+            put_place_message(alloc, out, inputs, name, at, cause, files)
+        }
+        Told::Flaw { flaw, .. } => put_flaw_message(alloc, out, inputs, name, flaw, files),
+    }
+}
+
+/// The escaped name of the file of which a line of refusal tells.
+fn name_told<'a>(told: Told<'a>) -> &'a [u8] {
+    match told {
+        Told::Nothing => b"",
+        Told::Missing(name) | Told::Long(name) => name,
+        Told::Place { name, .. } | Told::Flaw { name, .. } => name,
+    }
 }
 
 /// Appends the message on what a line of refusal tells.
 fn put_line_told<F: Files>(
     alloc: Global,
     out: &mut Vec<u8>,
-    inputs: Inputs<'_>,
+    words: &[String],
     status: Status,
     line: &[u8],
     files: &mut F,
 ) -> Result<(), NoMemory>
     ensures same { F.contents files.new ≡ F.contents files.old }
 {
-    match told_by(status, line) {
-        Told::Nothing => Ok(()),
-        Told::Missing(name) => put_missing(alloc, out, inputs, name, files),
-        Told::Long(name) => put_whole(out, name, "the file has more than 16,777,216 bytes", "long"),
-        Told::Place { name, at, cause } => {
-            put_place_message(alloc, out, inputs, name, at, cause, files)
-        }
-        Told::Flaw { name, flaw } => put_flaw_message(alloc, out, inputs, name, flaw, files),
+    let inputs = inputs_of(command_of(words));
+    let told = told_by(alloc, words, status, line)?;
+    let name = name_in(alloc, name_told(told))?;
+    put_told_of(alloc, out, inputs, told, name.as_str(), files)
+}
+
+/// Appends what is said after words that are no form of a command.
+fn put_words_message(
+    out: &mut Vec<u8>,
+    words: &[String],
+    no_text: Option<&[u8]>,
+) -> Result<(), NoMemory> {
+    match no_text {
+        Some(word) => put_no_text(out, word),
+        None => put_usage(out, words),
     }
 }
 
@@ -355,11 +429,10 @@ fn message<F: Files>(
     ensures same { F.contents files.new ≡ F.contents files.old }
 {
     let mut out = Vec::new(alloc);
-    let inputs = inputs_of(command_of(words));
     match status {
-        Status::Words => put_usage(&mut out, words)?,
+        Status::Words => put_words_message(&mut out, words, end.no_text)?,
         Status::Fault => put_fault(&mut out, end.trouble)?,
-        _ => put_line_told(alloc, &mut out, inputs, status, end.line, files)?,
+        _ => put_line_told(alloc, &mut out, words, status, end.line, files)?,
     }
     Ok(out)
 }
@@ -405,8 +478,9 @@ fn put_message<F: Files, E: Sink>(
 }
 
 /// Says why the program ended with its number, or what is to be noted where it did its work. `all`
-/// are its words, the first of which is its name, and the files are read once more. No file is
-/// written, and nothing that fails here has any effect but on what is said.
+/// are its words, the first of which is its name, and the files are those that the work read, as
+/// they were kept. No file is written, and nothing that fails here has any effect but on what is
+/// said.
 pub fn tell_end<F: Files, E: Sink>(
     alloc: Global,
     all: &[String],

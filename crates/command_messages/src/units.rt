@@ -1,13 +1,16 @@
-//! The files that a message reads once more: headers, plans, units of scripts. Nothing is written.
+//! The files that a message is made of, as they were kept: headers, plans, units of scripts.
+//! Nothing is written.
 
-ghost use Rattle.std.specs.Prelude.{◌≡◌, ◌≤◌, length, IfOk, IfSome};
+ghost use Rattle.std.specs.Prelude.{◌≡◌, ◌≤◌, length, IfSome};
 ghost use Rattle.nwq_value.specs.Limits.{file_limit, token_limit};
 
+use crate::asked::include_of;
 use crate::inputs::Inputs;
 use crate::places::{Spot, put_following};
 use engine_table::{built_in, read_header};
+use message_sentences::same;
 use message_tokens::syntax_fault;
-use message_types::{arity_named, put_arity, put_types};
+use message_types::{arity_named, is_refused_at, put_arity, put_types};
 use nss_include::{Unit, gather};
 use nss_lexer::Token;
 use nwq_outside::{Files, Read};
@@ -27,26 +30,11 @@ pub(crate) fn read_named<F: Files>(alloc: Global, name: &str, files: &mut F) -> 
     }
 }
 
-/// The name that an escaped text stands for.
-pub(crate) fn name_in(alloc: Global, escaped: &[u8]) -> Result<Option<String>, NoMemory> {
+/// The name that an escaped text stands for, or the text where it stands for none.
+pub(crate) fn name_in(alloc: Global, escaped: &[u8]) -> Result<String, NoMemory> {
     match read_text(alloc, escaped)? {
-        None => Ok(None),
-        Some(name) => Ok(Some(String::from_utf8_lossy(alloc, name.bytes())?)),
-    }
-}
-
-/// The content of an escaped name, if it can be read.
-pub(crate) fn read_escaped<F: Files>(
-    alloc: Global,
-    escaped: &[u8],
-    files: &mut F,
-) -> Result<Option<Items<u8>>, NoMemory>
-    ensures same { F.contents files.new ≡ F.contents files.old }
-    ensures size { IfOk result (λ read. IfSome read (λ bytes. length bytes ≤ file_limit)) }
-{
-    match name_in(alloc, escaped)? {
-        None => Ok(None),
-        Some(name) => Ok(read_named(alloc, name.as_str(), files)),
+        None => Ok(String::from_utf8_lossy(alloc, escaped)?),
+        Some(name) => Ok(String::from_utf8_lossy(alloc, name.bytes())?),
     }
 }
 
@@ -140,16 +128,24 @@ fn put_following_in(
     }
 }
 
-/// Appends how many arguments a function takes, where a unit or the header has it.
+/// Appends how many arguments a function takes, where the unit that is refused at the place, or the
+/// header, has it.
+#[tactic(auto, using(crate::proofs::UnitTokens::few_tokens))]
 fn put_arity_in(
     alloc: Global,
     out: &mut Vec<u8>,
     unit: &Unit,
     table: Option<&Table>,
+    spot: Spot<'_>,
     name: &[u8],
     given: u32,
 ) -> Result<bool, NoMemory> {
     let tokens = unit.tokens(alloc)?;
+    if let Some(header) = table
+        && !is_refused_at(alloc, tokens.as_slice(), spot.at, header)?
+    {
+        return Ok(false);
+    }
     match arity_named(table, tokens.as_slice(), name) {
         None => Ok(false),
         Some(arity) => {
@@ -197,7 +193,7 @@ fn put_answer(
 ) -> Result<bool, NoMemory> {
     match ask {
         Ask::Following => put_following_in(alloc, out, unit, spot),
-        Ask::Arity { name, given } => put_arity_in(alloc, out, unit, table, name, given),
+        Ask::Arity { name, given } => put_arity_in(alloc, out, unit, table, spot, name, given),
         Ask::Types => put_types_in(alloc, out, unit, table, spot),
     }
 }
@@ -224,7 +220,29 @@ fn put_of_script<F: Files>(
     }
 }
 
-/// Appends what the first of the scripts answers that does. Whether one did.
+/// Whether a file is that of a script, or of an include of it.
+fn has_file<F: Files>(
+    alloc: Global,
+    script: &Text,
+    name: &[u8],
+    files: &mut F,
+) -> Result<bool, NoMemory>
+    ensures same { F.contents files.new ≡ F.contents files.old }
+{
+    if is_source_of(name, script.bytes()) {
+        return Ok(true);
+    }
+    let asking = include_of(alloc, script, name, files)?;
+    Ok(asking.is_some())
+}
+
+/// Whether a file is that of a script.
+fn is_source_of(name: &[u8], script: &[u8]) -> bool {
+    name.len() > 4 && &name[..name.len() - 4] == script && same(&name[name.len() - 4..], b".nss")
+}
+
+/// Appends what the first of the scripts with the file of the place answers that does. Whether one
+/// did.
 pub(crate) fn put_of_scripts<F: Files>(
     alloc: Global,
     out: &mut Vec<u8>,
@@ -237,7 +255,9 @@ pub(crate) fn put_of_scripts<F: Files>(
     ensures same { F.contents files.new ≡ F.contents files.old }
 {
     for script in scripts {
-        if put_of_script(alloc, out, script, table, spot, ask, files)? {
+        if has_file(alloc, script, spot.name, files)?
+            && put_of_script(alloc, out, script, table, spot, ask, files)?
+        {
             return Ok(true);
         }
     }

@@ -18,7 +18,7 @@ use std::alloc::Global;
 /// How many lines of a plan are noted at most.
 const MOST_NOTES: u32 = 16;
 
-/// A file that a play has read, whose name is escaped.
+/// A file that a play has read.
 #[derive(Clone, Copy)]
 pub struct Input<'a> {
     pub name: &'a [u8],

@@ -2,9 +2,9 @@
 
 ghost use Rattle.std.specs.Prelude.{◌≡◌, ◌++◌, ◌≤◌, length, OnOk};
 ghost use Rattle.nwq_value.specs.Limits.{file_limit};
-ghost use Rattle.message_sentences.specs.Template.{filled, filled_byte};
+ghost use Rattle.message_sentences.specs.Template.{filled, filled_byte, ShowsName};
 
-use message_text::{column, put_place};
+use message_text::{column, is_readable, put_place};
 use nwq_text::{line_of, put_count, put_text};
 use nwq_value::NoMemory;
 
@@ -49,19 +49,36 @@ pub fn put_sentence(out: &mut Vec<u8>, sentence: &str, piece: &[u8]) -> Result<(
     put_filled(out, sentence.as_bytes(), piece)
 }
 
+/// Whether a name has no character that a terminal wouldn't show as it is.
+fn is_plain_name(name: &[u8]) -> bool {
+    is_readable(name) && name.iter().all(|b| *b >= 32 && *b != 127)
+}
+
+/// Appends the name of a file as an editor opens it: as it is, or else escaped.
+pub fn put_name(out: &mut Vec<u8>, name: &[u8]) -> Result<(), NoMemory>
+    ensures appends { OnOk result (ShowsName name.now out.old.items out.new.items) }
+{
+    if is_plain_name(name) {
+        put_plain(out, name)?;
+    } else {
+        put_text(out, name)?;
+    }
+    Ok(())
+}
+
 /// Appends the name of a file, and the line and column of a place of it.
 fn put_spot(out: &mut Vec<u8>, name: &[u8], bytes: &[u8], at: u32) -> Result<(), NoMemory>
     requires size { length bytes.now ≤ file_limit }
     requires place { at ≤ length bytes.now }
 {
-    put_plain(out, name)?;
+    put_name(out, name)?;
     put_words(out, ":")?;
     put_count(out, u64::from(line_of(bytes, at)))?;
     put_words(out, ":")?;
     put_count(out, column(bytes, at as usize))
 }
 
-/// Begins a message on a place of a file. The name is escaped already.
+/// Begins a message on a place of a file.
 pub fn put_head(out: &mut Vec<u8>, name: &[u8], bytes: &[u8], at: u32) -> Result<(), NoMemory>
     requires size { length bytes.now ≤ file_limit }
     requires place { at ≤ length bytes.now }
@@ -71,7 +88,7 @@ pub fn put_head(out: &mut Vec<u8>, name: &[u8], bytes: &[u8], at: u32) -> Result
 }
 
 /// Appends a note on a place of a file, up to the end of its line: a sentence with the escaped
-/// piece for each `%`. The name is escaped already.
+/// piece for each `%`.
 pub fn put_note_at(
     out: &mut Vec<u8>,
     name: &[u8],
@@ -90,14 +107,14 @@ pub fn put_note_at(
     put_place(out, bytes, at as usize)
 }
 
-/// Appends a note on a whole file. The name is escaped already.
+/// Appends a note on a whole file.
 pub fn put_note(
     out: &mut Vec<u8>,
     name: &[u8],
     sentence: &str,
     piece: &[u8],
 ) -> Result<(), NoMemory> {
-    put_plain(out, name)?;
+    put_name(out, name)?;
     put_words(out, ": note: ")?;
     put_sentence(out, sentence, piece)?;
     put_words(out, "\n")
@@ -118,14 +135,14 @@ pub fn put_end(out: &mut Vec<u8>, kind: &[u8], bytes: &[u8], at: u32) -> Result<
     put_place(out, bytes, at as usize)
 }
 
-/// Appends a message on a whole file. The name is escaped already.
+/// Appends a message on a whole file.
 pub fn put_whole(
     out: &mut Vec<u8>,
     name: &[u8],
     sentence: &str,
     kind: &str,
 ) -> Result<(), NoMemory> {
-    put_plain(out, name)?;
+    put_name(out, name)?;
     put_words(out, ": error: ")?;
     put_words(out, sentence)?;
     put_kind(out, kind.as_bytes())

@@ -9,7 +9,7 @@ struct Cause {
     sentence: &'static str,
 }
 
-const CAUSES: [Cause; 12] = [
+const CAUSES: [Cause; 11] = [
     Cause {
         word: b"tokens",
         sentence: "the script has more than 100,000 tokens with its includes, and `%` is past them",
@@ -25,7 +25,8 @@ const CAUSES: [Cause; 12] = [
     },
     Cause {
         word: b"notconst",
-        sentence: "`%` is no constant, and only a constant can stand here",
+        sentence: "`%` is no constant: here only one can stand, or in a global's value a call of \
+            the engine",
     },
     Cause {
         word: b"noreturn",
@@ -56,17 +57,13 @@ const CAUSES: [Cause; 12] = [
         word: b"many",
         sentence: "`%` is function number 65,536 of the header, one too many",
     },
-    Cause {
-        word: b"redeclared",
-        sentence: "`%` stands here a second time, or has other types than where it was declared",
-    },
 ];
 
 /// The sentence for a place where no token begins.
 pub fn bad_sentence(byte: Option<u8>) -> &'static str {
     match byte {
         None => "the file ends too early",
-        Some(b'"') => "this string isn't closed on its line",
+        Some(b'"') => "this string isn't closed on its line, or a `\\` in it begins no escape",
         Some(b'/') => "this comment isn't closed",
         Some(b'0'..=b'9') => "this number is greater than 4,294,967,295",
         Some(b'a'..=b'z' | b'A'..=b'Z' | b'_') => "this name has more than 255 letters",
@@ -91,8 +88,17 @@ fn is_name(token: Option<Token<'_>>) -> bool {
     }
 }
 
+fn is_float(token: Option<Token<'_>>) -> bool {
+    match token {
+        Some(token) => matches!(token.kind, TokenKind::Float),
+        None => false,
+    }
+}
+
 fn refused_type(token: Option<Token<'_>>) -> &'static str {
-    if is_name(token) {
+    if is_float(token) {
+        "`%` is of a type that is left out; times are whole milliseconds here: 2 seconds are 2000"
+    } else if is_name(token) {
         "`%` has a result or a parameter of a type that is left out, so no script can call it"
     } else {
         "`%` is of a type that is left out"
@@ -102,13 +108,23 @@ fn refused_type(token: Option<Token<'_>>) -> &'static str {
 /// An unknown name. A member's place is its point, and then the piece is the name behind it.
 fn unknown(token: Option<Token<'_>>, after: Option<Token<'_>>) -> &'static str {
     if is(token, b".") {
-        "the struct has no member `%`"
+        "there is no member `%`: the struct has none, or what stands before the point is no struct"
     } else if is(token, b"struct") {
         "no struct of this name is declared before"
     } else if is(after, b"(") {
         "`%` isn't declared here with a body, and the header has no such routine"
     } else {
         "`%` isn't declared here, and the header has no such constant"
+    }
+}
+
+fn redeclared(token: Option<Token<'_>>) -> &'static str {
+    if is(token, b"case") {
+        "the value of this `%` stands in an earlier one of its switch"
+    } else if is(token, b"default") {
+        "the switch has an earlier `%`"
+    } else {
+        "`%` stands here a second time, or has other types than where it was declared"
     }
 }
 
@@ -149,16 +165,31 @@ fn is_conditioned(token: Option<Token<'_>>) -> bool {
     words.iter().any(|word| is(token, word))
 }
 
-/// A mismatch at a word, with which a statement, a label or a parameter begins.
-fn word_mismatch(token: Option<Token<'_>>) -> &'static str {
-    if is(token, b"return") {
+/// A mismatch at a word, with which a statement, a label, a type or a parameter begins.
+fn word_mismatch(token: Option<Token<'_>>, after: Option<Token<'_>>) -> &'static str {
+    if is(token, b"return") && is(after, b";") {
+        "`%` gives no value, and the function has a result"
+    } else if is(token, b"return") {
         "`%` gives a value of another type than the function's"
     } else if is(token, b"case") {
         "the value of `%` is no int"
     } else if is_conditioned(token) {
         "the condition of `%` is no int"
-    } else {
+    } else if is(token, b"void") {
+        "no variable, parameter or member is of the type `%`"
+    } else if is(token, b"int") || is(token, b"string") {
         "the default has another type than its parameter, which begins with `%`"
+    } else {
+        "the default has another type than its parameter, or a constant is of the type `%`"
+    }
+}
+
+/// Arguments that are too few or too many, or a parameter, which begins with its type.
+fn arity(token: Option<Token<'_>>) -> &'static str {
+    if is_name(token) {
+        "`%` has too few or too many arguments"
+    } else {
+        "`%` begins a parameter without a default, behind one that has one"
     }
 }
 
@@ -172,7 +203,7 @@ fn mismatch(token: Option<Token<'_>>, after: Option<Token<'_>>) -> &'static str 
     } else if is_name(token) {
         name_mismatch(after)
     } else {
-        word_mismatch(token)
+        word_mismatch(token, after)
     }
 }
 
@@ -191,6 +222,8 @@ pub fn sentence_of(
         refused_type(token)
     } else if same(cause, b"unknown") {
         unknown(token, after)
+    } else if same(cause, b"redeclared") {
+        redeclared(token)
     } else if same(cause, b"outside") {
         outside(token)
     } else if same(cause, b"mismatch") {
@@ -198,7 +231,7 @@ pub fn sentence_of(
     } else if same(cause, b"notplace") {
         "`%` needs a variable, or a member of one, to be set"
     } else if same(cause, b"arity") {
-        "`%` has too few or too many arguments, or lacks a default behind one that has one"
+        arity(token)
     } else {
         "`%` can't stand here"
     }

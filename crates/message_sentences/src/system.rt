@@ -1,8 +1,7 @@
 //! Messages on what the system or memory refused.
 
-use crate::form::{put_kind, put_words};
+use crate::form::{put_kind, put_name, put_words};
 use nwq_outside::{Done, Sink};
-use nwq_text::put_text;
 use nwq_value::NoMemory;
 use real_files::Trouble;
 use std::io::ErrorKind;
@@ -32,7 +31,7 @@ fn error_text(kind: ErrorKind) -> &'static str {
 pub fn put_fault(out: &mut Vec<u8>, trouble: Option<&Trouble>) -> Result<(), NoMemory> {
     match trouble {
         Some(trouble) => {
-            put_text(out, trouble.name.as_bytes())?;
+            put_name(out, trouble.name.as_bytes())?;
             put_words(out, ": error: the file could not be read or written: ")?;
             put_words(out, error_text(trouble.kind))?;
         }

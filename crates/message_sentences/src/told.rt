@@ -3,7 +3,9 @@
 ghost use Rattle.std.specs.Prelude.{◌≡◌, bytes_eq};
 
 use command_work::Status;
-use nwq_text::{cut, read_number};
+use nwq_text::{cut, put_text, read_number};
+use nwq_value::NoMemory;
+use std::alloc::Global;
 
 /// What a line of refusal tells. Names are escaped as they stand there.
 #[derive(Clone, Copy)]
@@ -86,6 +88,47 @@ fn begins_flaw(text: &[u8]) -> bool {
     is_offset || same(word, b"target") || FLAWS.iter().any(|flaw| *flaw == word)
 }
 
+/// How long the name is with which a text begins, if it is this one and a flaw follows.
+fn length_named(alloc: Global, text: &[u8], name: &str) -> Result<usize, NoMemory> {
+    let mut escaped = Vec::new(alloc);
+    put_text(&mut escaped, name.as_bytes())?;
+    let len = escaped.len();
+    if text.len() > len
+        && &text[..len] == escaped.as_slice()
+        && text[len] == b' '
+        && begins_flaw(&text[len + 1..])
+    {
+        Ok(len)
+    } else {
+        Ok(0)
+    }
+}
+
+/// The length of the longest of these names with which a text begins, 0 if there is none.
+fn longest_named(alloc: Global, text: &[u8], names: &[String]) -> Result<usize, NoMemory> {
+    let mut longest = 0;
+    for name in names {
+        let len = length_named(alloc, text, name.as_str())?;
+        if len > longest {
+            longest = len;
+        }
+    }
+    Ok(longest)
+}
+
+/// What a line tells of a file that is no source text, whose name is one of the command's words, or
+/// else goes as far as the first word of a flaw.
+fn flaw_told<'a>(alloc: Global, text: &'a [u8], names: &[String]) -> Result<Told<'a>, NoMemory> {
+    let len = longest_named(alloc, text, names)?;
+    if len == 0 || len >= text.len() {
+        return Ok(flaw_in(text));
+    }
+    Ok(Told::Flaw {
+        name: &text[..len],
+        flaw: &text[len + 1..],
+    })
+}
+
 /// What a line tells of a file that is no source text: its name goes as far as the first word of a
 /// flaw.
 fn flaw_in(text: &[u8]) -> Told<'_> {
@@ -124,17 +167,22 @@ fn without_newline(line: &[u8]) -> &[u8] {
     }
 }
 
-/// What the last line tells where a command ended with this status.
-pub fn told_by(status: Status, line: &[u8]) -> Told<'_> {
+/// What the last line tells where a command with these words ended with this status.
+pub fn told_by<'a>(
+    alloc: Global,
+    words: &[String],
+    status: Status,
+    line: &'a [u8],
+) -> Result<Told<'a>, NoMemory> {
     let text = without_newline(line);
     match cut(text, b' ') {
-        None => Told::Nothing,
+        None => Ok(Told::Nothing),
         Some((_word, rest)) => match status {
-            Status::Missing => Told::Missing(rest),
-            Status::Long => Told::Long(rest),
-            Status::Script => place_in(rest).unwrap_or(Told::Nothing),
-            Status::Code | Status::Area => flaw_in(rest),
-            _ => Told::Nothing,
+            Status::Missing => Ok(Told::Missing(rest)),
+            Status::Long => Ok(Told::Long(rest)),
+            Status::Script => Ok(place_in(rest).unwrap_or(Told::Nothing)),
+            Status::Code | Status::Area => flaw_told(alloc, rest, words),
+            _ => Ok(Told::Nothing),
         },
     }
 }

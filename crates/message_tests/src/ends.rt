@@ -6,6 +6,7 @@ use nwq_value::NoMemory;
 use real_files::Trouble;
 use std::alloc::Global;
 use std::io::ErrorKind;
+use std::test::Fail;
 
 fn words_of(alloc: Global, words: &[&str]) -> Result<Vec<String>, NoMemory> {
     let mut all = Vec::new(alloc);
@@ -30,6 +31,7 @@ fn said(
         line: b"",
         trouble,
         random_used_up: false,
+        no_text: None,
     };
     tell_end(alloc, all.as_slice(), end, &mut files, &mut err);
     Ok(err)
@@ -73,54 +75,99 @@ fn fails_quietly(alloc: Global) -> Result<bool, NoMemory> {
         line: b"",
         trouble: None,
         random_used_up: false,
+        no_text: None,
     };
     tell_end(alloc, all.as_slice(), end, &mut files, &mut err);
     Ok(err.bytes().is_empty() && err.calls() == 1)
 }
 
+/// Words that ask for usage, or for the version.
+const ASKING: &[(&[&str], &str)] = &[
+    (&["nwq"], "nwq 1.1\nusage:\n  nwq run HEADER SCRIPT  ("),
+    (&["nwq", "help"], "nwq 1.1\nusage:\n"),
+    (&["nwq", "help", "play"], "nwq 1.1\nusage:\n"),
+    (&["nwq", "--help"], "nwq 1.1\nusage:\n"),
+    (&["nwq", "-h"], "nwq 1.1\nusage:\n"),
+    (&["nwq", "play", "--help"], "nwq 1.1\nusage:\n"),
+];
+
+/// Words that are no form of a command.
+const WRONG: &[(&[&str], &str)] = &[
+    (
+        &["nwq", "rnu"],
+        "nwq 1.1: error: `rnu` is no command [words]\nusage:\n",
+    ),
+    (
+        &["nwq", "run", "-", "P"],
+        "nwq 1.1: error: `P` is no name of a script",
+    ),
+    (
+        &["nwq", "tree"],
+        "nwq 1.1: error: `tree` takes FILE, and was given 0 words [words]\n",
+    ),
+    (
+        &["nwq", "tree", "-x"],
+        "nwq 1.1: error: `-x` begins with `-`",
+    ),
+    (
+        &["nwq", "resume", "a.nwq"],
+        "nwq 1.1: error: `resume` takes STATE TO [TABLES], and was given 1 word [words]\n",
+    ),
+    (
+        &["nwq", "save", "-", "a", "p", "0", "s"],
+        "nwq 1.1: error: `0` is no N: it is a number of 1 to 1,000,000, in digits [words]\n",
+    ),
+    (
+        &["nwq", "generate", "1000001"],
+        "nwq 1.1: error: `1000001` is no NUMBER: it is one of 0 to 1,000,000, in digits [words]\n",
+    ),
+    (
+        &["nwq", "--version", "2"],
+        "nwq 1.1: error: `--version` begins with `-`",
+    ),
+];
+
+fn all_begin(alloc: Global, rows: &[(&[&str], &str)]) -> bool {
+    rows.iter().all(|row| begins(alloc, row.0, 1, row.1))
+}
+
 #[test]
 fn usage(rt: HostRuntime) {
     let alloc = rt.alloc();
-    assert!(rt;
-        begins(
-            alloc,
-            &["nwq"],
-            1,
-            "nwq 1.1: error: no command is given [words]\nusage:\n  nwq run HEADER SCRIPT  ("
-        )
-    );
-    assert!(rt;
-        begins(
-            alloc,
-            &["nwq", "rnu"],
-            1,
-            "nwq 1.1: error: `rnu` is no command [words]\n"
-        )
-    );
-    assert!(rt;
-        begins(
-            alloc,
-            &["nwq", "run", "-", "P"],
-            1,
-            "nwq 1.1: error: `P` is no name of a script"
-        )
-    );
-    assert!(rt;
-        begins(
-            alloc,
-            &["nwq", "tree"],
-            1,
-            "nwq 1.1: error: `tree` takes FILE, and was given 0 words [words]\n"
-        )
-    );
-    assert!(rt;
-        begins(
-            alloc,
-            &["nwq", "tree", "-x"],
-            1,
-            "nwq 1.1: error: `-x` begins with `-`"
-        )
-    );
+    assert!(rt; all_begin(alloc, ASKING));
+    assert!(rt; all_begin(alloc, WRONG));
+}
+
+/// Whether the version alone is told.
+fn tells_version(alloc: Global) -> Result<bool, NoMemory> {
+    let err = said(alloc, &["nwq", "--version"], 1, None)?;
+    Ok(err.bytes() == b"nwq 1.1\n".as_slice())
+}
+
+/// Whether a word that is no text is told.
+fn tells_no_text(alloc: Global) -> Result<bool, NoMemory> {
+    let mut files = MemFiles::new(alloc);
+    let mut err = MemSink::new(alloc);
+    let end = End {
+        number: 1,
+        line: b"refused words\n",
+        trouble: None,
+        random_used_up: false,
+        no_text: Some(b"caf\xe9"),
+    };
+    tell_end(alloc, &[], end, &mut files, &mut err);
+    Ok(
+        err.bytes().starts_with(
+            b"nwq 1.1: error: `caf\\xe9` is no text: words are UTF-8 [words]\nusage:\n",
+        ),
+    )
+}
+
+#[test]
+fn words(rt: HostRuntime) -> Result<(), Fail> {
+    assert!(rt; tells_version(rt.alloc())?);
+    assert!(rt; tells_no_text(rt.alloc())?);
+    Ok(())
 }
 
 #[test]

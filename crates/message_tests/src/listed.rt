@@ -37,8 +37,16 @@ fn next_tokens(rt: HostRuntime) {
     assert!(rt;
         are_listed(
             alloc,
+            b"const int A =",
+            b"a 1 \"\" OBJECT_SELF OBJECT_INVALID - 1.0 "
+        )
+    );
+    assert!(rt;
+        are_listed(
+            alloc,
             b"void main(",
-            b") int string object void struct effect event float "
+            b") int string object void struct effect event float vector location talent \
+                itemproperty action "
         )
     );
 }

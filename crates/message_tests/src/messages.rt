@@ -1,6 +1,7 @@
 //! Whole messages, over files in memory and a sink that keeps them.
 
-use crate::rows::{Held, Row, are_said};
+use crate::rows::{Held, Refused, Row, are_said, first_untold};
+use std::test::Fail;
 
 const SOURCES: &[Row] = &[
     Row {
@@ -161,6 +162,99 @@ const TYPES: &[Row] = &[
     },
 ];
 
+/// Scripts of one line that are refused, each for another reason.
+const SCRIPTS: &[Refused] = &[
+    Refused {
+        bytes: b"int f() { return; } void main() {}",
+        line: b"refused p.nss 1 10 mismatch\n",
+        said: "p.nss:1:11: error: `return` gives no value, and the function has a result \
+            [mismatch]\nint f() { return; } void main() {}\n          ^\n",
+    },
+    Refused {
+        bytes: b"void main() { void v; }",
+        line: b"refused p.nss 1 14 mismatch\n",
+        said: "p.nss:1:15: error: no variable, parameter or member is of the type `void` \
+            [mismatch]\nvoid main() { void v; }\n              ^\n",
+    },
+    Refused {
+        bytes: b"const object O = OBJECT_SELF; void main() {}",
+        line: b"refused p.nss 1 6 mismatch\n",
+        said: "p.nss:1:7: error: the default has another type than its parameter, or a constant is \
+            of the type `object` [mismatch]\nconst object O = OBJECT_SELF; void main() {}\n      \
+            ^\n",
+    },
+    Refused {
+        bytes: b"void f(int a = 1, int b) {} void main() {}",
+        line: b"refused p.nss 1 18 arity\n",
+        said: "p.nss:1:19: error: `int` begins a parameter without a default, behind one that has \
+            one [arity]\nvoid f(int a = 1, int b) {} void main() {}\n                  ^\n",
+    },
+    Refused {
+        bytes: b"void main() { int n; n.x = 1; }",
+        line: b"refused p.nss 1 22 unknown\n",
+        said: "p.nss:1:23: error: there is no member `x`: the struct has none, or what stands \
+            before the point is no struct [unknown]\nvoid main() { int n; n.x = 1; \
+            }\n                      ^\n",
+    },
+    Refused {
+        bytes: b"void main() { a..b; }",
+        line: b"refused p.nss 1 16 syntax\n",
+        said: "p.nss:1:17: error: `.` can't stand here; here could stand a name [syntax]\nvoid \
+            main() { a..b; }\n                ^\n",
+    },
+    Refused {
+        bytes: b"void f(int n) {} void main() { f(1.5); }",
+        line: b"refused p.nss 1 33 refusedtype\n",
+        said: "p.nss:1:34: error: `1.5` is of a type that is left out; times are whole \
+            milliseconds here: 2 seconds are 2000 [refusedtype]\nvoid f(int n) {} void main() { \
+            f(1.5); }\n                                 ^\n",
+    },
+    Refused {
+        bytes: b"void main() { switch (1) { case 1: ; case 1: ; } }",
+        line: b"refused p.nss 1 37 redeclared\n",
+        said: "p.nss:1:38: error: the value of this `case` stands in an earlier one of its switch \
+            [redeclared]\nvoid main() { switch (1) { case 1: ; case 1: ; } \
+            }\n                                     ^\n",
+    },
+    Refused {
+        bytes: b"void main() { string s = \"\\x4g\"; }",
+        line: b"refused p.nss 1 25 bad\n",
+        said: "p.nss:1:26: error: this string isn't closed on its line, or a `\\` in it begins no \
+            escape [bad]\nvoid main() { string s = \"\\x4g\"; }\n                         ^\n",
+    },
+    Refused {
+        bytes: b"const int A = ;",
+        line: b"refused p.nss 1 14 syntax\n",
+        said: "p.nss:1:15: error: `;` can't stand here; here could stand a name, a number, a \
+            string, `OBJECT_SELF`, `OBJECT_INVALID`, `-` and more [syntax]\nconst int A = \
+            ;\n              ^\n",
+    },
+];
+
+/// A file whose name has blanks and letters outside ASCII, and a word that begins its flaw.
+const NAMED: &[Refused] = &[Refused {
+    bytes: b"",
+    line: b"refused pl\\xc3\\xa4n version 3.git version\n",
+    said: "pl\u{e4}n version 3.git: error: bytes 4 to 7 aren't `V3.2`: it is no GFF file of this \
+            version [version]\n",
+}];
+
+/// A name with a character that a terminal obeys.
+const HIDDEN: &[Refused] = &[Refused {
+    bytes: b"",
+    line: b"refused a\\xc2\\x9b.git short\n",
+    said: "a\\xc2\\x9b.git: error: the file has fewer than 56 bytes, so no header of a GFF file \
+            [short]\n",
+}];
+
+/// A line with a mark of direction is shown escaped.
+const MARKED: &[Refused] = &[Refused {
+    bytes: b"void main() { n; } // \xe2\x80\xae\xc3\xa4",
+    line: b"refused p.nss 1 14 unknown\n",
+    said: "p.nss:1:15: error: `n` isn't declared here, and the header has no such constant \
+            [unknown]\nvoid main() { n; } // \\xe2\\x80\\xae\\xc3\\xa4\n              ^\n",
+}];
+
 const OTHERS: &[Row] = &[
     Row {
         words: &["nwq", "tree", "my area.git"],
@@ -185,8 +279,8 @@ const OTHERS: &[Row] = &[
         }],
         number: 4,
         line: b"refused a.plan line 3\n",
-        said: "a.plan:3:1: error: this is no line of a plan: one blank stands between fields, and \
-            none at the end [line]\nlimit  4\n^\n",
+        said: "a.plan:3:7: error: two blanks stand here, and one parts fields \
+            [line]\nlimit  4\n      ^\n",
     },
     Row {
         words: &["nwq", "play", "-", "a.git", "a.plan", "b.git"],
@@ -198,6 +292,46 @@ const OTHERS: &[Row] = &[
         line: b"missing patrol.nss\n",
         said: "a.plan:2:1: error: there is no file `patrol.nss`, which this line asks for \
             [missing]\nscript patrol\n^\n",
+    },
+    // A table of the name is listed too, and asks for another file.
+    Row {
+        words: &["nwq", "play", "-", "a.git", "a.plan", "b.git", "t.txt"],
+        files: &[
+            Held {
+                name: "t.txt",
+                bytes: b"patrol\n",
+            },
+            Held {
+                name: "a.plan",
+                bytes: b"NWQ PLAN 1\nscript patrol\n",
+            },
+        ],
+        number: 6,
+        line: b"missing patrol.nss\n",
+        said: "a.plan:2:1: error: there is no file `patrol.nss`, which this line asks for \
+            [missing]\nscript patrol\n^\n",
+    },
+    // Two scripts have a function of one name, and the second is refused.
+    Row {
+        words: &["nwq", "play", "-", "a.git", "a.plan", "b.git"],
+        files: &[
+            Held {
+                name: "a.plan",
+                bytes: b"NWQ PLAN 1\nscript one\nscript two\n",
+            },
+            Held {
+                name: "one.nss",
+                bytes: b"void f(int n) {} void main() { f(1); }",
+            },
+            Held {
+                name: "two.nss",
+                bytes: b"void f(int n, int m) {} void main() { f(1); }",
+            },
+        ],
+        number: 2,
+        line: b"refused two.nss 1 38 arity\n",
+        said: "two.nss:1:39: error: `f` takes 2 arguments, and 1 is given [arity]\nvoid f(int n, \
+            int m) {} void main() { f(1); }\n                                      ^\n",
     },
     Row {
         words: &["nwq", "resume", "a.state", "b.git"],
@@ -250,4 +384,30 @@ fn types(rt: HostRuntime) {
 #[test]
 fn others(rt: HostRuntime) {
     assert!(rt; are_said(rt.alloc(), OTHERS));
+}
+
+#[test]
+fn scripts(rt: HostRuntime) -> Result<(), Fail> {
+    let words = ["nwq", "compile", "-", "p"];
+    assert_eq!(rt;
+        first_untold(rt.alloc(), &words, "p.nss", 2, SCRIPTS)?,
+        None
+    );
+    assert_eq!(rt; first_untold(rt.alloc(), &words, "p.nss", 2, MARKED)?, None);
+    Ok(())
+}
+
+#[test]
+fn names(rt: HostRuntime) -> Result<(), Fail> {
+    let words = ["nwq", "tree", "pl\u{e4}n version 3.git"];
+    assert_eq!(rt;
+        first_untold(rt.alloc(), &words, "pl\u{e4}n version 3.git", 4, NAMED)?,
+        None
+    );
+    let words = ["nwq", "tree", "a\u{9b}.git"];
+    assert_eq!(rt;
+        first_untold(rt.alloc(), &words, "a\u{9b}.git", 4, HIDDEN)?,
+        None
+    );
+    Ok(())
 }

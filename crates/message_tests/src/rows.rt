@@ -45,6 +45,7 @@ fn is_said(alloc: Global, row: &Row, random_used_up: bool) -> Result<bool, NoMem
         line: row.line,
         trouble: None,
         random_used_up,
+        no_text: None,
     };
     tell_end(alloc, words.as_slice(), end, &mut files, &mut err);
     Ok(err.bytes() == row.said.as_bytes())
@@ -60,4 +61,50 @@ pub(crate) fn are_said(alloc: Global, rows: &[Row]) -> bool {
 pub(crate) fn are_said_used_up(alloc: Global, rows: &[Row]) -> bool {
     rows.iter()
         .all(|row| matches!(is_said(alloc, row, true), Ok(true)))
+}
+
+/// A file with these bytes, the line of its refusal and what is said of it.
+pub(crate) struct Refused {
+    pub bytes: &'static [u8],
+    pub line: &'static [u8],
+    pub said: &'static str,
+}
+
+fn is_told(
+    alloc: Global,
+    words: &[&str],
+    name: &str,
+    number: u8,
+    row: &Refused,
+) -> Result<bool, NoMemory> {
+    let mut files = MemFiles::new(alloc);
+    files.add(name, row.bytes)?;
+    let all = words_of(alloc, words)?;
+    let mut err = MemSink::new(alloc);
+    let end = End {
+        number,
+        line: row.line,
+        trouble: None,
+        random_used_up: false,
+        no_text: None,
+    };
+    tell_end(alloc, all.as_slice(), end, &mut files, &mut err);
+    Ok(err.bytes() == row.said.as_bytes())
+}
+
+/// The place of the first row of which something else is said after these words and this status,
+/// where the file of this name has its bytes.
+pub(crate) fn first_untold(
+    alloc: Global,
+    words: &[&str],
+    name: &str,
+    number: u8,
+    rows: &[Refused],
+) -> Result<Option<usize>, NoMemory> {
+    for (place, row) in rows.iter().enumerate() {
+        if !is_told(alloc, words, name, number, row)? {
+            return Ok(Some(place));
+        }
+    }
+    Ok(None)
 }

@@ -1,13 +1,41 @@
 -- How a line and the place in it are shown.
-use Rattle.std.specs.Prelude.{◌≡◌, ◌≢◌, ℕ, Bool, true, ◌&&◌, not, ◌+◌, ◌-◌, ◌≤◌, ◌<◌, ◌↔◌, ◌==◌, IsTrue, nat_le, nat_lt}
-use Rattle.std.specs.Prelude.{List, [], ◌∷◌, ◌++◌, codes, slice_index, slice_range, if◌then◌else◌}
+use Rattle.std.specs.Prelude.{◌≡◌, ◌≢◌, ℕ, Bool, true, false, ◌&&◌, ◌||◌, not, ◌+◌, ◌-◌, ◌≤◌, ◌<◌, ◌↔◌, ◌==◌, IsTrue, nat_le, nat_lt}
+use Rattle.std.specs.Prelude.{List, [], ◌∷◌, ◌++◌, length, drop, codes, slice_index, slice_range, if◌then◌else◌}
 use Rattle.std.specs.List.{flat_map}
 use Rattle.std.specs.Str.{IsUtf8}
 use Rattle.nwq_text.specs.Escape.{escaped}
 use Rattle.message_text.specs.declared.window.Window.{Window}
 use Rattle.message_text.specs.Place.{is_inner, IsLineStart, IsLineEnd}
 
--- a byte that is shown as it is, in a line that is UTF-8 or isn't: a tab, printable ASCII, or a
+-- Here begins a character that a terminal doesn't show but obeys: one of the control characters
+-- from U+0080 on, or a mark of direction or of a new line or paragraph.
+abbrev pub is_latin_control : ℕ → ℕ → Bool
+is_latin_control a b = a == 194 && nat_le 128 b && nat_lt b 160
+
+abbrev pub is_arabic_mark : ℕ → ℕ → Bool
+is_arabic_mark a b = a == 216 && b == 156
+
+abbrev pub is_general_mark : ℕ → ℕ → ℕ → Bool
+is_general_mark a b c =
+    a == 226 && ((b == 128 && ((nat_le 142 c && nat_lt c 144) || (nat_le 168 c && nat_lt c 175))) || (b == 129 && nat_le 166 c && nat_lt c 170))
+
+-- so do these bytes
+abbrev pub begins_hidden : List ℕ → Bool
+begins_hidden [] = false
+begins_hidden (a ∷ []) = false
+begins_hidden (a ∷ b ∷ []) = is_latin_control a b || is_arabic_mark a b
+begins_hidden (a ∷ b ∷ c ∷ rest) = is_latin_control a b || is_arabic_mark a b || is_general_mark a b c
+
+-- no such character stands in the bytes
+abbrev pub HidesNone : List ℕ → Type 0
+HidesNone bytes = (k : ℕ) → k < length bytes → begins_hidden (drop k bytes) ≡ false
+
+-- the bytes are UTF-8, and no such character stands in them
+pub record IsReadable (bytes : List ℕ) : Type 0 where
+  pub utf8 : IsUtf8 bytes
+  pub shown : HidesNone bytes
+
+-- a byte that is shown as it is, in a line that is readable or isn't: a tab, printable ASCII, or a
 -- byte of another character
 abbrev pub is_shown_plain : Bool → ℕ → Bool
 is_shown_plain text b = if nat_lt b 128 then (if b == 9 then true else nat_le 32 b && nat_lt b 127) else text
@@ -78,7 +106,7 @@ pub record IsWindow (bytes : List ℕ) (at : ℕ) (w : Window) : Type 0 where
   pub behind : (IsTrue w.behind) ↔ (w.to < end)
 
 -- the part of a line that is shown, and the line under it with a caret under the place, for lines
--- that are UTF-8 or not
+-- that are readable or not
 abbrev pub line_text : Bool → List ℕ → Window → List ℕ
 line_text text bytes w =
     points w.before ++ flat_map (shown_byte text) (slice_range bytes w.from w.to) ++ points w.behind ++ codes "\n"
@@ -87,13 +115,13 @@ abbrev pub caret_text : Bool → List ℕ → ℕ → Window → List ℕ
 caret_text text bytes at w = points_blank w.before ++ flat_map (blank_byte text) (slice_range bytes w.from at) ++ codes "^\n"
 
 -- the text shows the place: in a window around it, whose bytes are shown as characters exactly
--- where they are UTF-8
+-- where they are readable
 pub record ShowsPlace (bytes : List ℕ) (at : ℕ) (text : List ℕ) : Type 0 where
   pub window : Window
   pub around : IsWindow bytes at window
-  pub utf8 : Bool
-  pub is_text : (IsTrue utf8) ↔ IsUtf8 (slice_range bytes window.from window.to)
-  pub shown : text ≡ line_text utf8 bytes window ++ caret_text utf8 bytes at window
+  pub readable : Bool
+  pub is_text : (IsTrue readable) ↔ IsReadable (slice_range bytes window.from window.to)
+  pub shown : text ≡ line_text readable bytes window ++ caret_text readable bytes at window
 
 -- a text of this kind was appended
 pub record Appends (P : List ℕ → Type 0) (before after : List ℕ) : Type 0 where

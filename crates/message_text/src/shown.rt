@@ -1,13 +1,13 @@
 //! A line of a text, with a caret under a place of it.
 
-ghost use Rattle.std.specs.Prelude.{◌≡◌, ◌++◌, ◌≤◌, length, OnOk, IsTrue, ◌↔◌};
+ghost use Rattle.std.specs.Prelude.{◌≡◌, ◌++◌, ◌≤◌, length, OnOk};
 ghost use Rattle.std.specs.List.{flat_map};
-ghost use Rattle.std.specs.Str.{IsUtf8};
 ghost use Rattle.message_text.specs.Shown as spec;
 ghost use Rattle.message_text.specs.Shown.{blank_byte, points, points_blank};
 ghost use Rattle.message_text.specs.Shown.{shown_byte, Appends, ShowsPlace};
 
 use crate::place::is_inner;
+use crate::readable::is_readable;
 use crate::window::{Window, window_of};
 use nwq_text::put_text;
 use nwq_value::NoMemory;
@@ -133,23 +133,13 @@ fn put_caret(
     put_bytes(out, b"^\n")
 }
 
-/// Whether these bytes are UTF-8.
-fn is_utf8(bytes: &[u8]) -> bool
-    ensures { (IsTrue result) ↔ IsUtf8 bytes.now }
-{
-    match str::from_utf8(bytes) {
-        Ok(_) => true,
-        Err(_) => false,
-    }
-}
-
 /// Appends the line of a place, and a line with a caret under the place.
 pub fn put_place(out: &mut Vec<u8>, bytes: &[u8], at: usize) -> Result<(), NoMemory>
     requires { at ≤ length bytes.now }
     ensures shows { OnOk result (Appends (ShowsPlace bytes.now at) out.old.items out.new.items) }
 {
     let window = window_of(bytes, at);
-    let text = is_utf8(&bytes[window.from..window.to]);
+    let text = is_readable(&bytes[window.from..window.to]);
     put_line(out, text, bytes, window)?;
     put_caret(out, text, bytes, at, window)
 }

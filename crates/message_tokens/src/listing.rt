@@ -14,8 +14,9 @@ use nss_parser::{ParseFault, parse};
 use nwq_value::NoMemory;
 use std::alloc::Global;
 
-/// What is tried at a place: each kind of token once, what is told first at the front.
-const TRIED: [&[u8]; 58] = [
+/// What is tried at a place: each kind of token of a unit once, what is told first at the front, and
+/// what the profile leaves out at the end.
+const TRIED: [&[u8]; 74] = [
     b";",
     b")",
     b"a",
@@ -27,6 +28,7 @@ const TRIED: [&[u8]; 58] = [
     b"}",
     b"=",
     b"OBJECT_SELF",
+    b"OBJECT_INVALID",
     b"int",
     b"string",
     b"object",
@@ -46,7 +48,6 @@ const TRIED: [&[u8]; 58] = [
     b"const",
     b"effect",
     b"event",
-    b"float",
     b":",
     b".",
     b"+",
@@ -68,12 +69,28 @@ const TRIED: [&[u8]; 58] = [
     b"--",
     b"+=",
     b"-=",
+    b"*=",
+    b"/=",
+    b"%=",
+    b"&=",
+    b"|=",
+    b"^=",
+    b"<<=",
+    b">>=",
+    b">>>=",
     b"&",
     b"|",
     b"^",
     b"<<",
     b">>",
     b">>>",
+    b"float",
+    b"1.0",
+    b"vector",
+    b"location",
+    b"talent",
+    b"itemproperty",
+    b"action",
 ];
 
 /// The one token of a short text.

@@ -12,4 +12,4 @@ mod takes;
 mod types;
 
 pub use takes::{arity_named, given_at, put_arity, put_parameters};
-pub use types::put_types;
+pub use types::{is_refused_at, put_types};

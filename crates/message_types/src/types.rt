@@ -104,6 +104,25 @@ fn put_at(alloc: Global, out: &mut Vec<u8>, unit: Refused<'_>) -> Result<bool, N
     }
 }
 
+/// Whether the rules of types refuse a unit at the token that begins at this place of its file.
+pub fn is_refused_at(
+    alloc: Global,
+    tokens: &[Token<'_>],
+    place: u32,
+    table: &Table,
+) -> Result<bool, NoMemory>
+    requires few { length tokens.now ≤ token_limit }
+    requires tokens { AllByRecursion IsToken tokens.now }
+{
+    let Some(at) = refused_at(alloc, tokens, table)? else {
+        return Ok(false);
+    };
+    match tokens.get(at) {
+        Some(token) => Ok(token.start == place),
+        None => Ok(false),
+    }
+}
+
 /// Appends which types stand at a place where a unit is refused for them, and which are wanted.
 /// Whether they are found.
 pub fn put_types(

@@ -3,18 +3,20 @@ ghost use Rattle.std.specs.Prelude.{◌≡◌, IsTrue};
 ghost use Rattle.std.specs.Process.{exit_status};
 ghost use Rattle.command_work.specs.Work.{IsCut, Does, ending};
 ghost use Rattle.command_work.specs.Counts.{Counted, Tallies, KeepsBut};
+ghost use Rattle.command_words.specs.Words.{form_of};
 ghost use Rattle.nwq_top.specs.Changes.{MayChange};
 ghost use Rattle.nwq_top.specs.Command.{whole_work, MayWrite};
 ghost use Rattle.nwq_top.specs.Cuts.{IsFrontOf};
 ghost use Rattle.nwq_top.specs.Endings.{ComesOf};
 ghost use Rattle.nwq_top.specs.Meaning.{MeansWhole};
-ghost use Rattle.nwq_top.specs.Program.{status_number, status_numbered};
+ghost use Rattle.nwq_top.specs.Program.{status_number, status_numbered, words_of};
 ghost use Rattle.telling_sink.specs.Told.{Told};
 ghost use Rattle.nwq.specs.Ending.{EndsWanting, form_in};
 
 use crate::whole::run_all;
 use command_messages::{End, LastLine, tell_end};
-use nwq_outside::{Files, Sink};
+use kept_files::{Again, KeptFiles};
+use nwq_outside::{Files, MemFiles, Sink};
 use nwq_top::Remarks;
 use nwq_top::laws::one_outcome;
 use real_files::{Disk, RealFiles, Trouble};
@@ -28,57 +30,156 @@ const WANT_OF_MEMORY: u8 = 8;
 #[derive(Drop)]
 pub(crate) enum Words {
     All(Vec<String>),
-    /// Some of them are no text.
-    NoText,
+    /// Some of them are no text: the first that isn't.
+    NoText(Vec<u8>),
     NoMemory,
 }
 
-/// Files that tell at which name the outside failed last.
-pub(crate) trait Troubled {
-    fn trouble(&self) -> Option<&Trouble>;
-}
+impl Words {
+    /// The words, of which there are none where some are no text, or where there was no memory.
+    fn as_slice(&self) -> &[String]
+        ensures form { form_of (words_of result.now) ≡ form_in self.now }
+    {
+        match self {
+            Words::All(all) => all.as_slice(),
+            Words::NoText(_) => &[],
+            Words::NoMemory => &[],
+        }
+    }
 
-impl<D: Disk> Troubled for RealFiles<D> {
-    fn trouble(&self) -> Option<&Trouble> {
-        RealFiles::trouble(self)
+    /// The first word that is no text, if there is one.
+    fn no_text(&self) -> Option<&[u8]> {
+        match self {
+            Words::NoText(word) => Some(word.as_slice()),
+            _ => None,
+        }
     }
 }
 
-/// Says why the program ends with its number, or what is to be noted of its work, and ends with the
-/// number whatever comes of that. The message writes no file.
-fn told<F: Troubled, S: Sink, A: Files, E: Sink>(
+/// Files that tell at which name the outside failed last, and what they kept for a message.
+pub(crate) trait Watched {
+    fn trouble(&self) -> Option<&Trouble>;
+
+    fn kept(&self) -> &MemFiles;
+}
+
+impl<D: Disk> Watched for KeptFiles<RealFiles<D>> {
+    fn trouble(&self) -> Option<&Trouble> {
+        self.inner.trouble()
+    }
+
+    fn kept(&self) -> &MemFiles {
+        &self.kept
+    }
+}
+
+/// Says why the program ends with its number, or what is to be noted of its work, by what its files
+/// kept, and ends with the number whatever comes of that. No file is opened for it.
+fn told<F: Watched, S: Sink, E: Sink>(
     alloc: Global,
-    all: &[String],
+    words: &Words,
     number: u8,
     remarks: Remarks,
     files: &F,
     out: &LastLine<S>,
-    again: &mut A,
     err: &mut E,
 ) -> ExitCode
     ensures number { exit_status result ≡ number }
-    ensures same { A.contents again.new ≡ A.contents again.old }
 {
     let end = End {
         number,
         line: out.line(),
         trouble: files.trouble(),
         random_used_up: remarks.random_used_up,
+        no_text: words.no_text(),
     };
-    tell_end(alloc, all, end, again, err);
+    let mut again = Again::of(files.kept());
+    tell_end(alloc, words.as_slice(), end, &mut again, err);
     ExitCode::from(number)
 }
 
-/// The whole program, given its words, the files, standard output, the files as its message reads
-/// them once more, and standard error: how it ends. Words that are no text are no form of a
-/// command.
+/// Does what the words say, given the files and standard output: the number with which the program
+/// ends.
+fn run_words<F: Files, S: Sink>(
+    alloc: Global,
+    words: &Words,
+    files: &mut F,
+    out: &mut S,
+    remarks: &mut Remarks,
+) -> u8
+    ensures number { status_number (status_numbered result) ≡ result }
+    ensures does { IsTrue F.tells → Told S.tells (S.taken out.old) (S.taken out.new) (λ t t'.
+        Does (whole_work (form_in words.now)) (F.contents files.old) t
+        (ending (status_numbered result)) (F.contents files.new) t') }
+    ensures means { IsTrue F.tells → (IsCut (ending (status_numbered result)) → ⊥) →
+        Told S.tells (S.taken out.old) (S.taken out.new) (λ t t'.
+        MeansWhole (form_in words.now) (F.contents files.old) t
+        (ending (status_numbered result)) (F.contents files.new) t') }
+    ensures cut { IsTrue F.tells → IsCut (ending (status_numbered result)) →
+        Told S.tells (S.taken out.old) (S.taken out.new) (λ t t'.
+        IsFrontOf (whole_work (form_in words.now))
+        (F.contents files.old) t (F.contents files.new) t') }
+    ensures counts { Tallies (ending (status_numbered result))
+        (Counted (F.counts files.old) (S.faults out.old))
+        (Counted (F.counts files.new) (S.faults out.new)) }
+    ensures names { KeepsBut (MayWrite (form_in words.now))
+        (F.contents files.old) (F.contents files.new) }
+    ensures changes { IsTrue F.tells →
+        KeepsBut (MayChange (form_in words.now) (F.contents files.old)
+        (ending (status_numbered result))) (F.contents files.old) (F.contents files.new) }
+    ensures only { ComesOf (form_in words.now) (status_numbered result) }
+{
+    run_all(alloc, words.as_slice(), files, out, remarks)
+}
+
+/// The same, and the number for want of memory where there was none for the words: then nothing is
+/// done.
 #[tactic(auto, using(crate::proofs::EndLemmas::whole_cut, telling_sink::specs::ToldLemmas::told_nothing))]
-pub(crate) fn end_of<F: Files + Troubled, S: Sink, A: Files, E: Sink>(
+fn number_of<F: Files, S: Sink>(
+    alloc: Global,
+    words: &Words,
+    files: &mut F,
+    out: &mut S,
+    remarks: &mut Remarks,
+) -> u8
+    ensures number { status_number (status_numbered result) ≡ result }
+    ensures does { IsTrue F.tells → Told S.tells (S.taken out.old) (S.taken out.new) (λ t t'.
+        Does (whole_work (form_in words.now)) (F.contents files.old) t
+        (ending (status_numbered result)) (F.contents files.new) t') }
+    ensures means { IsTrue F.tells → (IsCut (ending (status_numbered result)) → ⊥) →
+        Told S.tells (S.taken out.old) (S.taken out.new) (λ t t'.
+        MeansWhole (form_in words.now) (F.contents files.old) t
+        (ending (status_numbered result)) (F.contents files.new) t') }
+    ensures cut { IsTrue F.tells → IsCut (ending (status_numbered result)) →
+        Told S.tells (S.taken out.old) (S.taken out.new) (λ t t'.
+        IsFrontOf (whole_work (form_in words.now))
+        (F.contents files.old) t (F.contents files.new) t') }
+    ensures counts { Tallies (ending (status_numbered result))
+        (Counted (F.counts files.old) (S.faults out.old))
+        (Counted (F.counts files.new) (S.faults out.new)) }
+    ensures names { KeepsBut (MayWrite (form_in words.now))
+        (F.contents files.old) (F.contents files.new) }
+    ensures changes { IsTrue F.tells →
+        KeepsBut (MayChange (form_in words.now) (F.contents files.old)
+        (ending (status_numbered result))) (F.contents files.old) (F.contents files.new) }
+    ensures only { ComesOf (form_in words.now) (status_numbered result) }
+    ensures memory { EndsWanting words.now result }
+{
+    one_outcome();
+    match words {
+        Words::All(_) | Words::NoText(_) => run_words(alloc, words, files, out, remarks),
+        Words::NoMemory => WANT_OF_MEMORY,
+    }
+}
+
+/// The whole program, given its words, the files, standard output and standard error: how it ends.
+/// Words that are no text are no form of a command. The message comes last, and is made of what the
+/// files kept while they were read.
+pub(crate) fn end_of<F: Files + Watched, S: Sink, E: Sink>(
     alloc: Global,
     words: Words,
     files: &mut F,
     out: &mut LastLine<S>,
-    again: &mut A,
     err: &mut E,
 ) -> ExitCode
     // It ends with the number of a status, by which these say what it did.
@@ -108,39 +209,8 @@ pub(crate) fn end_of<F: Files + Troubled, S: Sink, A: Files, E: Sink>(
     ensures only { ComesOf (form_in words) (status_numbered (exit_status result)) }
     // Where there was no memory for the words, it ends as where a command wants it.
     ensures memory { EndsWanting words (exit_status result) }
-    // The message comes after all that, and writes no file.
-    ensures same { A.contents again.new ≡ A.contents again.old }
 {
-    one_outcome();
     let mut remarks = Remarks::none();
-    match words {
-        Words::All(all) => {
-            let number = run_all(alloc, all.as_slice(), files, out, &mut remarks);
-            told(
-                alloc,
-                all.as_slice(),
-                number,
-                remarks,
-                files,
-                out,
-                again,
-                err,
-            )
-        }
-        Words::NoText => {
-            let none = Vec::new(alloc);
-            let number = run_all(alloc, none.as_slice(), files, out, &mut remarks);
-            told(
-                alloc,
-                none.as_slice(),
-                number,
-                remarks,
-                files,
-                out,
-                again,
-                err,
-            )
-        }
-        Words::NoMemory => told(alloc, &[], WANT_OF_MEMORY, remarks, files, out, again, err),
-    }
+    let number = number_of(alloc, &words, files, out, &mut remarks);
+    told(alloc, &words, number, remarks, files, out, err)
 }

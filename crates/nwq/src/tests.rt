@@ -1,8 +1,9 @@
 //! The whole program over memory: its files, standard output and standard error are looked at once
 //! it has ended. No crate stands on it, so these tests stand here.
 
-use crate::end::{Troubled, Words, end_of};
+use crate::end::{Watched, Words, end_of};
 use command_messages::LastLine;
+use kept_files::KeptFiles;
 use nwq_outside::{MemFiles, MemSink};
 use nwq_value::NoMemory;
 use real_files::Trouble;
@@ -10,9 +11,13 @@ use std::alloc::Global;
 use std::process::ExitCode;
 use std::test::Fail;
 
-impl Troubled for MemFiles {
+impl Watched for KeptFiles<MemFiles> {
     fn trouble(&self) -> Option<&Trouble> {
         None
+    }
+
+    fn kept(&self) -> &MemFiles {
+        &self.kept
     }
 }
 
@@ -108,7 +113,7 @@ fn add_all(files: &mut MemFiles) -> Result<(), NoMemory> {
 #[derive(Drop)]
 struct Left {
     code: ExitCode,
-    files: MemFiles,
+    files: KeptFiles<MemFiles>,
     out: LastLine<MemSink>,
     err: MemSink,
 }
@@ -117,25 +122,16 @@ struct Left {
 fn begun(alloc: Global) -> Left {
     Left {
         code: ExitCode::SUCCESS,
-        files: MemFiles::new(alloc),
+        files: KeptFiles::new(alloc, MemFiles::new(alloc)),
         out: LastLine::new(alloc, MemSink::new(alloc)),
         err: MemSink::new(alloc),
     }
 }
 
-/// Runs the program over the files, which its message reads once more.
+/// Runs the program over the files.
 fn run(alloc: Global, words: Words, left: &mut Left) -> Result<(), NoMemory> {
-    let mut again = MemFiles::new(alloc);
-    add_all(&mut again)?;
-    add_all(&mut left.files)?;
-    left.code = end_of(
-        alloc,
-        words,
-        &mut left.files,
-        &mut left.out,
-        &mut again,
-        &mut left.err,
-    );
+    add_all(&mut left.files.inner)?;
+    left.code = end_of(alloc, words, &mut left.files, &mut left.out, &mut left.err);
     Ok(())
 }
 
@@ -153,7 +149,7 @@ fn is_as(left: &Left, row: &Row) -> bool {
     left.code == ExitCode::from(*code)
         && left.out.inner().bytes() == *text
         && is_told(left.err.bytes(), told)
-        && left.files.get(name) == *held
+        && left.files.inner.get(name) == *held
 }
 
 /// Whether the program comes to what a row says.
@@ -181,13 +177,20 @@ fn the_program_over_memory(rt: HostRuntime) -> Result<(), Fail> {
 }
 
 /// Where words are no text, and where there is no memory for them.
-const NO_TEXT: Row = ("", 1, b"refused words\n", b"nwq", ("p.ncs", None));
+const NO_TEXT: Row = (
+    "",
+    1,
+    b"refused words\n",
+    b"nwq 1.1: error: `caf\\xe9` is no text",
+    ("p.ncs", None),
+);
 
 const NO_MEMORY: Row = ("", 8, b"", b"nwq", ("p.ncs", None));
 
 #[test]
 fn words_that_are_not_read(rt: HostRuntime) -> Result<(), Fail> {
-    assert!(rt; comes(rt.alloc(), Words::NoText, &NO_TEXT)?);
+    let word = Vec::from_slice(rt.alloc(), b"caf\xe9")?;
+    assert!(rt; comes(rt.alloc(), Words::NoText(word), &NO_TEXT)?);
     assert!(rt; comes(rt.alloc(), Words::NoMemory, &NO_MEMORY)?);
     Ok(())
 }

@@ -104,7 +104,7 @@ pub const NOTED: &[Program] = &[
 fn is_told(number: u8, told: &[u8]) -> bool {
     match number {
         0 => told.is_empty(),
-        1 => told.starts_with(b"nwq 1.1: error: ") && told.ends_with(b"\n"),
+        1 => told.starts_with(b"nwq 1.1") && told.ends_with(b"\n"),
         _ => told.ends_with(b"]\n") || told.ends_with(b"^\n"),
     }
 }
@@ -140,6 +140,7 @@ fn end_of(
         line: out.line(),
         trouble: None,
         random_used_up: remarks.random_used_up,
+        no_text: None,
     };
     tell_end(alloc, all, end, files, err);
     number

@@ -5,6 +5,6 @@ pub returns : goal.returns
 returns c =
     record {
       shows =
-          both_shown c.put_caret.result c.args.bytes.now c.args.at c.window_of-window.result c.is_utf8-text.result c.args.out.now.items
-          c.put_line.new.out.items c.put_caret.new.out.items c.window_of-window.ensures.window c.is_utf8-text.ensures c.in_ok-put_line.ensures c.put_caret.ensures;
+          both_shown c.put_caret.result c.args.bytes.now c.args.at c.window_of-window.result c.is_readable-text.result c.args.out.now.items
+          c.put_line.new.out.items c.put_caret.new.out.items c.window_of-window.ensures.window c.is_readable-text.ensures.readable c.in_ok-put_line.ensures c.put_caret.ensures;
     }

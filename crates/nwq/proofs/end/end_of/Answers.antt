@@ -1,76 +1,70 @@
-use Rattle.std.proofs.Common.{◌≡◌, Err, IsTrue, refl, rules}
-use Rattle.std.specs.Process.{exit_status}
-use Rattle.command_work.specs.declared.status.Status.TheVariants.{Memory}
+use Rattle.std.proofs.Common.{◌≡◌, IsTrue, subst, sym}
+use Rattle.command_work.specs.Counts.{Counted, KeepsBut, Tallies}
 use Rattle.command_work.specs.Work.{Does, IsCut, ending}
-use Rattle.command_work.specs.KeepsLemmas.{keeps_all}
-use Rattle.command_words.specs.Words.{form_of}
-use Rattle.nwq_top.specs.Command.{MayWrite, whole_work}
+use Rattle.nwq_top.specs.Changes.{MayChange}
+use Rattle.nwq_top.specs.Command.{whole_work}
 use Rattle.nwq_top.specs.Cuts.{IsFrontOf}
+use Rattle.nwq_top.specs.Endings.{ComesOf}
 use Rattle.nwq_top.specs.Meaning.{MeansWhole}
-use Rattle.nwq_top.specs.Program.{status_numbered, words_of}
+use Rattle.nwq_top.specs.Program.{status_number, status_numbered}
 use Rattle.telling_sink.specs.Told.{Told}
-use Rattle.telling_sink.specs.ToldLemmas.{told_nothing}
-use Rattle.nwq.specs.Ending.{form_in}
-use Rattle.nwq.proofs.EndLemmas.{same_end, whole_cut}
+use Rattle.nwq.specs.Ending.{EndsWanting, form_in}
 use Rattle.nwq.proofs.end.end_of.Goals as goal
 
-pub returns-in-All-clause-does : goal.returns-in-All-clause-does
-returns-in-All-clause-does g c =
-    let before = g.F.Files.contents c.args.files.now in
-    let after = g.F.Files.contents c.run_all-number.new.files in
-    let same : form_of (words_of c.as_slice.result.now) ≡ form_in c.args.words = search rules in
-    same_end
-    (λ form number. IsTrue g.F.Files.tells → Told g.S.Sink.tells (g.S.Sink.taken c.args.out.now.inner) (g.S.Sink.taken c.run_all-number.new.out.inner)
-    (λ t t'. Does (whole_work form) before t (ending (status_numbered number)) after t'))
-    (form_of (words_of c.as_slice.result.now)) (form_in c.args.words) c.run_all-number.result (exit_status c.told.result) same c.told.ensures.number
-    c.run_all-number.ensures.does
+pub returns-clause-number : goal.returns-clause-number
+returns-clause-number g c =
+    subst (λ number. status_number (status_numbered number) ≡ number) (sym c.told.ensures.number) c.number_of-number.ensures.number
 
-pub returns-in-All-clause-means : goal.returns-in-All-clause-means
-returns-in-All-clause-means g c =
+pub returns-clause-does : goal.returns-clause-does
+returns-clause-does g c =
     let before = g.F.Files.contents c.args.files.now in
-    let after = g.F.Files.contents c.run_all-number.new.files in
-    let same : form_of (words_of c.as_slice.result.now) ≡ form_in c.args.words = search rules in
-    same_end
-    (λ form number. IsTrue g.F.Files.tells → (IsCut (ending (status_numbered number)) → ⊥) → Told g.S.Sink.tells (g.S.Sink.taken c.args.out.now.inner) (g.S.Sink.taken c.run_all-number.new.out.inner)
-    (λ t t'. MeansWhole form before t (ending (status_numbered number)) after t'))
-    (form_of (words_of c.as_slice.result.now)) (form_in c.args.words) c.run_all-number.result (exit_status c.told.result) same c.told.ensures.number
-    c.run_all-number.ensures.means
-
-pub returns-in-All-clause-cut : goal.returns-in-All-clause-cut
-returns-in-All-clause-cut g c =
-    let before = g.F.Files.contents c.args.files.now in
-    let after = g.F.Files.contents c.run_all-number.new.files in
-    let same : form_of (words_of c.as_slice.result.now) ≡ form_in c.args.words = search rules in
-    same_end
-    (λ form number. IsTrue g.F.Files.tells → IsCut (ending (status_numbered number)) → Told g.S.Sink.tells (g.S.Sink.taken c.args.out.now.inner) (g.S.Sink.taken c.run_all-number.new.out.inner)
-    (λ t t'. IsFrontOf (whole_work form) before t after t'))
-    (form_of (words_of c.as_slice.result.now)) (form_in c.args.words) c.run_all-number.result (exit_status c.told.result) same c.told.ensures.number
-    c.run_all-number.ensures.cut
-
-pub returns-in-NoText-clause-cut : goal.returns-in-NoText-clause-cut
-returns-in-NoText-clause-cut g c =
-    let before = g.F.Files.contents c.args.files.now in
-    let after = g.F.Files.contents c.run_all-number-in-NoText.new.files in
-    let same : form_of (words_of c.as_slice-in-NoText.result.now) ≡ form_in c.args.words = search rules in
-    same_end
-    (λ form number. IsTrue g.F.Files.tells → IsCut (ending (status_numbered number)) → Told g.S.Sink.tells (g.S.Sink.taken c.args.out.now.inner) (g.S.Sink.taken c.run_all-number-in-NoText.new.out.inner)
-    (λ t t'. IsFrontOf (whole_work form) before t after t'))
-    (form_of (words_of c.as_slice-in-NoText.result.now)) (form_in c.args.words) c.run_all-number-in-NoText.result (exit_status c.told-in-NoText.result) same c.told-in-NoText.ensures.number
-    c.run_all-number-in-NoText.ensures.cut
-
-pub returns-in-NoMemory-clause-cut : goal.returns-in-NoMemory-clause-cut
-returns-in-NoMemory-clause-cut g c = λ files_tell cut.
-    let contents = g.F.Files.contents c.args.files.now in
+    let after = g.F.Files.contents c.number_of-number.new.files in
     let form = form_in c.args.words in
-    told_nothing g.S.Sink.tells (g.S.Sink.taken c.args.out.now.inner) (λ t t'. IsFrontOf (whole_work form) contents t contents t')
-    (λ t. c.one_outcome.ensures.whole_fronts form (Err Memory) contents contents t t (whole_cut form Memory contents contents t t tt refl refl))
+    subst
+    (λ number. IsTrue g.F.Files.tells → Told g.S.Sink.tells (g.S.Sink.taken c.args.out.now.inner) (g.S.Sink.taken c.number_of-number.new.out.inner)
+    (λ t t'. Does (whole_work form) before t (ending (status_numbered number)) after t'))
+    (sym c.told.ensures.number) c.number_of-number.ensures.does
 
-pub returns-in-NoMemory-clause-names : goal.returns-in-NoMemory-clause-names
-returns-in-NoMemory-clause-names g c =
-    let contents = g.F.Files.contents c.args.files.now in
-    keeps_all (MayWrite (form_in c.args.words)) contents contents refl
+pub returns-clause-means : goal.returns-clause-means
+returns-clause-means g c =
+    let before = g.F.Files.contents c.args.files.now in
+    let after = g.F.Files.contents c.number_of-number.new.files in
+    let form = form_in c.args.words in
+    subst
+    (λ number. IsTrue g.F.Files.tells → (IsCut (ending (status_numbered number)) → ⊥) → Told g.S.Sink.tells (g.S.Sink.taken c.args.out.now.inner) (g.S.Sink.taken c.number_of-number.new.out.inner)
+    (λ t t'. MeansWhole form before t (ending (status_numbered number)) after t'))
+    (sym c.told.ensures.number) c.number_of-number.ensures.means
 
-pub returns-in-NoMemory-clause-changes : goal.returns-in-NoMemory-clause-changes
-returns-in-NoMemory-clause-changes g c = λ files_tell.
-    let contents = g.F.Files.contents c.args.files.now in
-    keeps_all _ contents contents refl
+pub returns-clause-cut : goal.returns-clause-cut
+returns-clause-cut g c =
+    let before = g.F.Files.contents c.args.files.now in
+    let after = g.F.Files.contents c.number_of-number.new.files in
+    let form = form_in c.args.words in
+    subst
+    (λ number. IsTrue g.F.Files.tells → IsCut (ending (status_numbered number)) → Told g.S.Sink.tells (g.S.Sink.taken c.args.out.now.inner) (g.S.Sink.taken c.number_of-number.new.out.inner)
+    (λ t t'. IsFrontOf (whole_work form) before t after t'))
+    (sym c.told.ensures.number) c.number_of-number.ensures.cut
+
+pub returns-clause-counts : goal.returns-clause-counts
+returns-clause-counts g c =
+    subst
+    (λ number. Tallies (ending (status_numbered number)) (Counted (g.F.Files.counts c.args.files.now) (g.S.Sink.faults c.args.out.now.inner))
+    (Counted (g.F.Files.counts c.number_of-number.new.files) (g.S.Sink.faults c.number_of-number.new.out.inner)))
+    (sym c.told.ensures.number) c.number_of-number.ensures.counts
+
+pub returns-clause-changes : goal.returns-clause-changes
+returns-clause-changes g c =
+    let before = g.F.Files.contents c.args.files.now in
+    let after = g.F.Files.contents c.number_of-number.new.files in
+    let form = form_in c.args.words in
+    subst
+    (λ number. IsTrue g.F.Files.tells → KeepsBut (MayChange form before (ending (status_numbered number))) before after)
+    (sym c.told.ensures.number) c.number_of-number.ensures.changes
+
+pub returns-clause-only : goal.returns-clause-only
+returns-clause-only g c =
+    subst (λ number. ComesOf (form_in c.args.words) (status_numbered number)) (sym c.told.ensures.number) c.number_of-number.ensures.only
+
+pub returns-clause-memory : goal.returns-clause-memory
+returns-clause-memory g c =
+    subst (λ number. EndsWanting c.args.words number) (sym c.told.ensures.number) c.number_of-number.ensures.memory

@@ -1,0 +1,2 @@
+const int COINS = ;
+void main() {}

@@ -1,0 +1,2 @@
+int Sum(int n) { return n; }
+void main() { PrintInteger(Sum(1)); }
