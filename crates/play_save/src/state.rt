@@ -1,7 +1,6 @@
 //! The state of a play.
 ghost use Rattle.std.specs.Prelude.{◌≡◌, ◌≤◌, ◌<◌, ◌^◌, length, IfOk, IfErr, MatchResult};
 ghost use Rattle.std.specs.List.{AllByRecursion};
-ghost use Rattle.std.specs.Option.{option_map};
 ghost use Rattle.nwq_value.specs.Limits.{file_limit};
 ghost use Rattle.ncs_code.specs.File.{IsCode};
 ghost use Rattle.stack_rules.specs.Laws.{AllMeet};
@@ -13,24 +12,18 @@ ghost use Rattle.state_format.specs.Parts.{HasForm};
 ghost use Rattle.state_format.specs.Place.{StateOf, IsTooLarge};
 ghost use Rattle.state_format.specs.declared.parts.Parts.{Parts as PlainParts};
 ghost use Rattle.state_parts.specs.World.{world_of};
-ghost use Rattle.state_parts.specs.Scripts.{script_parts};
+ghost use Rattle.play_save.specs.Scripts.{script_parts};
 ghost use Rattle.play_save.specs.Rules.{IsHeaderOf, IsAccepted};
-ghost use Rattle.play_save.specs.States.{HasCome, IsPlayOf, IsWorldOf, MayCount, MayLimit, MayList};
-ghost use Rattle.play_save.specs.States.{MayRest, Refuses, resting};
+ghost use Rattle.play_save.specs.States.{HasCome, IsPlayOf, IsWorldOf, Refuses};
 ghost use Rattle.play_save.specs.declared.fault.StateFault.TheVariants.{NoMemory as NoRoom};
 
 use crate::fault::StateFault;
-use crate::keep::{PlayCounts, keep};
 use crate::prepare::{Prepared, prepare};
 use crate::rules::test_parts;
 use crate::world::world;
-use engine_table::laws::one_header;
-use ncs_code::spelling_laws;
 use ncs_machine::Scripts;
 use nwq_value::{NoMemory, Table};
 use saved_state::Saved;
-use stack_check::fits_too;
-use stack_rules::states_hold_values;
 use state_format::{Parts, ReadFault, SaveFault, one_state, put_parts, read_parts};
 use std::alloc::Global;
 use std::marker::Model;
@@ -74,52 +67,6 @@ pub struct Opened {
 }
 
 impl State {
-    /// The state of a play that isn't inside an entry. `header` is nothing for the built-in one,
-    /// and `area` the bytes of the area's file as they were first read. What was handed over is
-    /// dropped where memory runs out. So it is answered too where a list has more than
-    /// 4,294,967,295 members, which no field counts.
-    pub fn of(
-        alloc: Global,
-        header: Option<Vec<u8>>,
-        scripts: &Scripts,
-        area: Vec<u8>,
-        world: World<Saved>,
-        limits: (u64, u64, u64),
-        taken: u64,
-        done: u64,
-    ) -> Result<State, NoMemory>
-        requires limits { MayLimit limits }
-        requires listed { MayList (option_map (λ text. text.items) header) scripts.now }
-        requires rests { MayRest scripts.now area.items world.world }
-        requires come { MayCount limits world.world taken done }
-        // What the play is of, and how far it has come.
-        ensures play { IfOk result (λ s. IsPlayOf s (option_map (λ text. text.items) header)
-            (script_parts scripts.now) area.items limits) }
-        ensures come { IfOk result (λ s. HasCome s taken done) }
-        // The state tells the very world, without the lines that it keeps.
-        ensures world { IfOk result (λ s. IsWorldOf s (resting world.world)) }
-        // The scripts' files, which it has, are those of their instructions.
-        ensures code { IfOk result (λ s. AllByRecursion (λ l. IsCode l.code.code) scripts.now) }
-    {
-        spelling_laws();
-        fits_too();
-        one_header();
-        states_hold_values::<()>();
-        world.keeps();
-        match world.into_parts() {
-            Err(NoMemory) => Err(NoMemory),
-            Ok((objects, saved)) => {
-                objects.keeps();
-                let file = area.as_slice();
-                let counts = PlayCounts { taken, done };
-                let parts = keep(
-                    alloc, &header, scripts, file, &objects, saved, limits, counts,
-                )?;
-                Ok(State { parts })
-            }
-        }
-    }
-
     /// What the play goes on from. The state is dropped where memory runs out.
     pub fn restore(self, alloc: Global) -> Result<Opened, NoMemory>
         // What the play is of, and how far it has come.

@@ -1,6 +1,6 @@
 use Rattle.std.proofs.Common.{subst}
 use Rattle.state_format.specs.declared.parts.Parts.{Parts}
-use Rattle.state_parts.specs.Scripts.{script_parts}
+use Rattle.play_save.specs.Scripts.{script_parts}
 use Rattle.play_save.specs.Rules.{IsHeaderOf}
 use Rattle.play_save.specs.States.{IsPlayOf, HasCome, IsWorldOf}
 use Rattle.play_save.proofs.state.State.restore.Goals as goal
