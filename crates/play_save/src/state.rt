@@ -14,11 +14,12 @@ ghost use Rattle.state_format.specs.declared.parts.Parts.{Parts as PlainParts};
 ghost use Rattle.state_parts.specs.World.{world_of};
 ghost use Rattle.play_save.specs.Scripts.{script_parts};
 ghost use Rattle.play_save.specs.Rules.{IsHeaderOf, IsAccepted};
+ghost use Rattle.play_save.specs.Breaking.{IsPreparedFor};
 ghost use Rattle.play_save.specs.States.{HasCome, IsPlayOf, IsWorldOf, Refuses};
 ghost use Rattle.play_save.specs.declared.fault.StateFault.TheVariants.{NoMemory as NoRoom};
 
 use crate::fault::StateFault;
-use crate::prepare::{Prepared, prepare};
+use crate::prepare::Prepared;
 use crate::rules::test_parts;
 use crate::world::world;
 use ncs_machine::Scripts;
@@ -29,27 +30,32 @@ use std::alloc::Global;
 use std::marker::Model;
 use world_core::World;
 
-/// The state of a play between two of its entries. Contracts see its parts.
+/// The state of a play between two of its entries. Contracts see its parts. What they are of is kept
+/// as it was read, so that each script is prepared once.
 pub struct State {
     parts: Parts,
+    prepared: Prepared,
 }
 
 impl Model for State {
     ghost use Rattle.state_format.specs.declared.parts.Parts.{Parts};
     ghost use Rattle.state_format.specs.Parts.{HasForm};
     ghost use Rattle.play_save.specs.Rules.{IsAccepted};
+    ghost use Rattle.play_save.specs.Breaking.{IsPreparedFor};
 
     ghost Value = { Parts };
 
     ghost view = { λ s. s.parts };
 
-    ghost invariant = { λ s. HasForm s.parts × IsAccepted s.parts };
+    ghost invariant = { λ s. HasForm s.parts
+        × (IsAccepted s.parts × IsPreparedFor s.parts s.prepared) };
 }
 
 impl Drop for State {
     fn drop(self) {
-        let State { parts } = self;
+        let State { parts, prepared } = self;
         drop(parts);
+        drop(prepared);
     }
 }
 
@@ -87,8 +93,8 @@ impl State {
         ensures fit { IfOk result (λ o.
             StatesFit (scripts_of o.scripts) (tables_of o.scripts) o.world.world) }
     {
-        let State { parts } = self;
-        match open(alloc, &parts) {
+        let State { parts, prepared } = self;
+        match open(alloc, &parts, prepared) {
             Err(NoMemory) => {
                 drop(parts);
                 Err(NoMemory)
@@ -109,19 +115,10 @@ impl State {
     }
 }
 
-/// The one fault that is left where a state keeps all rules.
-fn want_of_memory(fault: StateFault) -> NoMemory
-    requires { fault ≡ NoRoom }
-{
-    match fault {
-        StateFault::NoMemory => NoMemory,
-        _ => unreachable!(),
-    }
-}
-
 /// What the play of a state goes on from.
-pub(crate) fn open(alloc: Global, parts: &Parts) -> Result<Opened, NoMemory>
+pub(crate) fn open(alloc: Global, parts: &Parts, prepared: Prepared) -> Result<Opened, NoMemory>
     requires accepted { IsAccepted parts.now }
+    requires prepared { IsPreparedFor parts.now prepared }
     ensures header { IfOk result (λ o. IsHeaderOf parts.now.header o.table) }
     ensures play { IfOk result (λ o. IsPlayOf parts.now parts.now.header
         (script_parts o.scripts) parts.now.area o.limits) }
@@ -136,30 +133,25 @@ pub(crate) fn open(alloc: Global, parts: &Parts) -> Result<Opened, NoMemory>
     ensures fit { IfOk result (λ o.
         StatesFit (scripts_of o.scripts) (tables_of o.scripts) o.world.world) }
 {
-    match prepare(alloc, parts) {
-        Err(fault) => Err(want_of_memory(fault)),
-        Ok(prepared) => {
-            let Prepared {
-                table,
-                scripts,
-                area,
-            } = prepared;
-            match world(alloc, area, parts) {
-                Err(NoMemory) => {
-                    drop(table);
-                    drop(scripts);
-                    Err(NoMemory)
-                }
-                Ok(world) => Ok(Opened {
-                    table,
-                    scripts,
-                    world,
-                    limits: (parts.limit, parts.entries, parts.until),
-                    taken: parts.taken,
-                    done: parts.done,
-                }),
-            }
+    let Prepared {
+        table,
+        scripts,
+        area,
+    } = prepared;
+    match world(alloc, area, parts) {
+        Err(NoMemory) => {
+            drop(table);
+            drop(scripts);
+            Err(NoMemory)
         }
+        Ok(world) => Ok(Opened {
+            table,
+            scripts,
+            world,
+            limits: (parts.limit, parts.entries, parts.until),
+            taken: parts.taken,
+            done: parts.done,
+        }),
     }
 }
 
@@ -192,7 +184,7 @@ pub fn read_state(alloc: Global, bytes: &[u8]) -> Result<State, StateFault>
                 drop(parts);
                 Err(fault)
             }
-            Ok(()) => Ok(State { parts }),
+            Ok(prepared) => Ok(State { parts, prepared }),
         },
     }
 }

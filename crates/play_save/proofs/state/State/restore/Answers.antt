@@ -6,7 +6,7 @@ use Rattle.play_save.specs.States.{IsPlayOf, HasCome, IsWorldOf}
 use Rattle.play_save.proofs.state.State.restore.Goals as goal
 
 pub open-requires : goal.open-requires
-open-requires c = record { accepted = c.self.invariant.1 }
+open-requires c = record { accepted = c.self.invariant.1.0; prepared = c.self.invariant.1.1 }
 
 pub returns-in-Ok : goal.returns-in-Ok
 returns-in-Ok c =
