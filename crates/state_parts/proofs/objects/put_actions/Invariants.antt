@@ -7,4 +7,4 @@ use Rattle.state_parts.specs.PuttingLemmas.{ArePut}
 use Rattle.state_parts.proofs.objects.put_actions.Given as goal
 
 abbrev pub invariant-loop-i : goal.invariant-loop-i
-invariant-loop-i g l = ArePut item_of IsItem is_short_item item_fields item_part l.queue.now.actions (g.W.Writer.taken l.fn.out) l.i (g.W.Writer.taken l.out)
+invariant-loop-i g l = ArePut item_of IsItem is_short_item item_fields item_part l.queue.actions (g.W.Writer.taken l.fn.out) l.i (g.W.Writer.taken l.out)

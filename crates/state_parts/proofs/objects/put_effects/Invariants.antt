@@ -7,4 +7,4 @@ use Rattle.state_parts.specs.PuttingLemmas.{ArePut}
 use Rattle.state_parts.proofs.objects.put_effects.Given as goal
 
 abbrev pub invariant-loop-i : goal.invariant-loop-i
-invariant-loop-i g l = ArePut stood_of IsStanding any_text standing_fields stood_part l.effects.now (g.W.Writer.taken l.fn.out) l.i (g.W.Writer.taken l.out)
+invariant-loop-i g l = ArePut stood_of IsStanding any_text standing_fields stood_part l.effects (g.W.Writer.taken l.fn.out) l.i (g.W.Writer.taken l.out)

@@ -7,4 +7,4 @@ use Rattle.state_parts.specs.PuttingLemmas.{ArePut}
 use Rattle.state_parts.proofs.values.put_row.Given as goal
 
 abbrev pub invariant-loop-i : goal.invariant-loop-i
-invariant-loop-i g l = ArePut cell_of IsCell is_short_cell cell_fields cell_part l.cells.now (g.W.Writer.taken l.fn.out) l.i (g.W.Writer.taken l.out)
+invariant-loop-i g l = ArePut cell_of IsCell is_short_cell cell_fields cell_part l.cells (g.W.Writer.taken l.fn.out) l.i (g.W.Writer.taken l.out)
