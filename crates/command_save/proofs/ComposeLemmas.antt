@@ -113,8 +113,8 @@ saves_compose laws cell header file plan scripts n m w headed quiet inside s is 
     let p = (played_first cell header.table plan scripts n w).last in
     let same = stands_on cell header.table plan scripts n m w quiet inside in
     let further = further_is laws cell header file plan scripts p s headed is (n + m) g goes in
-    let as : StandsAs (played_first cell header.table plan scripts (n + m) w).last (played_further cell s g (n + m)).last =
+    let alike : StandsAs (played_first cell header.table plan scripts (n + m) w).last (played_further cell s g (n + m)).last =
     subst (λ (q : Played Saved). StandsAs (played_first cell header.table plan scripts (n + m) w).last q.last) (sym further) same in (
-      state_too header file plan scripts (played_first cell header.table plan scripts (n + m) w).last (played_further cell s g (n + m)).last t as,
-      state_too header file plan scripts (played_further cell s g (n + m)).last (played_first cell header.table plan scripts (n + m) w).last t (stands_back _ _ as),
+      state_too header file plan scripts (played_first cell header.table plan scripts (n + m) w).last (played_further cell s g (n + m)).last t alike,
+      state_too header file plan scripts (played_further cell s g (n + m)).last (played_first cell header.table plan scripts (n + m) w).last t (stands_back _ _ alike),
     )
