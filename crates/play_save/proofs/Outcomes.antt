@@ -93,13 +93,13 @@ pub resting_kept : (p : Resting) (header : Option (List ℕ)) (scripts : List Lo
     → option_map (λ text. text.items) p.header.now ≡ header → p.scripts.now ≡ scripts → p.file.now ≡ file → p.numbers.limit ≡ limits.0 → p.numbers.entries ≡ limits.1
     → p.numbers.until ≡ limits.2 → p.numbers.taken ≡ taken → p.numbers.done ≡ done → (IsTold p → Tells (resting_parts p) w)
     → (s : Parts) → IsToldAs p s → IsKept header scripts file limits taken done w s
-resting_kept p header scripts file limits taken done w headed lent filed limit entries until took did tells s as =
-    subst (IsKept header scripts file limits taken done w) (sym as.is) (record {
-      form = told_form p as.told;
+resting_kept p header scripts file limits taken done w headed lent filed limit entries until took did tells s alike =
+    subst (IsKept header scripts file limits taken done w) (sym alike.is) (record {
+      form = told_form p alike.told;
       play = record { header = headed; scripts = ap script_parts lent; area = filed; limit = limit; entries = entries; until = until };
       come = record { taken = took; done = did };
-      tells = tells as.told;
-      code = subst (AllByRecursion (λ (l : Loaded). IsCode l.code.code)) lent as.told.front.code;
+      tells = tells alike.told;
+      code = subst (AllByRecursion (λ (l : Loaded). IsCode l.code.code)) lent alike.told.front.code;
     })
 
 pub told_written : (p : Resting) (v : List ℕ) (size : ℕ) → IsTold p → v ≡ parts_bytes (resting_parts p) → size ≡ length (parts_bytes (resting_parts p)) → (file_limit < size → ⊥)

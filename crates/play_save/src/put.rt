@@ -163,11 +163,7 @@ fn put_randoms<W: Writer>(out: &mut W, random: &[u32]) -> Result<(), NoMemory>
 }
 
 /// Puts the objects of a world in a row, with their variables in its area.
-fn put_beside<W: Writer>(
-    out: &mut W,
-    area: &Area,
-    things: &[Things<Saved>],
-) -> Result<(), NoMemory>
+fn put_beside<W: Writer>(out: &mut W, area: &Area, things: &[Things<Saved>]) -> Result<(), NoMemory>
     requires counted { length things.now ≡ length area.now.objects }
     requires values { QueuesHaveValues things.now }
     ensures put { OnOk result (W.taken out.new ≡ W.taken out.old

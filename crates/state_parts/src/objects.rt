@@ -59,11 +59,7 @@ fn count_items(queue: &Queue<Saved>) -> Result<usize, NoMemory>
 }
 
 /// Puts actions in a row, so many as there are.
-fn put_actions<W: Writer>(
-    out: &mut W,
-    queue: &Queue<Saved>,
-    count: usize,
-) -> Result<(), NoMemory>
+fn put_actions<W: Writer>(out: &mut W, queue: &Queue<Saved>, count: usize) -> Result<(), NoMemory>
     requires count { count ≡ length queue.now.actions }
     requires values { AllByRecursion HasValues queue.now.actions }
     ensures put { OnOk result (W.taken out.new
@@ -205,7 +201,11 @@ fn put_busy<W: Writer>(out: &mut W, busy: bool) -> Result<(), NoMemory>
     ensures put { OnOk result
         (W.taken out.new ≡ W.taken out.old ++ joined (busy_fields busy)) }
 {
-    if busy { put_tag(out, 1) } else { put_tag(out, 0) }
+    if busy {
+        put_tag(out, 1)
+    } else {
+        put_tag(out, 0)
+    }
 }
 
 /// Puts an object of a world, with its variables in the area; its texts are short. `NoMemory` comes

@@ -7,6 +7,6 @@ pub returns : goal.returns
 returns c = record {
   saved = λ p is.
       let f = state_for c.args.header (option_map (λ text. text.items) c.text_of-header.result) c.args.file c.into_vec.result.items c.args.listed.now.plan.now c.args.listed.now.scripts.now
-          c.args.broken.world.world c.args.broken.played c.text_of-header.ensures.text c.into_vec.ensures.items p is in
+      c.args.broken.world.world c.args.broken.played c.text_of-header.ensures.text c.into_vec.ensures.items p is in
       MatchResult-weaker c.put_play.result c.put_play.ensures.exact (λ v. written_for f v.items) (large_for f);
 }

@@ -22,6 +22,6 @@ pub returns : goal.returns
 returns c =
     let w = put_together c.args.area.now c.args.saved in
     let f = resting_kept _ (option_map (λ text. text.items) c.args.header.now) c.args.scripts.now c.args.file.now c.args.limits c.args.counts.taken c.args.counts.done w refl
-        c.as_slice-listed.ensures.items refl refl refl refl refl refl
-        (λ told. told_world _ w told refl refl c.as_slice-left.ensures.items c.next_number-next.ensures.next (c.as_slice-waits.ensures.items ∙ c.in_ok-waiting.ensures.entries) c.as_slice-beside.ensures.items refl) in
+    c.as_slice-listed.ensures.items refl refl refl refl refl refl
+    (λ told. told_world _ w told refl refl c.as_slice-left.ensures.items c.next_number-next.ensures.next (c.as_slice-waits.ensures.items ∙ c.in_ok-waiting.ensures.entries) c.as_slice-beside.ensures.items refl) in
     record { exact = MatchResult-weaker c.state_bytes.result c.state_bytes.ensures.exact (λ v. written_so f v.items) (large_so f) }

@@ -18,9 +18,9 @@ loop-n-preserved g c = put_got (λ (n : ℤ). n) IsSigned any_text signed_fields
 pub returns : goal.returns
 returns g c =
     let end = put_end (λ (n : ℤ). n) IsSigned any_text signed_fields (λ (n : ℤ). n) c.args.ints.now (g.W.Writer.taken c.args.out.now) c.loop-n.n-index (g.W.Writer.taken c.loop-n.out)
-        c.loop-n.invariant c.loop-n-test.false in
+    c.loop-n.invariant c.loop-n-test.false in
     let parts = parts_end (λ (n : ℤ). n) IsSigned any_text signed_fields (λ (n : ℤ). n) c.args.ints.now (g.W.Writer.taken c.args.out.now) c.loop-n.n-index (g.W.Writer.taken c.loop-n.out)
-        c.loop-n.invariant c.loop-n-test.false in
+    c.loop-n.invariant c.loop-n-test.false in
     record {
       put = end ∙ ap (λ (l : List ℤ). g.W.Writer.taken c.args.out.now ++ joined (flat_map signed_fields l)) (map_same c.args.ints.now);
       form = subst (AllByRecursion IsSigned) (map_same c.args.ints.now) parts.form;
