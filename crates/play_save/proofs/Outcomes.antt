@@ -88,19 +88,46 @@ kept_state s header scripts file area limits taken done w objects parts laws len
 
 -- ---- what was counted or written
 
--- the parts of a play whose world was taken apart, lent piece by piece
-pub resting_kept : (p : Resting) (header : Option (List ℕ)) (scripts : List Loaded) (file : List ℕ) (limits : Limits) (taken done : ℕ) (w : World Saved)
-    → option_map (λ text. text.items) p.header.now ≡ header → p.scripts.now ≡ scripts → p.file.now ≡ file → p.numbers.limit ≡ limits.0 → p.numbers.entries ≡ limits.1
-    → p.numbers.until ≡ limits.2 → p.numbers.taken ≡ taken → p.numbers.done ≡ done → (IsTold p → Tells (resting_parts p) w)
-    → (s : Parts) → IsToldAs p s → IsKept header scripts file limits taken done w s
-resting_kept p header scripts file limits taken done w headed lent filed limit entries until took did tells s alike =
+-- the pieces that were lent are those of a play in this world
+pub record AreLent (p : Resting) (header : Option (List ℕ)) (scripts : List Loaded) (file : List ℕ) (limits : Limits) (taken done : ℕ) (w : World Saved) : Type 0 where
+  pub headed : option_map (λ text. text.items) p.header.now ≡ header
+  pub listed : p.scripts.now ≡ scripts
+  pub filed : p.file.now ≡ file
+  pub limit : p.numbers.limit ≡ limits.0
+  pub entries : p.numbers.entries ≡ limits.1
+  pub until : p.numbers.until ≡ limits.2
+  pub took : p.numbers.taken ≡ taken
+  pub did : p.numbers.done ≡ done
+  pub clock : p.numbers.clock ≡ w.clock
+  pub version : p.numbers.version ≡ w.version
+  pub random : p.random.now ≡ w.random
+  pub next : p.numbers.next ≡ w.agenda.next
+  pub waiting : p.entries.now ≡ w.agenda.entries
+  pub things : p.things.now ≡ w.things
+  pub objects : p.area.now.objects ≡ w.area.objects
+
+resting_kept : (p : Resting) (header : Option (List ℕ)) (scripts : List Loaded) (file : List ℕ) (limits : Limits) (taken done : ℕ) (w : World Saved)
+    → AreLent p header scripts file limits taken done w → (s : Parts) → IsToldAs p s → IsKept header scripts file limits taken done w s
+resting_kept p header scripts file limits taken done w lent s alike =
     subst (IsKept header scripts file limits taken done w) (sym alike.is) (record {
       form = told_form p alike.told;
-      play = record { header = headed; scripts = ap script_parts lent; area = filed; limit = limit; entries = entries; until = until };
-      come = record { taken = took; done = did };
-      tells = tells alike.told;
-      code = subst (AllByRecursion (λ (l : Loaded). IsCode l.code.code)) lent alike.told.front.code;
+      play = record { header = lent.headed; scripts = ap script_parts lent.listed; area = lent.filed; limit = lent.limit; entries = lent.entries; until = lent.until };
+      come = record { taken = lent.took; done = lent.did };
+      tells = told_world p w alike.told lent.clock lent.version lent.random lent.next lent.waiting lent.things lent.objects;
+      code = subst (AllByRecursion (λ (l : Loaded). IsCode l.code.code)) lent.listed alike.told.front.code;
     })
+
+-- the outcome stands first: it tells which pieces are meant
+pub kept_written : {p : Resting} (header : Option (List ℕ)) (scripts : List Loaded) (file : List ℕ) (limits : Limits) (taken done : ℕ) (w : World Saved) (v : List ℕ)
+    → IsWrittenState (IsToldAs p) v → AreLent p header scripts file limits taken done w → IsWrittenState (IsKept header scripts file limits taken done w) v
+kept_written header scripts file limits taken done w v found lent =
+    (found.0, (resting_kept _ header scripts file limits taken done w lent found.0 found.1.0, found.1.1))
+
+pub kept_large : {p : Resting} (header : Option (List ℕ)) (scripts : List Loaded) (file : List ℕ) (limits : Limits) (taken done : ℕ) (w : World Saved) (e : SaveFault)
+    → IsLargeState (IsToldAs p) e → AreLent p header scripts file limits taken done w → IsLargeState (IsKept header scripts file limits taken done w) e
+kept_large header scripts file limits taken done w (unsaved.Large size) found lent =
+    (found.0, (resting_kept _ header scripts file limits taken done w lent found.0 found.1.0, found.1.1))
+kept_large header scripts file limits taken done w unsaved.NoMemory found lent = tt
 
 pub told_written : (p : Resting) (v : List ℕ) (size : ℕ) → IsTold p → v ≡ parts_bytes (resting_parts p) → size ≡ length (parts_bytes (resting_parts p)) → (file_limit < size → ⊥)
     → IsWrittenState (IsToldAs p) v

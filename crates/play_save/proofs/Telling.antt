@@ -11,8 +11,8 @@ use Rattle.local_variables.specs.Variables.{Variable}
 use Rattle.world_rules.specs.declared.data.Things.{Things}
 use Rattle.saved_state.specs.declared.saved.Saved.{Saved}
 use Rattle.ncs_machine.specs.declared.scripts.Loaded.{Loaded}
-use Rattle.state_format.specs.Fields.{Fields, joined, number, magic, blob, maybe_fields, blob_fields, script_fields, number_fields, object_fields, entry_fields, list_of, parts_fields}
-use Rattle.state_format.specs.Parts.{IsScript, IsObject}
+use Rattle.state_format.specs.Fields.{Fields, joined, number, magic, tag, blob, maybe_fields, blob_fields, script_fields, number_fields, object_fields, entry_fields, list_of, parts_fields}
+use Rattle.state_format.specs.Parts.{IsBlob, IsMaybe, IsScript, IsObject}
 use Rattle.state_format.specs.WritingLemmas.{fields_behind, put_one, put_then, parts_put}
 use Rattle.state_format.specs.declared.parts.Script.{Script}
 use Rattle.state_parts.specs.World.{things_of, variables_of}
@@ -28,6 +28,18 @@ use Rattle.play_save.proofs.Keeping.{none_kept, objects_more, objects_end}
 pub both_done : {T E P Q : Type 0} (r : Result T E) → OnOk r P → OnOk r Q → OnOk r (P × Q)
 both_done (Ok x) p q = (p, q)
 both_done (Err e) p q = tt
+
+-- ---- the header, whose bytes are lent
+
+pub header_put : {A : Type 0} (h : Option A) (f : A → List ℕ) (x : A) (v old tagged new : List ℕ) → h ≡ Some x → v ≡ f x → tagged ≡ old ++ tag 1 → new ≡ tagged ++ blob v
+    → new ≡ old ++ joined (maybe_fields blob_fields (option_map f h))
+header_put h f x v old tagged new at same one all =
+    all ∙ ap (λ (l : List ℕ). tagged ++ blob l) same ∙ ap (λ (l : List ℕ). l ++ blob (f x)) one ∙ append_assoc old (tag 1) (blob (f x))
+    ∙ ap (λ (l : List ℕ). old ++ (tag 1 ++ l)) (sym (append-nil (blob (f x))))
+    ∙ ap (λ (o : Option _). old ++ joined (maybe_fields blob_fields (option_map f o))) (sym at)
+
+pub header_form : {A : Type 0} (h : Option A) (f : A → List ℕ) (x : A) (v : List ℕ) → h ≡ Some x → v ≡ f x → IsBlob v → IsMaybe IsBlob (option_map f h)
+header_form h f x v at same is = subst (λ (o : Option _). IsMaybe IsBlob (option_map f o)) (sym at) (subst IsBlob same is)
 
 -- ---- scripts
 

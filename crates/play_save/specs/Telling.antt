@@ -69,17 +69,17 @@ pub record FitNumbers (n : Numbers) : Type 0 where
 
 pub record IsFrontTold (header : Option (List ℕ)) (scripts : List Loaded) (file : List ℕ) (n : Numbers) : Type 0 where
   pub header : IsMaybe IsBlob header
-  pub scripts : IsList IsScript (script_parts scripts)
   pub code : AllByRecursion (λ (l : Loaded). IsCode l.code.code) scripts
+  pub scripts : IsList IsScript (script_parts scripts)
   pub file : IsBlob file
   pub numbers : FitNumbers n
 
 pub record IsBackTold (random : List ℕ) (objects : List AreaObject) (things : List (Things Saved)) (entries : List (Entry Saved)) : Type 0 where
   pub random : IsList (IsNumber 4) random
-  pub objects : AreObjectsOf objects things (object_parts objects things)
   pub few_objects : IsNumber 4 (length (object_parts objects things))
-  pub entries : ArePartsOf entry_of IsEntry is_short_entry entries (map entry_part entries)
+  pub objects : AreObjectsOf objects things (object_parts objects things)
   pub few_entries : IsNumber 4 (length (map entry_part entries))
+  pub entries : ArePartsOf entry_of IsEntry is_short_entry entries (map entry_part entries)
 
 pub record IsTold (p : Resting) : Type 0 where
   pub front : IsFrontTold (option_map (λ text. text.items) p.header.now) p.scripts.now p.file.now p.numbers

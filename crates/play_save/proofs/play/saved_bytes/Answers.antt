@@ -8,7 +8,7 @@ use Rattle.world_rules.specs.declared.data.Things.{Things}
 use Rattle.world_parts.specs.Saved.{put_together}
 use Rattle.state_parts.specs.Keeping.{KindHasValues}
 use Rattle.play_save.specs.Keeping.{QueuesHaveValues}
-use Rattle.play_save.proofs.Outcomes.{told_world, resting_kept, written_so, large_so}
+use Rattle.play_save.proofs.Outcomes.{kept_written, kept_large}
 use Rattle.play_save.proofs.play.saved_bytes.Goals as goal
 
 pub state_bytes-requires : goal.state_bytes-requires
@@ -20,8 +20,45 @@ state_bytes-requires c = record {
 
 pub returns : goal.returns
 returns c =
+    let header = option_map (λ text. text.items) c.args.header.now in
     let w = put_together c.args.area.now c.args.saved in
-    let f = resting_kept _ (option_map (λ text. text.items) c.args.header.now) c.args.scripts.now c.args.file.now c.args.limits c.args.counts.taken c.args.counts.done w refl
-    c.as_slice-listed.ensures.items refl refl refl refl refl refl
-    (λ told. told_world _ w told refl refl c.as_slice-left.ensures.items c.next_number-next.ensures.next (c.as_slice-waits.ensures.items ∙ c.in_ok-waiting.ensures.entries) c.as_slice-beside.ensures.items refl) in
-    record { exact = MatchResult-weaker c.state_bytes.result c.state_bytes.ensures.exact (λ v. written_so f v.items) (large_so f) }
+    let waits = c.as_slice-waits.ensures.items ∙ c.in_ok-waiting.ensures.entries in
+    record {
+      exact = MatchResult-weaker c.state_bytes.result c.state_bytes.ensures.exact
+          (λ v found.
+          kept_written header c.args.scripts.now c.args.file.now c.args.limits c.args.counts.taken c.args.counts.done w v.items found (record {
+            headed = refl;
+            listed = c.as_slice-listed.ensures.items;
+            filed = refl;
+            limit = refl;
+            entries = refl;
+            until = refl;
+            took = refl;
+            did = refl;
+            clock = refl;
+            version = refl;
+            random = c.as_slice-left.ensures.items;
+            next = c.next_number-next.ensures.next;
+            waiting = waits;
+            things = c.as_slice-beside.ensures.items;
+            objects = refl;
+          }))
+          (λ e found.
+          kept_large header c.args.scripts.now c.args.file.now c.args.limits c.args.counts.taken c.args.counts.done w e found (record {
+            headed = refl;
+            listed = c.as_slice-listed.ensures.items;
+            filed = refl;
+            limit = refl;
+            entries = refl;
+            until = refl;
+            took = refl;
+            did = refl;
+            clock = refl;
+            version = refl;
+            random = c.as_slice-left.ensures.items;
+            next = c.next_number-next.ensures.next;
+            waiting = waits;
+            things = c.as_slice-beside.ensures.items;
+            objects = refl;
+          }));
+    }
