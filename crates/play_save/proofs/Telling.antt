@@ -1,7 +1,8 @@
 -- A play that rests is put field by field.
 use Rattle.std.proofs.Common.{◌≡◌, ◌<◌, ◌≤◌, ℕ, zero, suc, ◌+◌, List, [], ◌∷◌, ◌++◌, length, take, get_or, map, sym, ap, refl, ◌∙◌, add-one, subst, arith, append_assoc}
-use Rattle.std.specs.Prelude.{Option, Result, Ok, Err, OnOk, IsTrue}
+use Rattle.std.specs.Prelude.{Option, Some, Result, Ok, Err, OnOk, IsTrue}
 use Rattle.std.specs.List.{flat_map, AllByRecursion}
+use Rattle.std.specs.Option.{option_map}
 use Rattle.std.proofs.lemmas.List.{append-nil, take_all}
 use Rattle.ncs_code.specs.File.{IsCode}
 use Rattle.area_rules.specs.Objects.{AreaObject}
