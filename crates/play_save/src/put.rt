@@ -190,7 +190,8 @@ fn put_objects<W: Writer>(
         ++ joined (list_of object_fields (object_parts area.now.objects things.now))) }
     ensures objects { OnOk result (AreObjectsOf area.now.objects things.now
         (object_parts area.now.objects things.now)) }
-    ensures few { IsNumber 4 (length (object_parts area.now.objects things.now)) }
+    ensures few { OnOk result
+        (IsNumber 4 (length (object_parts area.now.objects things.now))) }
 {
     area.keeps();
     put_count(out, things.len())?;

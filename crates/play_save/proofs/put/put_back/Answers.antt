@@ -12,7 +12,7 @@ returns-clause-told g c = on_ok_weaker c.put_entries.result
     (λ both. record {
       random = c.in_ok-put_randoms.ensures.form;
       objects = c.in_ok-put_objects.ensures.objects;
-      few_objects = c.put_objects.ensures.few;
+      few_objects = c.in_ok-put_objects.ensures.few;
       entries = both.0;
       few_entries = both.1;
     })

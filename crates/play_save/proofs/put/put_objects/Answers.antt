@@ -15,4 +15,4 @@ returns-clause-put g c = on_ok_weaker c.put_beside.result
 pub returns-clause-few : goal.returns-clause-few
 returns-clause-few g c =
     let count = parts_count c.args.area.now.objects c.args.things.now c.requires.counted in
-    omega (arith, count, c.keeps.ensures.keeps.few)
+    on_ok_weaker c.put_beside.result (λ done. omega (arith, count, c.keeps.ensures.keeps.few)) c.put_beside.ensures.put
