@@ -1,9 +1,15 @@
 -- The index from labels to scripts.
-use Rattle.std.specs.Prelude.{◌≡◌, ℕ, suc, List, [], ◌∷◌, if◌then◌else◌, Option, None, Some}
+use Rattle.std.specs.Prelude.{◌≡◌, ℕ, suc, List, [], ◌∷◌, if◌then◌else◌, Option, None, Some, Box}
+use Rattle.std.specs.declared.alloc.Global.{Global}
 use Rattle.std.specs.Option.{option_map}
 use Rattle.std.specs.Str.{bytes_eq}
 use Rattle.nwq_value.specs.Index.{number_under}
 use Rattle.area_rules.specs.Objects.{Script}
+
+-- those of an object that may have none
+abbrev pub boxed : Option (Box (List Script) Global) → List Script
+boxed None = []
+boxed (Some noted) = noted.value
 
 -- the place of the first script under a label
 abbrev pub script_place : List ℕ → List Script → Option ℕ

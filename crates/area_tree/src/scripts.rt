@@ -40,15 +40,16 @@ impl ScriptField {
     }
 }
 
-/// The names of resources in the order of their fields. Contracts see the list of them.
+/// The names of resources in the order of their fields, and where each is found. Contracts see the
+/// list of them.
 #[derive(Drop)]
-pub struct Scripts {
+pub(crate) struct Noted {
     all: Items<ScriptField>,
     /// The place of the first of each label.
     first: NameIndex,
 }
 
-impl Model for Scripts {
+impl Model for Noted {
     ghost use Rattle.std.specs.Prelude.{List};
     ghost use Rattle.area_rules.specs.Objects.{Script};
     ghost use Rattle.area_tree.specs.Scripts.{HasFirst};
@@ -60,9 +61,9 @@ impl Model for Scripts {
     ghost invariant = { λ s. HasFirst s.all s.first };
 }
 
-impl Scripts {
+impl Noted {
     /// The name of the first resource under a label, or the empty one.
-    pub fn name(&self, label: &[u8]) -> &[u8]
+    fn name(&self, label: &[u8]) -> &[u8]
         ensures name { result.now ≡ script_named label.now self.now }
     {
         match self.first.get(label) {
@@ -71,6 +72,35 @@ impl Scripts {
                 None => &[],
             },
             None => &[],
+        }
+    }
+}
+
+/// The names of the resources of an object. Contracts see the list of them. An object without such
+/// fields keeps nothing of them.
+#[derive(Drop)]
+pub struct Scripts {
+    noted: Option<Box<Noted>>,
+}
+
+impl Model for Scripts {
+    ghost use Rattle.std.specs.Prelude.{List};
+    ghost use Rattle.area_rules.specs.Objects.{Script};
+    ghost use Rattle.area_tree.specs.Scripts.{boxed};
+
+    ghost Value = { List Script };
+
+    ghost view = { λ s. boxed s.noted };
+}
+
+impl Scripts {
+    /// The name of the first resource under a label, or the empty one.
+    pub fn name(&self, label: &[u8]) -> &[u8]
+        ensures name { result.now ≡ script_named label.now self.now }
+    {
+        match &self.noted {
+            None => &[],
+            Some(noted) => noted.name(label),
         }
     }
 }
@@ -123,16 +153,29 @@ fn note_all(all: &[ScriptField], first: &mut NameIndex) -> Result<(), NoMemory>
     Ok(())
 }
 
+/// These names, and where the first of each label is.
+fn noted(alloc: Global, all: Vec<ScriptField>) -> Result<Noted, NoMemory>
+    ensures all { IfOk result (λ noted. noted ≡ all.items) }
+{
+    let mut first = NameIndex::new(alloc);
+    note_all(&all, &mut first)?;
+    Ok(Noted {
+        all: Items::of_vec(all),
+        first,
+    })
+}
+
 /// The names of the resources that these fields hold.
 pub fn read_scripts(alloc: Global, fields: &[Field]) -> Result<Scripts, NoMemory>
     ensures { IfOk result (λ scripts. scripts ≡ scripts_in (map plain_field fields.now)) }
 {
     let mut all = Vec::new(alloc);
     add_scripts(alloc, fields, &mut all)?;
-    let mut first = NameIndex::new(alloc);
-    note_all(&all, &mut first)?;
+    if all.is_empty() {
+        return Ok(Scripts { noted: None });
+    }
+    let scripts = noted(alloc, all)?;
     Ok(Scripts {
-        all: Items::of_vec(all),
-        first,
+        noted: Some(Box::new(alloc, scripts)?),
     })
 }

@@ -83,7 +83,7 @@ fn read_fields(
     ensures charged { IfOk result (λ fields. left.old + rows_charge (map plain_row rows.items)
         ≡ left.new + fields_charge (fields_list fields.items)) }
 {
-    let mut fields = Vec::new(alloc);
+    let mut fields = Vec::with_capacity(alloc, rows.len())?;
     for row in rows {
         let FieldRow { label, shape } = row;
         let leaf = read_leaf(alloc, view, marks, shape, depth, left)?;
@@ -137,7 +137,7 @@ fn read_nodes(
     ensures charged { IfOk result (λ nodes. left.old + word_charge * length numbers.now
         ≡ left.new + nodes_charge (nodes_list nodes.items)) }
 {
-    let mut nodes = Vec::new(alloc);
+    let mut nodes = Vec::with_capacity(alloc, numbers.len())?;
     for n in numbers {
         nodes.push(read_node(alloc, view, marks, *n, depth, left)?)?;
     }

@@ -1,5 +1,6 @@
 -- An object's variables as code keeps them: each in a slot with a stamp, and the stamps by name.
-use Rattle.std.specs.Prelude.{◌≡◌, ℕ, ◌+◌, ◌≤◌, ◌<◌, ◌==◌, if◌then◌else◌, List, [], ◌∷◌, length, Bool, false, Option, None, Some}
+use Rattle.std.specs.Prelude.{◌≡◌, ℕ, ◌+◌, ◌≤◌, ◌<◌, ◌==◌, if◌then◌else◌, List, [], ◌∷◌, length, Bool, false, Option, None, Some, Box}
+use Rattle.std.specs.declared.alloc.Global.{Global}
 use Rattle.std.specs.List.{IsDistinct, AllByRecursion}
 use Rattle.std.specs.Map.{keys_of}
 use Rattle.std.specs.Option.{option_map}
@@ -36,6 +37,16 @@ seen_before (Some h) vars = variable_in h ∷ vars
 abbrev pub seen : List Slot → List Variable
 seen [] = []
 seen (e ∷ slots) = seen_before e.1 (seen slots)
+
+-- those of an object that may have none
+abbrev pub boxed : Option (Box (List Variable) Global) → List Variable
+boxed None = []
+boxed (Some all) = all.value
+
+-- those that a walk has left
+abbrev pub walked : Option (List Variable) → List Variable
+walked None = []
+walked (Some vars) = vars
 
 -- each stamp is above those before it, the first at least this
 abbrev pub Ascend : ℕ → List ℕ → Type 0

@@ -7,7 +7,9 @@
 #![tactic(auto)]
 
 mod held;
+mod kept;
 mod laws;
+mod slot_walk;
 mod vars;
 mod walk;
 

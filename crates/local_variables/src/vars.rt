@@ -1,15 +1,15 @@
 //! The variables of an object.
 
 ghost use Rattle.std.specs.Prelude.{◌≡◌, [], ◌∷◌, ◌++◌, not, false, filter, length, slice_get};
-ghost use Rattle.std.specs.Prelude.{is_some, OnOk, OnErr};
+ghost use Rattle.std.specs.Prelude.{IfOk, OnOk, OnErr};
 ghost use Rattle.std.specs.List.{list_any, IsDistinct};
 ghost use Rattle.std.specs.Option.{option_map};
 ghost use Rattle.local_variables.specs.Variables.{IntVar, TextVar, variable_of, is_int, is_text};
 ghost use Rattle.local_variables.specs.Variables.{same_variable, int_named, text_named, put};
 
-use crate::held::{Content, Held, Slots, add, find, int_in, text_in, write};
+use crate::kept::Kept;
 use crate::walk::Walk;
-use nwq_value::{Items, NameIndex, NoMemory};
+use nwq_value::NoMemory;
 use std::alloc::Global;
 use std::marker::Model;
 
@@ -21,44 +21,41 @@ pub enum Var<'a> {
 }
 
 /// The variables of one object in their order, no two of one type and name. Contracts see the list
-/// of them.
+/// of them. An object without variables keeps nothing of them.
 pub struct Vars {
     alloc: Global,
-    /// The stamp of the next new variable.
-    next: usize,
-    slots: Slots,
-    /// How many slots aren't empty.
-    live: usize,
-    /// The stamps of the ints by their names, and below those of the strings.
-    ints: NameIndex,
-    texts: NameIndex,
+    /// The variables, where there are some.
+    kept: Option<Box<Kept>>,
 }
 
 impl Model for Vars {
     ghost use Rattle.std.specs.Prelude.{List};
     ghost use Rattle.local_variables.specs.Variables.{Variable};
-    ghost use Rattle.local_variables.specs.Kept.{seen, AreKept};
+    ghost use Rattle.local_variables.specs.Kept.{boxed};
 
     ghost Value = { List Variable };
 
-    ghost view = { λ v. seen v.slots.entries };
-
-    ghost invariant = { λ v. AreKept v.next v.live v.slots.entries v.ints v.texts };
+    ghost view = { λ v. boxed v.kept };
 }
 
 impl Drop for Vars {
     fn drop(self) {
-        let Vars {
-            alloc: _,
-            next: _,
-            slots,
-            live: _,
-            ints,
-            texts,
-        } = self;
-        drop(slots);
-        drop(ints);
-        drop(texts);
+        let Vars { alloc: _, kept } = self;
+        drop(kept);
+    }
+}
+
+/// The list of one variable.
+fn only(alloc: Global, v: Var<'_>) -> Result<Box<Kept>, NoMemory>
+    ensures only { IfOk result (λ all. all.value ≡ variable_of v.entry ∷ []) }
+{
+    let mut all = Kept::new(alloc);
+    match all.push(v) {
+        Err(NoMemory) => {
+            drop(all);
+            Err(NoMemory)
+        }
+        Ok(()) => Ok(Box::new(alloc, all)?),
     }
 }
 
@@ -67,27 +64,26 @@ impl Vars {
     pub fn new(alloc: Global) -> Vars
         ensures empty { result ≡ [] }
     {
-        Vars {
-            alloc,
-            next: 0,
-            slots: Slots::new(alloc),
-            live: 0,
-            ints: NameIndex::new(alloc),
-            texts: NameIndex::new(alloc),
-        }
+        Vars { alloc, kept: None }
     }
 
     pub fn len(&self) -> usize
         ensures len { result ≡ length self.now }
     {
-        self.live
+        match &self.kept {
+            None => 0,
+            Some(all) => all.len(),
+        }
     }
 
     /// A walk over all variables, each in constant time.
     pub fn walk(&self) -> Walk<'_>
         ensures all { result ≡ self.now }
     {
-        Walk::over(&self.slots)
+        match &self.kept {
+            None => Walk::over(None),
+            Some(all) => Walk::over(Some(all.walk())),
+        }
     }
 
     /// The variable at place `i`, counted from 0, which passes those before it: a walk goes over
@@ -106,9 +102,9 @@ impl Vars {
     pub fn contains(&self, v: Var<'_>) -> bool
         ensures found { result ≡ list_any (same_variable (variable_of v.entry)) self.now }
     {
-        match v {
-            Var::Int(name, _) => self.ints.get(name).is_some(),
-            Var::Text(name, _) => self.texts.get(name).is_some(),
+        match &self.kept {
+            None => false,
+            Some(all) => all.contains(v),
         }
     }
 
@@ -116,9 +112,9 @@ impl Vars {
     pub fn int(&self, name: &[u8]) -> i32
         ensures value { result ≡ int_named name.now self.now }
     {
-        match find(&self.slots, &self.ints, name) {
-            Some(i) => int_in(&self.slots[i]),
+        match &self.kept {
             None => 0,
+            Some(all) => all.int(name),
         }
     }
 
@@ -126,38 +122,10 @@ impl Vars {
     pub fn text(&self, name: &[u8]) -> &[u8]
         ensures value { result.now ≡ text_named name.now self.now }
     {
-        match find(&self.slots, &self.texts, name) {
-            Some(i) => text_in(&self.slots[i]),
+        match &self.kept {
             None => &[],
+            Some(all) => all.text(name),
         }
-    }
-
-    /// Puts an int last.
-    fn push_int(&mut self, name: &[u8], n: i32) -> Result<(), NoMemory>
-        requires new { list_any (is_int name.now) self.old ≡ false }
-        ensures ok { OnOk result (self.new ≡ self.old ++ IntVar name.now n ∷ []) }
-        ensures err { OnErr result (self.new ≡ self.old) }
-    {
-        let next = self.next.checked_add(1).ok_or(NoMemory)?;
-        let held = Held::of(self.alloc, Var::Int(name, n))?;
-        add(&mut self.slots, &mut self.ints, name, self.next, held)?;
-        self.next = next;
-        self.live += 1;
-        Ok(())
-    }
-
-    /// Puts a string last.
-    fn push_text(&mut self, name: &[u8], text: &[u8]) -> Result<(), NoMemory>
-        requires new { list_any (is_text name.now) self.old ≡ false }
-        ensures ok { OnOk result (self.new ≡ self.old ++ TextVar name.now text.now ∷ []) }
-        ensures err { OnErr result (self.new ≡ self.old) }
-    {
-        let next = self.next.checked_add(1).ok_or(NoMemory)?;
-        let held = Held::of(self.alloc, Var::Text(name, text))?;
-        add(&mut self.slots, &mut self.texts, name, self.next, held)?;
-        self.next = next;
-        self.live += 1;
-        Ok(())
     }
 
     /// Puts a variable last, where there is none of its type and name. After `NoMemory` the list is
@@ -167,9 +135,12 @@ impl Vars {
         ensures ok { OnOk result (self.new ≡ self.old ++ variable_of v.entry ∷ []) }
         ensures err { OnErr result (self.new ≡ self.old) }
     {
-        match v {
-            Var::Int(name, n) => self.push_int(name, n),
-            Var::Text(name, text) => self.push_text(name, text),
+        match &mut self.kept {
+            None => {
+                self.kept = Some(only(self.alloc, v)?);
+                Ok(())
+            }
+            Some(all) => all.push(v),
         }
     }
 
@@ -178,13 +149,7 @@ impl Vars {
         ensures ok { OnOk result (self.new ≡ put (IntVar name.now n) self.old) }
         ensures err { OnErr result (self.new ≡ self.old) }
     {
-        match find(&self.slots, &self.ints, name) {
-            None => self.push_int(name, n),
-            Some(i) => {
-                write(&mut self.slots[i], Content::Int(n));
-                Ok(())
-            }
-        }
+        self.set(Var::Int(name, n))
     }
 
     /// Gives a string of a name a value, in its place, or puts it last where there is none.
@@ -192,14 +157,7 @@ impl Vars {
         ensures ok { OnOk result (self.new ≡ put (TextVar name.now text.now) self.old) }
         ensures err { OnErr result (self.new ≡ self.old) }
     {
-        match find(&self.slots, &self.texts, name) {
-            None => self.push_text(name, text),
-            Some(i) => {
-                let new = Items::of_slice(self.alloc, text)?;
-                write(&mut self.slots[i], Content::Text(new));
-                Ok(())
-            }
-        }
+        self.set(Var::Text(name, text))
     }
 
     /// Gives the variable of a type and name a value, in its place, or puts it last where there is
@@ -208,23 +166,21 @@ impl Vars {
         ensures ok { OnOk result (self.new ≡ put (variable_of v.entry) self.old) }
         ensures err { OnErr result (self.new ≡ self.old) }
     {
-        match v {
-            Var::Int(name, n) => self.set_int(name, n),
-            Var::Text(name, text) => self.set_text(name, text),
+        match &mut self.kept {
+            None => {
+                self.kept = Some(only(self.alloc, v)?);
+                Ok(())
+            }
+            Some(all) => all.set(v),
         }
     }
 
-    /// Lets the empty slots go where they are more than half of all, so that they cost no more than
-    /// the variables that were taken out.
+    /// Lets the memory go where no variable is left.
     fn settle(&mut self)
         ensures same { self.new ≡ self.old }
     {
-        if self.live < self.slots.len() / 2 {
-            self.slots.retain(
-                |_stamp: &usize, slot: &mut Option<Held>| -> bool
-                    ensures { (result ≡ is_some slot.old) × (slot.new ≡ slot.old) }
-                { slot.is_some() },
-            );
+        if self.len() == 0 {
+            self.kept = None;
         }
     }
 
@@ -232,30 +188,29 @@ impl Vars {
     pub fn delete_int(&mut self, name: &[u8])
         ensures gone { self.new ≡ filter (λ v. not (is_int name.now v)) self.old }
     {
-        if let Some(i) = find(&self.slots, &self.ints, name) {
-            self.ints.remove(name);
-            self.slots[i] = None;
-            self.live -= 1;
-            self.settle();
+        if let Some(all) = &mut self.kept {
+            all.delete_int(name);
         }
+        self.settle();
     }
 
     /// Takes the string of a name out; the others keep their order.
     pub fn delete_text(&mut self, name: &[u8])
         ensures gone { self.new ≡ filter (λ v. not (is_text name.now v)) self.old }
     {
-        if let Some(i) = find(&self.slots, &self.texts, name) {
-            self.texts.remove(name);
-            self.slots[i] = None;
-            self.live -= 1;
-            self.settle();
+        if let Some(all) = &mut self.kept {
+            all.delete_text(name);
         }
+        self.settle();
     }
 
     /// No two variables are of one type and name.
     pub fn keeps(&self)
         ensures distinct { IsDistinct same_variable self.now }
     {
-        let _ = &self.slots;
+        match &self.kept {
+            None => {}
+            Some(all) => all.keeps(),
+        }
     }
 }

@@ -3,37 +3,35 @@
 ghost use Rattle.std.specs.Prelude.{◌≡◌, drop, slice_get};
 ghost use Rattle.std.specs.Option.{option_map};
 ghost use Rattle.local_variables.specs.Variables.{variable_of};
-ghost use Rattle.local_variables.specs.Kept.{seen};
+ghost use Rattle.local_variables.specs.Kept.{walked};
 
-use crate::held::{Held, Slots};
+use crate::slot_walk::SlotWalk;
 use crate::vars::Var;
-use indexmap::map::Slice;
 use std::marker::Model;
 
 /// A walk over the variables of an object in their order. Contracts see those that are left.
 #[derive(Drop)]
 pub struct Walk<'a> {
-    rest: Slice<'a, usize, Option<Held>>,
+    /// The rest of the slots, where the object has variables.
+    rest: Option<SlotWalk<'a>>,
 }
 
 impl<'a> Model for Walk<'a> {
     ghost use Rattle.std.specs.Prelude.{List};
     ghost use Rattle.local_variables.specs.Variables.{Variable};
-    ghost use Rattle.local_variables.specs.Kept.{seen};
+    ghost use Rattle.local_variables.specs.Kept.{walked};
 
     ghost Value = { List Variable };
 
-    ghost view = { λ w. seen w.rest };
+    ghost view = { λ w. walked w.rest };
 }
 
 impl<'a> Walk<'a> {
-    /// The walk over these slots.
-    pub(crate) fn over(slots: &'a Slots) -> Walk<'a>
-        ensures all { result ≡ seen slots.now.entries }
+    /// The walk over these slots, where there are some.
+    pub(crate) fn over(rest: Option<SlotWalk<'a>>) -> Walk<'a>
+        ensures all { result ≡ walked rest.entry }
     {
-        Walk {
-            rest: slots.as_slice(),
-        }
+        Walk { rest }
     }
 
     /// The next variable, if one is left.
@@ -41,12 +39,9 @@ impl<'a> Walk<'a> {
         ensures first { option_map variable_of result ≡ slice_get self.old 0 }
         ensures rest { self.new ≡ drop 1 self.old }
     {
-        while let Some(((_, slot), rest)) = self.rest.split_first() {
-            self.rest = rest;
-            if let Some(held) = slot {
-                return Some(held.variable());
-            }
+        match &mut self.rest {
+            None => None,
+            Some(walk) => walk.next(),
         }
-        None
     }
 }

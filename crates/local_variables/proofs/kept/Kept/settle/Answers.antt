@@ -1,7 +1,7 @@
 use Rattle.std.proofs.Common.{rules, ◌≡◌}
 use Rattle.indexmap.proofs.CallerLemmas.{filter-RetainsPairs}
 use Rattle.local_variables.proofs.KeptLemmas.{full, settled}
-use Rattle.local_variables.proofs.vars.Vars.settle.Goals as goal
+use Rattle.local_variables.proofs.kept.Kept.settle.Goals as goal
 
 pub invariant_of-self : goal.invariant_of-self
 invariant_of-self c =

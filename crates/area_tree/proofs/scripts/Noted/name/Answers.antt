@@ -1,7 +1,7 @@
 use Rattle.std.proofs.Common.{Some, None, ap, ◌∙◌}
 use Rattle.area_rules.specs.Area.{script_named}
 use Rattle.area_tree.proofs.ScriptLemmas.{found_name, no_name}
-use Rattle.area_tree.proofs.scripts.Scripts.name.Goals as goal
+use Rattle.area_tree.proofs.scripts.Noted.name.Goals as goal
 
 pub returns-in-Some-get : goal.returns-in-Some-get
 returns-in-Some-get c = record {

@@ -1,6 +1,6 @@
 use Rattle.std.proofs.Common.{refl, arith, ◌≡◌, ◌+◌}
 use Rattle.local_variables.proofs.KeptLemmas.{text_pushed}
-use Rattle.local_variables.proofs.vars.Vars.push_text.Goals as goal
+use Rattle.local_variables.proofs.kept.Kept.push_text.Goals as goal
 
 pub invariant_of-self-2 : goal.invariant_of-self-2
 invariant_of-self-2 c =

@@ -2,7 +2,7 @@ use Rattle.std.proofs.Common.{is_some, ◌∙◌, ap}
 use Rattle.std.specs.List.{list_any}
 use Rattle.local_variables.specs.Variables.{is_int, is_text}
 use Rattle.local_variables.proofs.KeptLemmas.{known_under}
-use Rattle.local_variables.proofs.vars.Vars.contains.Goals as goal
+use Rattle.local_variables.proofs.kept.Kept.contains.Goals as goal
 
 pub returns-in-Int : goal.returns-in-Int
 returns-in-Int c = record {

@@ -1,7 +1,7 @@
 use Rattle.local_variables.specs.Variables.{TextVar}
 use Rattle.local_variables.proofs.VariableLaws.{put_last}
 use Rattle.local_variables.proofs.KeptLemmas.{no_text, text_written, put_ok}
-use Rattle.local_variables.proofs.vars.Vars.set_text.Goals as goal
+use Rattle.local_variables.proofs.kept.Kept.set_text.Goals as goal
 
 pub push_text-requires : goal.push_text-requires
 push_text-requires c = record { new = (no_text c.args.name.now c.self.invariant c.self.view_is c.in-None.ensures.place).1 }

@@ -4,7 +4,7 @@ use Rattle.std.proofs.Common.{rules, ◌∷◌, [], ◌++◌, ◌∙◌, sym, ap
 use Rattle.local_variables.specs.Variables.{IntVar}
 use Rattle.local_variables.proofs.VariableLaws.{put_last}
 use Rattle.local_variables.proofs.KeptLemmas.{no_int, int_written, put_ok}
-use Rattle.local_variables.proofs.vars.Vars.set_int.Goals as goal
+use Rattle.local_variables.proofs.kept.Kept.set_int.Goals as goal
 
 pub push_int-requires : goal.push_int-requires
 push_int-requires c = record { new = (no_int c.args.name.now c.self.invariant c.self.view_is c.in-None.ensures.place).1 }

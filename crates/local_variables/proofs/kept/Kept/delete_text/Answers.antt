@@ -1,7 +1,7 @@
 use Rattle.std.proofs.Common.{◌≡◌, ◌+◌, ◌-◌, ◌∙◌, arith}
 use Rattle.local_variables.specs.Variables.{is_text}
 use Rattle.local_variables.proofs.KeptLemmas.{no_text, text_removed, text_counts, none_out}
-use Rattle.local_variables.proofs.vars.Vars.delete_text.Goals as goal
+use Rattle.local_variables.proofs.kept.Kept.delete_text.Goals as goal
 
 pub overflow_sub-self : goal.overflow_sub-self
 overflow_sub-self c = text_counts c.args.name.now c.self.invariant c.self.view_is c.in-Some.ensures.place

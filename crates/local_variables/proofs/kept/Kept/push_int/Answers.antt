@@ -3,7 +3,7 @@ use Rattle.std.proofs.lemmas.Int.{to_z-of_z}
 use Rattle.std.proofs.Common.{refl, arith, ◌≡◌, ◌+◌, ◌++◌, ◌∷◌, [], ap, ◌∙◌}
 use Rattle.local_variables.specs.Variables.{IntVar}
 use Rattle.local_variables.proofs.KeptLemmas.{int_pushed}
-use Rattle.local_variables.proofs.vars.Vars.push_int.Goals as goal
+use Rattle.local_variables.proofs.kept.Kept.push_int.Goals as goal
 
 pub invariant_of-self-2 : goal.invariant_of-self-2
 invariant_of-self-2 c =
