@@ -69,15 +69,18 @@ fn standing(alloc: Global, effects: &Standing) -> Result<Items<StandingPart>, No
     ensures parts { IfOk result (ArePartsOf stood_of IsStanding any_text effects.now) }
     ensures few { IfOk result (λ parts. IsNumber 4 (length parts)) }
 {
+    if effects.len() > MOST {
+        return Err(NoMemory);
+    }
     let mut all = Items::new(alloc);
-    for i in 0..MOST {
-        match effects.get(i) {
-            None => return Ok(all),
+    let mut walk = effects.walk();
+    for _done in 0..effects.len() {
+        match walk.next() {
+            None => unreachable!(),
             Some(effect) => all.push(stood(alloc, effect)?)?,
         }
     }
-    drop(all);
-    Err(NoMemory)
+    Ok(all)
 }
 
 fn variable(alloc: Global, v: Var<'_>) -> Result<Variable, NoMemory>
