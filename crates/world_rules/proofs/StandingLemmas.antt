@@ -348,3 +348,7 @@ kept_none next items numbers contents none p q =
       numbers = λ k s. refl;
       contents = λ k s. refl;
     })))
+
+pub ruleset pushes = (kept_more, kept_same, stood_last)
+
+pub ruleset searches = (none_yet, equal_none, equal_next, equal_found, next_below)

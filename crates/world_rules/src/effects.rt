@@ -101,6 +101,7 @@ fn is_equal_at(all: &Stamped<Stood>, stamp: u64, effect: &Effect) -> bool
 }
 
 /// The stamp of the first effect that is equal to this one; all stamps are below `next`.
+#[tactic(auto, using(crate::proofs::StandingLemmas::searches))]
 fn stamp_of_equal(
     all: &Stamped<Stood>,
     contents: &StampIndex,
@@ -222,6 +223,7 @@ fn take_out(
 
 impl Effects {
     /// No effects; takes no memory.
+    #[tactic(auto, using(crate::proofs::StandingLemmas::kept_none))]
     pub(crate) fn new(alloc: Global) -> Effects
         ensures empty { result ≡ [] }
     {
@@ -233,6 +235,7 @@ impl Effects {
         }
     }
 
+    #[tactic(auto, using(crate::proofs::StandingLemmas::long_stood))]
     pub(crate) fn len(&self) -> usize
         ensures len { result ≡ length self.now }
     {
@@ -247,6 +250,7 @@ impl Effects {
     }
 
     /// Puts an effect last. After `NoMemory` it is dropped, and the others are as before.
+    #[tactic(auto, using(crate::proofs::StandingLemmas::pushes))]
     pub(crate) fn push(&mut self, stood: Stood) -> Result<(), NoMemory>
         ensures ok { OnOk result (self.new ≡ self.old ++ stood ∷ []) }
         ensures err { OnErr result (self.new ≡ self.old) }
@@ -266,6 +270,7 @@ impl Effects {
     }
 
     /// Takes the first effect of this number off, where there is one.
+    #[tactic(auto, using(crate::proofs::StandingLemmas::kept_less))]
     pub(crate) fn take_numbered(&mut self, number: u64) -> Option<Stood>
         ensures taken { result ≡ find (is_numbered number) self.old }
         ensures left { self.new ≡ without_first (is_numbered number) self.old }
@@ -283,6 +288,7 @@ impl Effects {
     }
 
     /// Takes the first effect that is equal to this one off, where there is one.
+    #[tactic(auto, using(crate::proofs::StandingLemmas::kept_less))]
     pub(crate) fn take_equal(&mut self, effect: &Effect) -> Option<Stood>
         ensures taken { result ≡ find (is_effect effect.now) self.old }
         ensures left { self.new ≡ without_first (is_effect effect.now) self.old }
