@@ -80,3 +80,8 @@ noted_new label place old new lacks puts x = puts x ∙ by (number_under x old) 
     by None at b is = refl
     by (Some n) at false is = refl
     by (Some n) at true is = let some : number_under label old ≡ Some n = ap (λ y. number_under y old) (sym ((bytes_decides x label).0 is)) ∙ at in let e : false ≡ true = sym lacks ∙ ap is_some some in absurd cc
+
+-- a list without scripts
+pub none_there : (all scripts : List Script) → all ≡ scripts → length all ≡ 0 → [] ≡ scripts
+none_there [] scripts is none = is
+none_there (s ∷ all) scripts is none = absurd (omega (arith, none))

@@ -154,7 +154,7 @@ fn note_all(all: &[ScriptField], first: &mut NameIndex) -> Result<(), NoMemory>
 }
 
 /// These names, and where the first of each label is.
-fn noted(alloc: Global, all: Vec<ScriptField>) -> Result<Noted, NoMemory>
+fn with_places(alloc: Global, all: Vec<ScriptField>) -> Result<Noted, NoMemory>
     ensures all { IfOk result (λ noted. noted ≡ all.items) }
 {
     let mut first = NameIndex::new(alloc);
@@ -166,15 +166,17 @@ fn noted(alloc: Global, all: Vec<ScriptField>) -> Result<Noted, NoMemory>
 }
 
 /// The names of the resources that these fields hold.
+#[tactic(auto, using(crate::proofs::ScriptLemmas::none_there))]
 pub fn read_scripts(alloc: Global, fields: &[Field]) -> Result<Scripts, NoMemory>
     ensures { IfOk result (λ scripts. scripts ≡ scripts_in (map plain_field fields.now)) }
 {
     let mut all = Vec::new(alloc);
     add_scripts(alloc, fields, &mut all)?;
-    if all.is_empty() {
+    if all.len() == 0 {
+        drop(all);
         return Ok(Scripts { noted: None });
     }
-    let scripts = noted(alloc, all)?;
+    let scripts = with_places(alloc, all)?;
     Ok(Scripts {
         noted: Some(Box::new(alloc, scripts)?),
     })

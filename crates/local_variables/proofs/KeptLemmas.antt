@@ -627,3 +627,13 @@ pub first_of_rest : {X : Type 0} (n : ℕ) (xs : List X) → slice_get (drop n x
 first_of_rest zero xs = refl
 first_of_rest (suc n) [] = refl
 first_of_rest (suc n) (x ∷ xs) = first_of_rest n xs
+
+-- ---- no variables
+
+pub none_left_is : (vars : List Variable) → length vars ≡ 0 → [] ≡ vars
+none_left_is [] none = refl
+none_left_is (v ∷ vars) none = absurd (omega (arith, none))
+
+pub none_distinct : (vars : List Variable) → [] ≡ vars → IsDistinct same_variable vars
+unfolding IsDistinct
+none_distinct vars none = subst (IsDistinct same_variable) none tt

@@ -176,6 +176,7 @@ impl Vars {
     }
 
     /// Lets the memory go where no variable is left.
+    #[tactic(auto, using(crate::proofs::KeptLemmas::none_left_is))]
     fn settle(&mut self)
         ensures same { self.new ≡ self.old }
     {
@@ -188,23 +189,30 @@ impl Vars {
     pub fn delete_int(&mut self, name: &[u8])
         ensures gone { self.new ≡ filter (λ v. not (is_int name.now v)) self.old }
     {
-        if let Some(all) = &mut self.kept {
-            all.delete_int(name);
+        match &mut self.kept {
+            None => {}
+            Some(all) => {
+                all.delete_int(name);
+                self.settle();
+            }
         }
-        self.settle();
     }
 
     /// Takes the string of a name out; the others keep their order.
     pub fn delete_text(&mut self, name: &[u8])
         ensures gone { self.new ≡ filter (λ v. not (is_text name.now v)) self.old }
     {
-        if let Some(all) = &mut self.kept {
-            all.delete_text(name);
+        match &mut self.kept {
+            None => {}
+            Some(all) => {
+                all.delete_text(name);
+                self.settle();
+            }
         }
-        self.settle();
     }
 
     /// No two variables are of one type and name.
+    #[tactic(auto, using(crate::proofs::KeptLemmas::none_distinct))]
     pub fn keeps(&self)
         ensures distinct { IsDistinct same_variable self.now }
     {
