@@ -352,3 +352,7 @@ kept_none next items numbers contents none p q =
 pub ruleset pushes = (kept_more, kept_same, stood_last)
 
 pub ruleset searches = (none_yet, equal_none, equal_next, equal_found, next_below)
+
+pub none_left_is : (all : List Stood) → length all ≡ 0 → [] ≡ all
+none_left_is [] none = refl
+none_left_is (s ∷ all) none = absurd (omega (arith, none))

@@ -96,6 +96,7 @@ impl Standing {
     }
 
     /// Lets the memory go where no effect is left.
+    #[tactic(auto, using(crate::proofs::StandingLemmas::none_left_is))]
     fn settle(&mut self)
         ensures same { self.new ≡ self.old }
     {
@@ -109,12 +110,14 @@ impl Standing {
         ensures taken { result ≡ find (is_numbered number) self.old }
         ensures left { self.new ≡ without_first (is_numbered number) self.old }
     {
-        let taken = match &mut self.kept {
+        match &mut self.kept {
             None => None,
-            Some(all) => all.take_numbered(number),
-        };
-        self.settle();
-        taken
+            Some(all) => {
+                let taken = all.take_numbered(number);
+                self.settle();
+                taken
+            }
+        }
     }
 
     /// Takes the first effect that is equal to this one off, where there is one.
@@ -122,12 +125,14 @@ impl Standing {
         ensures taken { result ≡ find (is_effect effect.now) self.old }
         ensures left { self.new ≡ without_first (is_effect effect.now) self.old }
     {
-        let taken = match &mut self.kept {
+        match &mut self.kept {
             None => None,
-            Some(all) => all.take_equal(effect),
-        };
-        self.settle();
-        taken
+            Some(all) => {
+                let taken = all.take_equal(effect);
+                self.settle();
+                taken
+            }
+        }
     }
 }
 
