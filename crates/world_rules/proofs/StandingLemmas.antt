@@ -236,7 +236,7 @@ next_below key from stamp next items contents under index least = (least.0, stam
 -- ---- what is taken out
 
 -- of the effects in their order, without their stamps
-record IsTaken (test : Stood → Bool) (found : Option Stood) (left items : List (ℕ × Stood)) : Type 0 where
+pub record IsTaken (test : Stood → Bool) (found : Option Stood) (left items : List (ℕ × Stood)) : Type 0 where
   pub taken : found ≡ find test (stood_in items)
   pub left : stood_in left ≡ without_first test (stood_in items)
 
