@@ -137,7 +137,7 @@ fn read_nodes(
     ensures charged { IfOk result (λ nodes. left.old + word_charge * length numbers.now
         ≡ left.new + nodes_charge (nodes_list nodes.items)) }
 {
-    let mut nodes = Vec::with_capacity(alloc, numbers.len())?;
+    let mut nodes = Vec::new(alloc);
     for n in numbers {
         nodes.push(read_node(alloc, view, marks, *n, depth, left)?)?;
     }
