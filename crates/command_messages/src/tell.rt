@@ -1,6 +1,6 @@
 //! The message after a command.
 
-ghost use Rattle.std.specs.Prelude.{◌≡◌, ◌≤◌, length};
+ghost use Rattle.std.specs.Prelude.{◌≡◌, ◌≤◌, length, false};
 ghost use Rattle.nwq_value.specs.Limits.{file_limit};
 
 use crate::asked::{Asking, Lister, include_of, line_of_file};
@@ -16,6 +16,7 @@ use message_sentences::{
     put_memory, put_name, put_no_text, put_sentence, put_usage, put_whole, put_words, same,
     told_by,
 };
+use message_stacks::put_why;
 use message_types::{given_at, put_parameters};
 use nss_lexer::TokenKind;
 use nwq_outside::{Files, Sink};
@@ -227,6 +228,30 @@ fn put_line_message(
     put_end(out, kind_of(flaw), text, at as u32)
 }
 
+/// Appends why the code of a file isn't well stacked under the command's header, and tells whether
+/// a reason was found.
+fn put_stacks<F: Files>(
+    alloc: Global,
+    out: &mut Vec<u8>,
+    inputs: Inputs<'_>,
+    name: &str,
+    files: &mut F,
+) -> bool
+    ensures same { F.contents files.new ≡ F.contents files.old }
+    ensures none { result ≡ false → out.new.items ≡ out.old.items }
+{
+    let Some(header) = inputs.header else {
+        return false;
+    };
+    let Some(table) = table_of(alloc, header, files) else {
+        return false;
+    };
+    match read_named(alloc, name, files) {
+        None => false,
+        Some(bytes) => matches!(put_why(alloc, bytes.as_slice(), &table, out), Ok(true)),
+    }
+}
+
 /// Appends the message on a file that is no source text.
 fn put_flaw_message<F: Files>(
     alloc: Global,
@@ -245,7 +270,10 @@ fn put_flaw_message<F: Files>(
     }
     put_name(out, name.as_bytes())?;
     put_words(out, ": error: ")?;
-    put_flaw(out, flaw)?;
+    let is_told = same(kind_of(flaw), b"unstacked") && put_stacks(alloc, out, inputs, name, files);
+    if !is_told {
+        put_flaw(out, flaw)?;
+    }
     put_kind(out, kind_of(flaw))
 }
 
