@@ -18,6 +18,7 @@ mod asked;
 mod inputs;
 mod kept;
 mod notes;
+mod overwritten;
 mod places;
 mod tell;
 mod units;

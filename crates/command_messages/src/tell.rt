@@ -482,7 +482,7 @@ fn put_notes<F: Files, E: Sink>(
 )
     ensures same { F.contents files.new ≡ F.contents files.old }
 {
-    match notes_on(alloc, inputs_of(command_of(words)), end, files) {
+    match notes_on(alloc, command_of(words), end, files) {
         Ok(text) => put(text.as_slice(), err),
         Err(NoMemory) => {}
     }
