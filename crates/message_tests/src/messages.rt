@@ -197,6 +197,13 @@ const SCRIPTS: &[Refused] = &[
             }\n                      ^\n",
     },
     Refused {
+        bytes: b"void main() { int n = GetLocalInt; }",
+        line: b"refused p.nss 1 22 unknown\n",
+        said: "p.nss:1:23: error: `GetLocalInt` is a routine of the header, and no value: its \
+            arguments in brackets are missing [unknown]\nvoid main() { int n = GetLocalInt; \
+            }\n                      ^\n",
+    },
+    Refused {
         bytes: b"void main() { a..b; }",
         line: b"refused p.nss 1 16 syntax\n",
         said: "p.nss:1:17: error: `.` can't stand here; here could stand a name [syntax]\nvoid \
