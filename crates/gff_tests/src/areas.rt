@@ -323,7 +323,11 @@ fn with_long(alloc: Global) -> Option<Area> {
     let first = set_text(alloc, &mut area, 1, b"s", LONG);
     let second = set_text(alloc, &mut area, 2, b"s", LONG);
     let file = file_of(alloc, area)?;
-    if first && second { area_of(alloc, file.as_slice()).ok() } else { None }
+    if first && second {
+        area_of(alloc, file.as_slice()).ok()
+    } else {
+        None
+    }
 }
 
 #[test]
