@@ -78,7 +78,7 @@ impl<X: Drop> Parts<X> {
     {
         let o = object_at(args, 0);
         if self.is_valid(o) {
-            let text = string_at(self.alloc, args, 2)?;
+            let text = string_at(self.alloc(), args, 2)?;
             self.area.set_text(o, text_at(args, 1), text)
         } else {
             Ok(())
