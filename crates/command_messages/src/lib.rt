@@ -15,6 +15,7 @@
 #![tactic(auto)]
 
 mod asked;
+mod hints;
 mod inputs;
 mod kept;
 mod notes;

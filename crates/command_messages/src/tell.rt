@@ -4,9 +4,10 @@ ghost use Rattle.std.specs.Prelude.{◌≡◌, ◌≤◌, length, false};
 ghost use Rattle.nwq_value.specs.Limits.{file_limit};
 
 use crate::asked::{Asking, Lister, include_of, line_of_file};
+use crate::hints::{put_by_token, put_cause_open};
 use crate::inputs::{Inputs, inputs_of};
 use crate::notes::notes_on;
-use crate::places::{Spot, put_cause, token_at, token_from};
+use crate::places::{Spot, put_cause, token_at};
 use crate::units::{Ask, name_in, put_of_scripts, read_named, scripts_of, table_of};
 use command_words::command_of;
 use command_work::Status;
@@ -36,6 +37,9 @@ pub struct End<'a> {
     pub no_text: Option<&'a [u8]>,
 }
 
+/// The causes that are told by the header's table.
+const CAUSES_BY_HEADER: [&[u8]; 4] = [b"arity", b"mismatch", b"unknown", b"redeclared"];
+
 /// The table of the header, where a cause is told by it.
 fn table_for<F: Files>(
     alloc: Global,
@@ -45,7 +49,7 @@ fn table_for<F: Files>(
 ) -> Option<Table>
     ensures same { F.contents files.new ≡ F.contents files.old }
 {
-    if same(cause, b"arity") || same(cause, b"mismatch") || same(cause, b"unknown") {
+    if CAUSES_BY_HEADER.iter().any(|word| same(cause, word)) {
         table_of(alloc, inputs.header?, files)
     } else {
         None
@@ -75,38 +79,6 @@ fn ask_of<'a>(alloc: Global, spot: Spot<'a>) -> Result<Option<Ask<'a>>, NoMemory
             given,
         })),
         _ => Ok(None),
-    }
-}
-
-/// The routine of the header whose name stands at a place without brackets behind it.
-fn bare_routine<'a>(spot: Spot<'a>, table: Option<&Table>) -> Option<&'a [u8]>
-    requires size { length spot.bytes.now ≤ file_limit }
-    requires place { spot.at ≤ length spot.bytes.now }
-{
-    if !same(spot.cause, b"unknown") {
-        return None;
-    }
-    let token = token_at(spot.bytes, spot.at)?;
-    table?.by_name(token.text)?;
-    match token_from(spot.bytes, token.end) {
-        Some(after) if same(after.text, b"(") => None,
-        _ => Some(token.text),
-    }
-}
-
-/// Appends the sentence for a place by the token there, or by the header for a routine that isn't
-/// called.
-fn put_by_token(out: &mut Vec<u8>, spot: Spot<'_>, table: Option<&Table>) -> Result<(), NoMemory>
-    requires size { length spot.bytes.now ≤ file_limit }
-    requires place { spot.at ≤ length spot.bytes.now }
-{
-    match bare_routine(spot, table) {
-        Some(name) => put_sentence(
-            out,
-            "`%` is a routine of the header, and no value: its arguments in brackets are missing",
-            name,
-        ),
-        None => put_cause(out, spot),
     }
 }
 
@@ -154,11 +126,11 @@ fn put_told<F: Files>(
 {
     let table = table_for(alloc, inputs, spot.cause, files);
     let Some(ask) = ask_of(alloc, spot)? else {
-        return put_by_token(out, spot, table.as_ref());
+        return put_by_token(alloc, out, spot, table.as_ref());
     };
     let scripts = scripts_of(alloc, inputs, files)?;
     if !matches!(ask, Ask::Arity { .. }) {
-        put_cause(out, spot)?;
+        put_cause_open(alloc, out, spot)?;
     }
     let answered = put_of_scripts(
         alloc,
