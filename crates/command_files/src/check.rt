@@ -1,9 +1,11 @@
 ghost use Rattle.std.specs.Prelude.{◌≡◌, ◌++◌, ℕ, length, codes, decimal, IsTrue, IfOk, IfErr};
+ghost use Rattle.std.specs.Prelude.{OnOk};
 ghost use Rattle.stack_rules.specs.Rules.{WellStacked};
 ghost use Rattle.nwq_outside.specs.Outside.{next};
 ghost use Rattle.command_work.specs.Work.{CutsShort};
 ghost use Rattle.command_work.specs.Counts.{Refusing, StopsCode};
 ghost use Rattle.command_work.specs.Calls.{DoesOn, TalliesOn, TalliesPuts, DoesPuts};
+ghost use Rattle.command_sources.specs.Reads.{header_read};
 ghost use Rattle.command_files.specs.Checks.{checked_in, checked_named, plain_checked_answer};
 ghost use Rattle.command_files.specs.Checks.{passed_line, puts_passed, checks_under, checks};
 ghost use Rattle.command_files.specs.Checks.{KeepsTable, StopsCheck};
@@ -101,6 +103,7 @@ fn check_under<F: Files, S: Sink>(
         (checks_under name.now table.now) files.old out.old result files.new out.new }
     ensures counts { TalliesOn F.counts S.faults result files.old out.old files.new out.new }
     ensures same { F.contents files.new ≡ F.contents files.old }
+    ensures once { F.reads files.new ≡ next (F.reads files.old) }
     ensures only { IfErr result StopsCode }
 {
     match read_checked(alloc, table, name, files, out) {
@@ -122,6 +125,9 @@ pub fn check_file<F: Files, S: Sink>(
         (checks header.now name.now) files.old out.old result files.new out.new }
     ensures counts { TalliesOn F.counts S.faults result files.old out.old files.new out.new }
     ensures same { F.contents files.new ≡ F.contents files.old }
+    // The header is read, unless it is the built-in one, and then the file, once.
+    ensures once { OnOk result
+        (F.reads files.new ≡ next (header_read header.now (F.reads files.old))) }
     ensures only { IfErr result StopsCheck }
 {
     match read_table(alloc, header, files, out) {
