@@ -44,5 +44,3 @@ module _ (name : List ℕ) (s : Parts) where
 
 pub cut_refuses : (status : Status) → CutsShort status → Refusing Area status
 cut_refuses status cut = inr cut
-
-pub ruleset writes = (state_put, state_large, state_cut, cut_refuses)
