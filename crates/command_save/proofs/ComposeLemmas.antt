@@ -10,6 +10,7 @@ use Rattle.world_rules.specs.Plays as plays
 use Rattle.world_rules.specs.Plays.{Bounds, Runner, Progress, Played, plays as plays_from, unplayed}
 use Rattle.machine_rules.specs.Machine.{Script, Host}
 use Rattle.module_player.specs.CodePlays.{code_runner, code_play_on}
+use Rattle.state_format.specs.Fields.{parts_bytes}
 use Rattle.state_format.specs.declared.parts.Parts.{Parts}
 use Rattle.play_save.specs.Rules.{IsHeaderOf}
 use Rattle.play_save.specs.States.{resting, IsWorldOf}
@@ -17,8 +18,8 @@ use Rattle.command_plays.specs.Plays.{host_of, played_first}
 use Rattle.command_save.specs.declared.inputs.HeaderFile.{HeaderFile}
 use Rattle.command_save.specs.Saves.{IsStateAt}
 use Rattle.command_save.specs.Resumes.{Going, GoesFrom, played_further}
-use Rattle.command_save.specs.Laws.{SavesCompose}
-use Rattle.command_save.proofs.OneState.{OneLaws, one_going}
+use Rattle.command_save.specs.Laws.{SameStates, SavesCompose}
+use Rattle.command_save.proofs.OneState.{OneLaws, one_saved, one_going}
 use Rattle.command_save.proofs.GoingLemmas.{stops_same, stays_quiet, upto, rests_upto, left_of, left_upto}
 use Rattle.command_save.proofs.SavedLemmas.{going, goes_from}
 
@@ -41,6 +42,15 @@ state_too header file plan scripts p q t same is = record {
   come = record { taken = is.come.taken ∙ same.entries; done = is.come.done ∙ same.count };
   world = subst (IsWorldOf t) same.world is.world;
 }
+
+same_states : OneLaws → (header : HeaderFile) (file : List ℕ) (plan : Plan) (scripts : List Script) (p q : Progress Saved) → StandsAs p q → SameStates header file plan scripts p q
+same_states laws header file plan scripts p q same =
+    let there = λ t is. state_too header file plan scripts p q t same is in
+    let back = λ t is. state_too header file plan scripts q p t (stands_back p q same) is in
+    record {
+      alike = λ t. (there t, back t);
+      bytes = λ t u is too. ap parts_bytes (one_saved laws header file plan scripts p t u is (back u too));
+    }
 
 min_below : (n k : ℕ) → min n k ≤ k
 min_below n k = omega arith
@@ -109,12 +119,10 @@ module _ (laws : OneLaws) (cell : CellLookup) (header : HeaderFile) (file : List
       ∙ ap (λ (k : ℕ). code_play_on (host_of cell header.table scripts) plan.limit plan.entries plan.until (min total plan.entries) p.entries k (resting p.world)) is.come.done
 
 pub saves_compose : OneLaws → SavesCompose
-saves_compose laws cell header file plan scripts n m w headed quiet inside s is g goes t =
+saves_compose laws cell header file plan scripts n m w headed quiet inside s is g goes =
     let p = (played_first cell header.table plan scripts n w).last in
     let same = stands_on cell header.table plan scripts n m w quiet inside in
     let further = further_is laws cell header file plan scripts p s headed is (n + m) g goes in
     let alike : StandsAs (played_first cell header.table plan scripts (n + m) w).last (played_further cell s g (n + m)).last =
-    subst (λ (q : Played Saved). StandsAs (played_first cell header.table plan scripts (n + m) w).last q.last) (sym further) same in (
-      state_too header file plan scripts (played_first cell header.table plan scripts (n + m) w).last (played_further cell s g (n + m)).last t alike,
-      state_too header file plan scripts (played_further cell s g (n + m)).last (played_first cell header.table plan scripts (n + m) w).last t (stands_back _ _ alike),
-    )
+    subst (λ (q : Played Saved). StandsAs (played_first cell header.table plan scripts (n + m) w).last q.last) (sym further) same in
+    same_states laws header file plan scripts (played_first cell header.table plan scripts (n + m) w).last (played_further cell s g (n + m)).last alike

@@ -17,10 +17,11 @@ use Rattle.machine_rules.specs.Machine.{Script}
 use Rattle.stack_rules.specs.Fits.{Tables}
 use Rattle.stack_rules.specs.Laws.{AllMeet}
 use Rattle.world_rules.specs.World.{World}
-use Rattle.world_rules.specs.Plays.{Runner, Played, StoppedInside}
+use Rattle.world_rules.specs.Plays.{Runner, Progress, Played, StoppedInside}
 use Rattle.world_rules.specs.GoingOn.{continued}
 use Rattle.ncs_machine.specs.Stored.{StatesFit}
 use Rattle.module_player.specs.CodePlays.{code_runner}
+use Rattle.state_format.specs.Fields.{parts_bytes}
 use Rattle.state_format.specs.declared.parts.Parts.{Parts}
 use Rattle.play_save.specs.Rules.{IsAccepted, IsHeaderOf}
 use Rattle.command_plays.specs.Plays.{host_of, plan_played, played_first}
@@ -61,14 +62,19 @@ SavedPlaysGoOn = (cell : CellLookup) (header area plan name to : List ℕ) (n : 
 
 -- ---- saves compose
 
+-- A state is one of the first play where it stands exactly if it is one of the second; and a state
+-- of the one has the bytes of that of the other.
+pub record SameStates (header : HeaderFile) (file : List ℕ) (plan : Plan) (scripts : List Script) (p q : Progress Saved) : Type 0 where
+  pub alike : (t : Parts) → IsStateAt header file plan scripts p t ↔ IsStateAt header file plan scripts q t
+  pub bytes : (t u : Parts) → IsStateAt header file plan scripts p t → IsStateAt header file plan scripts q u → parts_bytes t ≡ parts_bytes u
+
 -- The state after n and m entries is the state after m more entries of the play that the state after
--- n tells: byte for byte, since a state of a play has one list of bytes.
+-- n tells, byte for byte.
 abbrev pub SavesCompose : Type 0
 SavesCompose = (cell : CellLookup) (header : HeaderFile) (file : List ℕ) (plan : Plan) (scripts : List Script) (n m : ℕ) (w : World Saved)
     → IsHeaderOf header.text header.table → w.trace ≡ [] → (played_first cell header.table plan scripts n w).ending ≢ StoppedInside
     → (s : Parts) → IsStateAt header file plan scripts (played_first cell header.table plan scripts n w).last s → (g : Going) → GoesFrom s g
-    → (t : Parts) → IsStateAt header file plan scripts (played_first cell header.table plan scripts (n + m) w).last t
-    ↔ IsStateAt header file plan scripts (played_further cell s g (n + m)).last t
+    → SameStates header file plan scripts (played_first cell header.table plan scripts (n + m) w).last (played_further cell s g (n + m)).last
 
 -- ---- the parts of the work by themselves
 
