@@ -75,20 +75,23 @@ module _ (cell : CellLookup) (table : EngineTable) (plan : Plan) (scripts : List
   front = plays_from runner bounds (min n plan.entries) (unplayed w)
 
   front_is : first ≡ front
-  front_is = stops_same runner plan.entries plan.until (min n plan.entries) plan.entries (min n plan.entries) (unplayed w)
+  front_is =
+      let none : min n plan.entries - 0 ≡ min n plan.entries = omega arith in
+      stops_same runner plan.entries plan.until (min n plan.entries) plan.entries (min n plan.entries - 0) (unplayed w)
+      ∙ ap (λ (k : ℕ). plays_from runner bounds k (unplayed w)) none
 
   abbrev more : Progress Saved → Played Saved
   more p = code_play_on (host_of cell table scripts) plan.limit plan.entries plan.until total p.entries p.count (resting p.world)
 
   whole_is : played_first cell table plan scripts (n + m) w ≡ upto runner bounds total (unplayed w)
-  whole_is = stops_same runner plan.entries plan.until total plan.entries total (unplayed w)
+  whole_is = stops_same runner plan.entries plan.until total plan.entries (total - 0) (unplayed w)
 
   more_is : (p : Progress Saved) → upto runner bounds total (left_of runner bounds p) ≡ more p
   more_is p = stops_same runner plan.entries plan.until plan.entries total (total - p.entries) (left_of runner bounds p)
 
   stands : front.ending ≢ plays.StoppedInside → StandsAs (played_first cell table plan scripts (n + m) w).last (more front.last).last
   stands inside =
-      let on = rests_upto runner bounds total (min n plan.entries) (unplayed w) (min_below n plan.entries) (min_more n m plan.entries) inside in
+      let on = rests_upto runner bounds total (min n plan.entries) (unplayed w) (omega (arith, min_below n plan.entries)) (omega (arith, min_more n m plan.entries)) inside in
       let rest = left_upto runner bounds total front.last (stays_quiet runner bounds (min n plan.entries) (unplayed w) quiet) in
       let whole = whole_is ∙ on ∙ rest.is in
       let after : Played Saved = upto runner bounds total (left_of runner bounds front.last) in
