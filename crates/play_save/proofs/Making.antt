@@ -109,11 +109,6 @@ item_made (Do s) room =
 item_made (Wait ms) room = record { same = refl; form = λ small. room; short = refl }
 item_made (Speak text) room = record { same = refl; form = λ small. text_blob text room; short = short_text text room.0 }
 
-pub parts_count : (os : List AreaObject) (ts : List (Things Saved)) → length ts ≡ length os → length (object_parts os ts) ≡ length os
-parts_count [] ts same = refl
-parts_count (o ∷ os) [] same = absurd (omega (arith, same))
-parts_count (o ∷ os) (t ∷ ts) same = let rest = parts_count os ts (omega (arith, same)) in omega (arith, rest)
-
 -- parts tell objects, and can be written where they are small
 pub record AreMade (os : List AreaObject) (ts : List (Things Saved)) (parts : List Object) : Type 0 where
   pub told : TellObjects os ts parts

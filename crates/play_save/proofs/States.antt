@@ -50,7 +50,8 @@ use Rattle.play_save.proofs.Saving.{world_saved, world_too}
 use Rattle.play_save.proofs.FileBytes.{name_blob, file_blob}
 use Rattle.play_save.proofs.Sizes.{objects_form, agenda_form}
 use Rattle.state_parts.specs.Told.{object_parts, entry_part}
-use Rattle.play_save.proofs.Making.{AreMade, AreEntries, objects_made, parts_count, entries_made, all_ready}
+use Rattle.play_save.proofs.Telling.{parts_count}
+use Rattle.play_save.proofs.Making.{AreMade, AreEntries, objects_made, entries_made, all_ready}
 
 -- ---- tables of shapes, by the numbers of scripts
 

@@ -57,6 +57,11 @@ all_code (l ∷ ls) all = (all.0.1, all_code ls all.1)
 
 -- ---- objects
 
+pub parts_count : (os : List AreaObject) (ts : List (Things Saved)) → length ts ≡ length os → length (object_parts os ts) ≡ length os
+parts_count [] ts same = refl
+parts_count (o ∷ os) [] same = absurd (omega (arith, same))
+parts_count (o ∷ os) (t ∷ ts) same = let rest = parts_count os ts (omega (arith, same)) in omega (arith, rest)
+
 parts_more : (os : List AreaObject) (ts : List (Things Saved)) (i : ℕ) (t : Things Saved) → i < length os → i < length ts → t ≡ get_or ts i t
     → object_parts (take (suc i) os) (take (suc i) ts) ≡ object_parts (take i os) (take i ts) ++ object_with (object_at os i).vars t ∷ []
 parts_more [] ts i t ho ht at = absurd (omega arith)

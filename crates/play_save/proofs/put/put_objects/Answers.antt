@@ -3,7 +3,7 @@ use Rattle.std.proofs.lemmas.Result.{on_ok_weaker}
 use Rattle.state_format.specs.Fields.{object_fields}
 use Rattle.state_format.specs.WritingLemmas.{put_listed}
 use Rattle.state_parts.specs.Told.{object_parts}
-use Rattle.play_save.proofs.Making.{parts_count}
+use Rattle.play_save.proofs.Telling.{parts_count}
 use Rattle.play_save.proofs.put.put_objects.Goals as goal
 
 pub returns-clause-put : goal.returns-clause-put
