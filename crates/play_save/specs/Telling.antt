@@ -67,19 +67,19 @@ pub record FitNumbers (n : Numbers) : Type 0 where
   pub done : IsNumber 8 n.done
   pub next : IsNumber 8 n.next
 
-pub record IsFrontTold (header : Option (List ℕ)) (scripts : List Loaded) (file : List ℕ) (n : Numbers) : Type 0 where
-  pub header : IsMaybe IsBlob header
-  pub code : AllByRecursion (λ (l : Loaded). IsCode l.code.code) scripts
-  pub scripts : IsList IsScript (script_parts scripts)
-  pub file : IsBlob file
+pub record IsFrontTold (heading : Option (List ℕ)) (listed : List Loaded) (bytes : List ℕ) (n : Numbers) : Type 0 where
+  pub header : IsMaybe IsBlob heading
+  pub code : AllByRecursion (λ (l : Loaded). IsCode l.code.code) listed
+  pub scripts : IsList IsScript (script_parts listed)
+  pub file : IsBlob bytes
   pub numbers : FitNumbers n
 
-pub record IsBackTold (random : List ℕ) (objects : List AreaObject) (things : List (Things Saved)) (entries : List (Entry Saved)) : Type 0 where
-  pub random : IsList (IsNumber 4) random
-  pub few_objects : IsNumber 4 (length (object_parts objects things))
-  pub objects : AreObjectsOf objects things (object_parts objects things)
-  pub few_entries : IsNumber 4 (length (map entry_part entries))
-  pub entries : ArePartsOf entry_of IsEntry is_short_entry entries (map entry_part entries)
+pub record IsBackTold (left : List ℕ) (placed : List AreaObject) (things : List (Things Saved)) (waiting : List (Entry Saved)) : Type 0 where
+  pub random : IsList (IsNumber 4) left
+  pub few_objects : IsNumber 4 (length (object_parts placed things))
+  pub objects : AreObjectsOf placed things (object_parts placed things)
+  pub few_entries : IsNumber 4 (length (map entry_part waiting))
+  pub entries : ArePartsOf entry_of IsEntry is_short_entry waiting (map entry_part waiting)
 
 pub record IsTold (p : Resting) : Type 0 where
   pub front : IsFrontTold (option_map (λ text. text.items) p.header.now) p.scripts.now p.file.now p.numbers
