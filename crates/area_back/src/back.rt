@@ -20,7 +20,8 @@ ghost use Rattle.area_back.specs.Back.{tree_back};
 use area_tree::{Area, Object, Told, list_label, told_by};
 use gff_tree::{Gff, Label, Leaf, Node, fields_tell};
 use local_variables::{Var, Vars, variables_tell};
-use nwq_value::{Items, NoMemory};
+use nwq_value::NoMemory;
+use shared_bytes::SharedBytes;
 use std::alloc::Global;
 
 /// The label of a text that is one.
@@ -37,7 +38,7 @@ fn label(text: &[u8]) -> Label
 fn string_leaf(alloc: Global, text: &[u8]) -> Result<Leaf, NoMemory>
     ensures { IfOk result (λ leaf. plain_leaf leaf ≡ Holds (Str text.now)) }
 {
-    Ok(Leaf::Str(Items::of_slice(alloc, text)?))
+    Ok(Leaf::Str(SharedBytes::of_slice(alloc, text)?))
 }
 
 fn name_leaf(alloc: Global, v: Var<'_>) -> Result<Leaf, NoMemory>
@@ -49,12 +50,22 @@ fn name_leaf(alloc: Global, v: Var<'_>) -> Result<Leaf, NoMemory>
     }
 }
 
-fn value_leaf(alloc: Global, v: Var<'_>) -> Result<Leaf, NoMemory>
+/// The string of a variable, which shares its bytes where that is among these.
+fn text_leaf(alloc: Global, vars: &Vars, name: &[u8], text: &[u8]) -> Result<Leaf, NoMemory>
+    ensures { IfOk result (λ leaf. plain_leaf leaf ≡ Holds (Str text.now)) }
+{
+    match vars.string(name) {
+        Some(own) if own.as_slice() == text => Ok(Leaf::Str(own.copy(alloc)?)),
+        _ => string_leaf(alloc, text),
+    }
+}
+
+fn value_leaf(alloc: Global, vars: &Vars, v: Var<'_>) -> Result<Leaf, NoMemory>
     ensures { IfOk result (λ leaf. plain_leaf leaf ≡ value_of (variable_of v.entry)) }
 {
     match v {
         Var::Int(_, n) => Ok(Leaf::Int(n)),
-        Var::Text(_, text) => string_leaf(alloc, text),
+        Var::Text(name, text) => text_leaf(alloc, vars, name, text),
     }
 }
 
@@ -68,23 +79,23 @@ fn type_number(v: Var<'_>) -> u32
 }
 
 /// Puts the three fields of an entry last.
-fn fill_entry(alloc: Global, v: Var<'_>, entry: &mut Node) -> Result<(), NoMemory>
+fn fill_entry(alloc: Global, vars: &Vars, v: Var<'_>, entry: &mut Node) -> Result<(), NoMemory>
     requires { plain_node entry.old ≡ node_from 0 [] }
     ensures { OnOk result (plain_node entry.new ≡ new_entry (variable_of v.entry)) }
 {
     let name = name_leaf(alloc, v)?;
     entry.append(label(b"Name".as_slice()), name)?;
     entry.append(label(b"Type".as_slice()), Leaf::Dword(type_number(v)))?;
-    let value = value_leaf(alloc, v)?;
+    let value = value_leaf(alloc, vars, v)?;
     entry.append(label(b"Value".as_slice()), value)
 }
 
-/// The entry of a variable that the table didn't have.
-fn entry_for(alloc: Global, v: Var<'_>) -> Result<Node, NoMemory>
+/// The entry of a variable, one of these, that the table didn't have.
+fn entry_for(alloc: Global, vars: &Vars, v: Var<'_>) -> Result<Node, NoMemory>
     ensures { IfOk result (λ entry. plain_node entry ≡ new_entry (variable_of v.entry)) }
 {
     let mut entry = Node::new(0, Vec::new(alloc));
-    match fill_entry(alloc, v, &mut entry) {
+    match fill_entry(alloc, vars, v, &mut entry) {
         Ok(()) => Ok(entry),
         Err(e) => {
             drop(entry);
@@ -124,7 +135,7 @@ fn current_leaf(alloc: Global, vars: &Vars, v: Var<'_>) -> Result<Leaf, NoMemory
 {
     match v {
         Var::Int(name, _) => Ok(Leaf::Int(vars.int(name))),
-        Var::Text(name, _) => string_leaf(alloc, vars.text(name)),
+        Var::Text(name, _) => text_leaf(alloc, vars, name, vars.text(name)),
     }
 }
 
@@ -194,9 +205,10 @@ fn add_told(entries: &[Node], told: &mut Vars) -> Result<(), NoMemory>
     Ok(())
 }
 
-/// Puts an entry last for a variable that isn't among these.
+/// Puts an entry last for a variable of an object that isn't among those that were told.
 fn add_other(
     alloc: Global,
+    vars: &Vars,
     v: Var<'_>,
     told: &Vars,
     entries: &mut Vec<Node>,
@@ -208,7 +220,7 @@ fn add_other(
     if told.contains(v) {
         return Ok(());
     }
-    let entry = entry_for(alloc, v)?;
+    let entry = entry_for(alloc, vars, v)?;
     entries.push(entry)?;
     Ok(())
 }
@@ -225,7 +237,7 @@ fn add_others(
 {
     let mut walk = vars.walk();
     while let Some(v) = walk.next() {
-        add_other(alloc, v, told, entries)?;
+        add_other(alloc, vars, v, told, entries)?;
     }
     Ok(())
 }

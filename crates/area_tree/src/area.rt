@@ -17,6 +17,7 @@ use area_rules::{AreaFault, objects_tell};
 use gff_tree::{Gff, Node};
 use local_variables::{Vars, variables_tell};
 use nwq_value::NoMemory;
+use shared_bytes::SharedBytes;
 use std::alloc::Global;
 use std::marker::Model;
 
@@ -187,10 +188,10 @@ impl Area {
     }
 
     /// Gives a string variable of an object a value, in its place, or puts it last.
-    pub fn set_text(&mut self, o: u32, name: &[u8], v: &[u8]) -> Result<(), NoMemory>
+    pub fn set_text(&mut self, o: u32, name: &[u8], v: SharedBytes) -> Result<(), NoMemory>
         requires first { 1 ≤ o }
         requires within { o ≤ length self.old.objects }
-        ensures ok { OnOk result (self.new ≡ changed self.old o (put (TextVar name.now v.now))) }
+        ensures ok { OnOk result (self.new ≡ changed self.old o (put (TextVar name.now v))) }
         ensures err { OnErr result (self.new ≡ self.old) }
     {
         variables_tell();

@@ -22,14 +22,15 @@ use crate::scripts::{Scripts, read_scripts};
 use area_rules::AreaFault;
 use gff_tree::{Leaf, Node};
 use local_variables::{Var, Vars};
-use nwq_value::{Items, NoMemory};
+use nwq_value::NoMemory;
+use shared_bytes::SharedBytes;
 use std::alloc::Global;
 use std::marker::Model;
 use std::mem;
 
 /// One object of an area.
 pub struct Object {
-    tag: Items<u8>,
+    tag: SharedBytes,
     vars: Vars,
     scripts: Scripts,
 }
@@ -80,8 +81,8 @@ impl Object {
     }
 
     /// Gives a string a value, in its place, or puts it last.
-    pub(crate) fn set_text(&mut self, name: &[u8], text: &[u8]) -> Result<(), NoMemory>
-        ensures ok { OnOk result (self.new ≡ with_vars (put (TextVar name.now text.now)) self.old) }
+    pub(crate) fn set_text(&mut self, name: &[u8], text: SharedBytes) -> Result<(), NoMemory>
+        ensures ok { OnOk result (self.new ≡ with_vars (put (TextVar name.now text)) self.old) }
         ensures err { OnErr result (self.new ≡ self.old) }
     {
         self.vars.set_text(name, text)
@@ -277,14 +278,14 @@ fn read_tag(
     list: u8,
     member: u32,
     tag: Option<&Leaf>,
-) -> Result<Items<u8>, AreaFault>
+) -> Result<SharedBytes, AreaFault>
     ensures { Reads result (tag_places list member (leaf_in tag.entry))
         (tag_in (leaf_in tag.entry)) }
 {
     match tag {
-        None => Ok(Items::new(alloc)),
-        Some(Leaf::Str(text)) => Ok(Items::of_slice(alloc, text.as_slice())?),
-        Some(Leaf::Res(text)) => Ok(Items::of_slice(alloc, text.as_slice())?),
+        None => Ok(SharedBytes::new(alloc)),
+        Some(Leaf::Str(text)) => Ok(text.copy(alloc)?),
+        Some(Leaf::Res(text)) => Ok(SharedBytes::of_slice(alloc, text.as_slice())?),
         Some(_) => Err(AreaFault::Shape {
             list,
             member,

@@ -12,6 +12,8 @@ mod instructions;
 #[cfg(test)]
 mod passed;
 #[cfg(test)]
+mod reasons;
+#[cfg(test)]
 mod unstacked;
 #[cfg(test)]
 mod windows;

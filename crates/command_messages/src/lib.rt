@@ -15,9 +15,11 @@
 #![tactic(auto)]
 
 mod asked;
+mod hints;
 mod inputs;
 mod kept;
 mod notes;
+mod overwritten;
 mod places;
 mod tell;
 mod units;

@@ -1,11 +1,13 @@
-//! Notes on a play that did its work.
+//! Notes on a command that did its work.
 
 ghost use Rattle.std.specs.Prelude.{◌≡◌, ◌≤◌, length};
 ghost use Rattle.nwq_value.specs.Limits.{file_limit};
 
-use crate::inputs::Inputs;
+use crate::inputs::{Inputs, inputs_of};
+use crate::overwritten::put_overwritten;
 use crate::tell::End;
 use crate::units::{read_named, scripts_of, table_of};
+use command_words::Command;
 use message_notes::{Input, put_play_notes};
 use message_sentences::{put_note, same};
 use nss_include::{Unit, gather};
@@ -268,28 +270,42 @@ fn put_run_notes<F: Files>(
     put_random_note(alloc, out, inputs, name.as_slice(), files)
 }
 
-/// The notes on a command that played what it reads, for standard error.
+/// Appends the notes on a command that played what it reads.
+fn put_played<F: Files>(
+    alloc: Global,
+    out: &mut Vec<u8>,
+    inputs: Inputs<'_>,
+    end: End<'_>,
+    files: &mut F,
+) -> Result<(), NoMemory>
+    ensures same { F.contents files.new ≡ F.contents files.old }
+{
+    if let Some(script) = inputs.script {
+        put_run_notes(alloc, out, inputs, script, files)?;
+    }
+    match (inputs.area, inputs.plan, inputs.state) {
+        (Some(area), Some(plan), _) => put_plan_notes(alloc, out, inputs, end, area, plan, files),
+        (_, _, Some(state)) => put_rest_notes(alloc, out, end, state, files),
+        _ => Ok(()),
+    }
+}
+
+/// The notes on a command that did its work, for standard error.
 pub(crate) fn notes_on<F: Files>(
     alloc: Global,
-    inputs: Inputs<'_>,
+    command: Command<'_>,
     end: End<'_>,
     files: &mut F,
 ) -> Result<Vec<u8>, NoMemory>
     ensures same { F.contents files.new ≡ F.contents files.old }
 {
     let mut out = Vec::new(alloc);
-    if !inputs.plays {
-        return Ok(out);
+    let inputs = inputs_of(command);
+    if inputs.plays {
+        put_played(alloc, &mut out, inputs, end, files)?;
     }
-    if let Some(script) = inputs.script {
-        put_run_notes(alloc, &mut out, inputs, script, files)?;
-    }
-    match (inputs.area, inputs.plan, inputs.state) {
-        (Some(area), Some(plan), _) => {
-            put_plan_notes(alloc, &mut out, inputs, end, area, plan, files)?;
-        }
-        (_, _, Some(state)) => put_rest_notes(alloc, &mut out, end, state, files)?,
-        _ => {}
+    if end.number == 0 {
+        put_overwritten(alloc, &mut out, command, files)?;
     }
     Ok(out)
 }

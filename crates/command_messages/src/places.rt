@@ -5,6 +5,7 @@ ghost use Rattle.std.specs.List.{AllByRecursion};
 ghost use Rattle.nwq_value.specs.Limits.{file_limit, token_limit};
 ghost use Rattle.nss_lexer.specs.Lexemes.{IsToken};
 
+use crate::hints::put_no_name;
 use message_sentences::{bad_sentence, end_sentence, put_sentence, put_words, same, sentence_of};
 use message_tokens::{candidates, following};
 use nss_lexer::{Lexed, Token, next};
@@ -93,7 +94,11 @@ pub(crate) fn put_following(
 {
     let tried = candidates(alloc)?;
     let able = following(alloc, tokens, at, tried.as_slice())?;
-    put_able(out, able.as_slice())
+    put_able(out, able.as_slice())?;
+    match tokens.get(at) {
+        Some(token) => put_no_name(out, *token, able.as_slice()),
+        None => Ok(()),
+    }
 }
 
 /// Appends the sentence for a place at which a token stands.

@@ -1,9 +1,10 @@
 //! The message after a command.
 
-ghost use Rattle.std.specs.Prelude.{◌≡◌, ◌≤◌, length};
+ghost use Rattle.std.specs.Prelude.{◌≡◌, ◌≤◌, length, false};
 ghost use Rattle.nwq_value.specs.Limits.{file_limit};
 
 use crate::asked::{Asking, Lister, include_of, line_of_file};
+use crate::hints::{put_by_token, put_cause_open};
 use crate::inputs::{Inputs, inputs_of};
 use crate::notes::notes_on;
 use crate::places::{Spot, put_cause, token_at};
@@ -16,6 +17,7 @@ use message_sentences::{
     put_memory, put_name, put_no_text, put_sentence, put_usage, put_whole, put_words, same,
     told_by,
 };
+use message_stacks::put_why;
 use message_types::{given_at, put_parameters};
 use nss_lexer::TokenKind;
 use nwq_outside::{Files, Sink};
@@ -35,6 +37,9 @@ pub struct End<'a> {
     pub no_text: Option<&'a [u8]>,
 }
 
+/// The causes that are told by the header's table.
+const CAUSES_BY_HEADER: [&[u8]; 4] = [b"arity", b"mismatch", b"unknown", b"redeclared"];
+
 /// The table of the header, where a cause is told by it.
 fn table_for<F: Files>(
     alloc: Global,
@@ -44,7 +49,7 @@ fn table_for<F: Files>(
 ) -> Option<Table>
     ensures same { F.contents files.new ≡ F.contents files.old }
 {
-    if same(cause, b"arity") || same(cause, b"mismatch") {
+    if CAUSES_BY_HEADER.iter().any(|word| same(cause, word)) {
         table_of(alloc, inputs.header?, files)
     } else {
         None
@@ -121,11 +126,11 @@ fn put_told<F: Files>(
 {
     let table = table_for(alloc, inputs, spot.cause, files);
     let Some(ask) = ask_of(alloc, spot)? else {
-        return put_cause(out, spot);
+        return put_by_token(alloc, out, spot, table.as_ref());
     };
     let scripts = scripts_of(alloc, inputs, files)?;
     if !matches!(ask, Ask::Arity { .. }) {
-        put_cause(out, spot)?;
+        put_cause_open(alloc, out, spot)?;
     }
     let answered = put_of_scripts(
         alloc,
@@ -227,6 +232,30 @@ fn put_line_message(
     put_end(out, kind_of(flaw), text, at as u32)
 }
 
+/// Appends why the code of a file isn't well stacked under the command's header, and tells whether
+/// a reason was found.
+fn put_stacks<F: Files>(
+    alloc: Global,
+    out: &mut Vec<u8>,
+    inputs: Inputs<'_>,
+    name: &str,
+    files: &mut F,
+) -> bool
+    ensures same { F.contents files.new ≡ F.contents files.old }
+    ensures none { result ≡ false → out.new.items ≡ out.old.items }
+{
+    let Some(header) = inputs.header else {
+        return false;
+    };
+    let Some(table) = table_of(alloc, header, files) else {
+        return false;
+    };
+    match read_named(alloc, name, files) {
+        None => false,
+        Some(bytes) => matches!(put_why(alloc, bytes.as_slice(), &table, out), Ok(true)),
+    }
+}
+
 /// Appends the message on a file that is no source text.
 fn put_flaw_message<F: Files>(
     alloc: Global,
@@ -245,7 +274,10 @@ fn put_flaw_message<F: Files>(
     }
     put_name(out, name.as_bytes())?;
     put_words(out, ": error: ")?;
-    put_flaw(out, flaw)?;
+    let is_told = same(kind_of(flaw), b"unstacked") && put_stacks(alloc, out, inputs, name, files);
+    if !is_told {
+        put_flaw(out, flaw)?;
+    }
     put_kind(out, kind_of(flaw))
 }
 
@@ -454,7 +486,7 @@ fn put_notes<F: Files, E: Sink>(
 )
     ensures same { F.contents files.new ≡ F.contents files.old }
 {
-    match notes_on(alloc, inputs_of(command_of(words)), end, files) {
+    match notes_on(alloc, command_of(words), end, files) {
         Ok(text) => put(text.as_slice(), err),
         Err(NoMemory) => {}
     }

@@ -2,4 +2,5 @@ pub mod Headers
 pub mod Units
 pub mod Scripts
 pub mod Reading
+pub mod Reads
 pub mod Laws

@@ -2,10 +2,12 @@ ghost use Rattle.std.specs.Prelude.{◌≡◌, ◌≤◌, ℕ, List, length, IsT
 ghost use Rattle.std.specs.Prelude.{bytes_eq, codes};
 ghost use Rattle.nwq_value.specs.Limits.{file_limit};
 ghost use Rattle.nwq_value.specs.Engine.{EngineTable};
+ghost use Rattle.nwq_outside.specs.Outside.{next};
 ghost use Rattle.engine_table.specs.Headers.{HasTable, IsRefused, IsWithin};
 ghost use Rattle.command_work.specs.Counts.{Refusing, StopsSource};
 ghost use Rattle.command_work.specs.Calls.{DoesOn, TalliesOn, TalliesPuts, TalliesStop, DoesPuts};
 ghost use Rattle.command_sources.specs.Headers.{table_in, table_named, table_of_word};
+ghost use Rattle.command_sources.specs.Reads.{header_read};
 
 use command_work::{Cause, Status, read_file, refuse_at};
 use engine_table::{HeaderFault, built_in, read_header};
@@ -76,6 +78,7 @@ fn table_of_file<F: Files, S: Sink>(
         (table_named name.now) files.old out.old result files.new out.new }
     ensures counts { TalliesOn F.counts S.faults result files.old out.old files.new out.new }
     ensures same { F.contents files.new ≡ F.contents files.old }
+    ensures once { F.reads files.new ≡ next (F.reads files.old) }
     ensures only { IfErr result StopsSource }
 {
     match read_file(alloc, name, files, out) {
@@ -103,6 +106,7 @@ pub fn read_table<F: Files, S: Sink>(
         (table_of_word header.now) files.old out.old result files.new out.new }
     ensures counts { TalliesOn F.counts S.faults result files.old out.old files.new out.new }
     ensures same { F.contents files.new ≡ F.contents files.old }
+    ensures once { F.reads files.new ≡ header_read header.now (F.reads files.old) }
     ensures only { IfErr result StopsSource }
 {
     if !is_dash(header) {

@@ -1,5 +1,5 @@
 ghost use Rattle.std.specs.Prelude.{◌≡◌, ◌<◌, ◌≤◌, ℕ, List, length, map, slice_get, IsTrue, IfErr};
-ghost use Rattle.std.specs.Prelude.{IfOk};
+ghost use Rattle.std.specs.Prelude.{IfOk, OnOk};
 ghost use Rattle.std.specs.Prelude.{Err, Some, None};
 ghost use Rattle.nwq_outside.specs.Outside.{Contents, content};
 ghost use Rattle.nss_include.specs.Units.{IsUnit};
@@ -13,6 +13,7 @@ ghost use Rattle.command_work.specs.Parts.{Refuses};
 ghost use Rattle.command_work.specs.Counts.{Counted, TalliesEnd, Refusing, StopsSource};
 ghost use Rattle.command_work.specs.Calls.{DoesOn, TalliesOn, TalliesPuts, TalliesStop};
 ghost use Rattle.command_sources.specs.Reading.{HasFault, HasTree, IsCounted};
+ghost use Rattle.command_sources.specs.Reads.{ReadsUnit};
 ghost use Rattle.command_sources.specs.Scripts.{plain_script_answer};
 ghost use Rattle.command_sources.specs.Units.{spot_at, spot_of, at_spot, unit_of};
 
@@ -177,6 +178,8 @@ pub fn read_unit<F: Files, S: Sink>(
     ensures tree { IfOk result (λ script. HasTree script.unit (plain_tree script.tree)) }
     ensures counts { TalliesOn F.counts S.faults result files.old out.old files.new out.new }
     ensures same { F.contents files.new ≡ F.contents files.old }
+    ensures once { IsTrue F.tells → OnOk result (ReadsUnit (F.contents files.old) script.now
+        (F.reads files.old) (F.reads files.new)) }
     ensures only { IfErr result StopsSource }
 {
     match gather(alloc, files, script) {

@@ -27,7 +27,7 @@ use Rattle.engine_table.specs.Grammar as grammar
 use Rattle.engine_table.specs.Grammar.{sign_at, type_in, has_constants, constant_in, negative, brackets, Loose, Value, Heading, ParameterType, Parameter, Parameters, ParameterList, Line}
 use Rattle.engine_table.specs.Headers as header
 use Rattle.engine_table.specs.Headers.{function_fault, constant_fault, IsClear, Clashes}
-use Rattle.engine_table.specs.Turns.{TurnResult, goes, misfit, unless_fault, typed, start_turn, given, type_of, param_turn, valued_turn, owner_fault, got, is_minus_of_int, loose_by, value_by, params_turn, behind_turn, turn}
+use Rattle.engine_table.specs.Turns.{TurnResult, goes, misfit, unless_fault, typed, start_turn, given, type_of, param_turn, valued_turn, owner_fault, got, is_minus_of_int, is_new, loose_by, value_by, params_turn, behind_turn, turn}
 use Rattle.engine_table.proofs.Progress.{two, three, four}
 
 -- a line was read, with the tokens behind it, or it broke at a token or at the end
@@ -37,7 +37,7 @@ pub data Outcome : Type 0 where
 
 abbrev pub line_by : TurnResult → Placed → List Placed → (Stage → Outcome) → Outcome
 line_by (Ok (Goes s)) x xs on = on s
-line_by (Ok (Gives d)) x xs on = Got d xs
+line_by (Ok (Gives d new)) x xs on = Got d xs
 line_by (Err f) x xs on = Broke f (x ∷ xs)
 
 unfoldable pub line : ℕ → Known → Stage → List Placed → Outcome
@@ -91,7 +91,7 @@ module _ (end : ℕ) (k : Known) where
 
   -- what a value of a type with constants comes to, by what is wrong with its owner
   abbrev KeptRead : Option HeaderFault → Owner → Option Const → List Placed → List Placed → Type 0
-  KeptRead r o c vs i = (x : Placed) × (read (stage.Value o) (vs ++ i) ≡ line_by (unless_fault r (goes (stage.Valued o c))) x i (λ next. read next i))
+  KeptRead r o c vs i = (x : Placed) × (read (stage.Value o) (vs ++ i) ≡ line_by (unless_fault r (goes (stage.Valued o c (is_new k c o)))) x i (λ next. read next i))
 
   constant_reads : (r : Option HeaderFault) (o : Owner) (c : Const) (p : ℕ) (s : Symbol) → has_constants (type_of o) ≡ true
       → constant_in k.table.constants (type_of o) s ≡ Some c → owner_fault k o (Some c) ≡ r → (i : List Placed) → KeptRead r o (Some c) (at p s ∷ []) i
@@ -101,7 +101,7 @@ module _ (end : ℕ) (k : Known) where
     by_turn end k (stage.Value o) (at p s) i _
         (ap (λ (b : Bool). value_by b k o p s) has
         ∙ ap (λ (b : Bool). if b then goes (stage.Minus o) else got k o (constant_in k.table.constants (type_of o) s) p) (not_minus (type_of o) s c is)
-        ∙ ap (λ (v : Option Const). got k o v p) is ∙ ap (λ (z : Option HeaderFault). unless_fault z (goes (stage.Valued o (Some c)))) fault),
+        ∙ ap (λ (v : Option Const). got k o v p) is ∙ ap (λ (z : Option HeaderFault). unless_fault z (goes (stage.Valued o (Some c) (is_new k (Some c) o)))) fault),
   )
 
   minus_reads : (r : Option HeaderFault) (o : Owner) (p q n : ℕ) → type_of o ≡ ty.Int → owner_fault k o (Some (negative n)) ≡ r → (i : List Placed)
@@ -113,7 +113,7 @@ module _ (end : ℕ) (k : Known) where
         (ap (λ (b : Bool). value_by b k o p (symbol.Sign sign.Minus)) (ap has_constants int)
         ∙ ap (λ (b : Bool). if b then goes (stage.Minus o) else got k o (constant_in k.table.constants (type_of o) (symbol.Sign sign.Minus)) p)
         (ap (λ (t : Ty). is_minus_of_int t (symbol.Sign sign.Minus)) int))
-        ∙ by_turn end k (stage.Minus o) (at q (symbol.Int n)) i _ (ap (λ (z : Option HeaderFault). unless_fault z (goes (stage.Valued o (Some (negative n))))) fault),
+        ∙ by_turn end k (stage.Minus o) (at q (symbol.Int n)) i _ (ap (λ (z : Option HeaderFault). unless_fault z (goes (stage.Valued o (Some (negative n)) (is_new k (Some (negative n)) o)))) fault),
   )
 
   kept_reads : (r : Option HeaderFault) (o : Owner) (t : Ty) (c : Option Const) (vs : List Placed) → type_of o ≡ t → has_constants (type_of o) ≡ true
@@ -136,22 +136,22 @@ module _ (end : ℕ) (k : Known) where
 
   loose_reads : (r : Option HeaderFault) (o : Owner) (vs : List Placed) (x : Placed) (i : List Placed) → has_constants (type_of o) ≡ false → Loose zero vs
       → brackets zero x.symbol ≡ None → owner_fault k o None ≡ r
-      → read (stage.Value o) (vs ++ x ∷ i) ≡ line_by (unless_fault r (valued_turn o None x.place x.symbol)) x i (λ next. read next i)
+      → read (stage.Value o) (vs ++ x ∷ i) ≡ line_by (unless_fault r (valued_turn o None false x.place x.symbol)) x i (λ next. read next i)
   unfolding turn
   loose_reads r o vs x i has is ends fault =
       loose_turns o zero vs x i has is
       ∙ by_turn end k (stage.Loose o zero) x i _ (ap (λ (z : Option ℕ). loose_by k o z x.place x.symbol) ends
-      ∙ ap (λ (z : Option HeaderFault). unless_fault z (valued_turn o None x.place x.symbol)) fault)
+      ∙ ap (λ (z : Option HeaderFault). unless_fault z (valued_turn o None false x.place x.symbol)) fault)
 
   value_ok : (o : Owner) (t : Ty) (c : Option Const) (vs : List Placed) (x : Placed) (i : List Placed) → type_of o ≡ t → Value k.table.constants t c vs
       → owner_fault k o c ≡ None → brackets zero x.symbol ≡ None
-      → read (stage.Value o) (vs ++ x ∷ i) ≡ line_by (valued_turn o c x.place x.symbol) x i (λ next. read next i)
+      → read (stage.Value o) (vs ++ x ∷ i) ≡ line_by (valued_turn o c (is_new k c o) x.place x.symbol) x i (λ next. read next i)
   unfolding turn
   value_ok o t c vs x i same (grammar.constant u d p s has is) none ends =
       (kept_reads None o t (Some d) (at p s ∷ []) same (ap has_constants same ∙ has) (grammar.constant t d p s has is) none (x ∷ i)).1
-      ∙ by_turn end k (stage.Valued o (Some d)) x i _ refl
+      ∙ by_turn end k (stage.Valued o (Some d) (is_new k (Some d) o)) x i _ refl
   value_ok o t c vs x i same (grammar.minus p q n) none ends =
-      (minus_reads None o p q n same none (x ∷ i)).1 ∙ by_turn end k (stage.Valued o (Some (negative n))) x i _ refl
+      (minus_reads None o p q n same none (x ∷ i)).1 ∙ by_turn end k (stage.Valued o (Some (negative n)) (is_new k (Some (negative n)) o)) x i _ refl
   value_ok o t c vs x i same (grammar.other u xs has is) none ends = loose_reads None o xs x i (ap has_constants same ∙ has) is ends none
 
   -- ---- parameters

@@ -22,13 +22,13 @@ use Rattle.engine_table.specs.declared.stage.Turn.TheVariants.{Goes, Gives}
 use Rattle.engine_table.specs.Symbols.{Placed}
 use Rattle.engine_table.specs.Grammar.{type_in, structure_of, defined, has_constants, constant_in, negative, brackets}
 use Rattle.engine_table.specs.Headers.{function_fault, constant_fault}
-use Rattle.engine_table.specs.Turns.{TurnResult, goes, misfit, unless_fault, typed, start_turn, hash_turn, define_turn, given, typed_turn, named_turn, type_of, param_turn, constant_end, valued_turn, owner_fault, got, minus_turn, is_minus_of_int, constant_turn, loose_by, value_by, params_turn, behind_turn, param_type_turn, closed_turn, turn, depth_of, Leads, Follows}
+use Rattle.engine_table.specs.Turns.{TurnResult, goes, misfit, unless_fault, typed, start_turn, hash_turn, define_turn, given, typed_turn, named_turn, type_of, param_turn, constant_end, valued_turn, owner_fault, got, minus_turn, is_minus_of_int, is_new, constant_turn, loose_by, value_by, params_turn, behind_turn, param_type_turn, closed_turn, turn, depth_of, Leads, Follows}
 use Rattle.engine_table.proofs.KeepLemmas.{same_turn, no_turn, unless, choose}
 
 -- a turn goes on inside so many brackets at most
 abbrev IsInside : ℕ → Turn → Type 0
 IsInside n (Goes s) = depth_of s ≤ n
-IsInside n (Gives d) = Unit {0}
+IsInside n (Gives d new) = Unit {0}
 
 is_turn : (n : ℕ) (a t : Turn) → ◌≡◌ {A = TurnResult} (Ok a) (Ok t) → IsInside n a → IsInside n t
 is_turn n a t e h = subst (IsInside n) (same_turn a t e) h
@@ -55,7 +55,7 @@ define_flat n p (symbol.Name m) t e = flat n (stage.Defined m) t refl e
 define_flat n p x t e = absurd (no_turn _ t e)
 
 given_flat : (n : ℕ) (o : Option Declaration) (p : ℕ) (t : Turn) → given o p ≡ Ok t → IsInside n t
-given_flat n (Some d) p t e = is_turn n (Gives d) t e tt
+given_flat n (Some d) p t e = is_turn n (Gives d false) t e tt
 given_flat n None p t e = absurd (no_turn _ t e)
 
 typed_turn_flat : (n : ℕ) (b : Bool) (u : Ty) (p : ℕ) (x : Symbol) (t : Turn) → typed_turn b u p x ≡ Ok t → IsInside n t
@@ -86,17 +86,18 @@ param_flat n f q p (symbol.Sign sign.Comma) t e =
 param_flat n f q p (symbol.Sign sign.Close) t e = flat n (stage.Closed (record f { params = f.params ++ q ∷ [] })) t refl e
 param_flat n f q p x t e = absurd (no_turn _ t e)
 
-end_flat : (n : ℕ) (d : Declared) (c : Option Const) (p : ℕ) (x : Symbol) (t : Turn) → constant_end d c p x ≡ Ok t → IsInside n t
-end_flat n d c p (symbol.Sign sign.Semicolon) t e = is_turn n (Gives (declaration.Constant d c)) t e tt
-end_flat n d c p x t e = absurd (no_turn _ t e)
+end_flat : (n : ℕ) (d : Declared) (c : Option Const) (new : Bool) (p : ℕ) (x : Symbol) (t : Turn) → constant_end d c new p x ≡ Ok t → IsInside n t
+end_flat n d c new p (symbol.Sign sign.Semicolon) t e = is_turn n (Gives (declaration.Constant d c) new) t e tt
+end_flat n d c new p x t e = absurd (no_turn _ t e)
 
-valued_flat : (n : ℕ) (o : Owner) (c : Option Const) (p : ℕ) (x : Symbol) (t : Turn) → valued_turn o c p x ≡ Ok t → IsInside n t
-valued_flat n (owner.Constant d) c p x t e = end_flat n d c p x t e
-valued_flat n (owner.Parameter f u) c p x t e = param_flat n f (record { ty = u; default = c }) p x t e
+valued_flat : (n : ℕ) (o : Owner) (c : Option Const) (new : Bool) (p : ℕ) (x : Symbol) (t : Turn) → valued_turn o c new p x ≡ Ok t → IsInside n t
+valued_flat n (owner.Constant d) c new p x t e = end_flat n d c new p x t e
+valued_flat n (owner.Parameter f u) c new p x t e = param_flat n f (record { ty = u; default = c }) p x t e
 
 got_flat : (n : ℕ) (k : Known) (o : Owner) (c : Option Const) (p : ℕ) (t : Turn) → got k o c p ≡ Ok t → IsInside n t
 got_flat n k o (Some c) p t e =
-    unless (IsInside n t) (owner_fault k o (Some c)) (goes (stage.Valued o (Some c))) t (λ none is. flat n (stage.Valued o (Some c)) t refl is) e
+    unless (IsInside n t) (owner_fault k o (Some c)) (goes (stage.Valued o (Some c) (is_new k (Some c) o))) t
+    (λ none is. flat n (stage.Valued o (Some c) (is_new k (Some c) o)) t refl is) e
 got_flat n k o None p t e = absurd (no_turn _ t e)
 
 minus_flat : (n : ℕ) (k : Known) (o : Owner) (p : ℕ) (x : Symbol) (t : Turn) → minus_turn k o p x ≡ Ok t → IsInside n t
@@ -124,7 +125,7 @@ one_more (suc d) e x is = let same = same_Some (suc d) e is in omega (arith, sam
 loose_by_more : (n : ℕ) (k : Known) (o : Owner) (d : Option ℕ) (p : ℕ) (x : Symbol) (t : Turn) → ((e : ℕ) → d ≡ Some e → e ≤ n) → loose_by k o d p x ≡ Ok t → IsInside n t
 loose_by_more n k o (Some e) p x t h is = is_turn n (Goes (stage.Loose o e)) t is (h e refl)
 loose_by_more n k o None p x t h is =
-    unless (IsInside n t) (owner_fault k o None) (valued_turn o None p x) t (λ none e. valued_flat n o None p x t e) is
+    unless (IsInside n t) (owner_fault k o None) (valued_turn o None false p x) t (λ none e. valued_flat n o None false p x t e) is
 
 value_by_more : (b : Bool) (k : Known) (o : Owner) (p : ℕ) (x : Symbol) (t : Turn) → value_by b k o p x ≡ Ok t → IsInside 1 t
 value_by_more true k o p x t e = constant_flat 1 k o (type_of o) p x t e
@@ -145,7 +146,7 @@ param_type_flat n f u p (symbol.Name m) t e = flat n (stage.ParamName f u) t ref
 param_type_flat n f u p x t e = behind_flat n f u p x t e
 
 closed_flat : (n : ℕ) (f : Function) (p : ℕ) (x : Symbol) (t : Turn) → closed_turn f p x ≡ Ok t → IsInside n t
-closed_flat n f p (symbol.Sign sign.Semicolon) t e = is_turn n (Gives (declaration.Function f)) t e tt
+closed_flat n f p (symbol.Sign sign.Semicolon) t e = is_turn n (Gives (declaration.Function f) false) t e tt
 closed_flat n f p x t e = absurd (no_turn _ t e)
 
 turn_depth : (k : Known) (s : Stage) (p : ℕ) (x : Symbol) (t : Turn) → turn k s p x ≡ Ok t → IsInside (depth_of s + 1) t
@@ -160,7 +161,7 @@ turn_depth k (stage.Named b d) p x t e = named_flat 1 k b d p x t e
 turn_depth k (stage.Value o) p x t e = value_by_more (has_constants (type_of o)) k o p x t e
 turn_depth k (stage.Minus o) p x t e = minus_flat 1 k o p x t e
 turn_depth k (stage.Loose o d) p x t e = loose_by_more (d + 1) k o (brackets d x) p x t (λ e'. one_more d e' x) e
-turn_depth k (stage.Valued o c) p x t e = valued_flat 1 o c p x t e
+turn_depth k (stage.Valued o c new) p x t e = valued_flat 1 o c new p x t e
 turn_depth k (stage.Params f) p x t e = params_flat 1 k f p x t e
 turn_depth k (stage.Param f) p x t e = typed_flat 1 (stage.ParamType f) (type_in k.words x) p t (λ u. refl) e
 turn_depth k (stage.ParamType f u) p x t e = param_type_flat 1 f u p x t e
@@ -169,7 +170,7 @@ turn_depth k (stage.Closed f) p x t e = closed_flat 1 f p x t e
 
 led_depth : (n : ℕ) (k k' : Known) (s : Stage) (what : Turn) → IsInside n what → Leads k what k' s → depth_of s ≤ n
 led_depth n k k' s (Goes on) inside leads = let same = ap depth_of leads.1 in omega (arith, inside, same)
-led_depth n k k' s (Gives d) inside leads = let same = ap depth_of leads.1 in omega (arith, same)
+led_depth n k k' s (Gives d new) inside leads = let same = ap depth_of leads.1 in omega (arith, same)
 
 -- a token leads one bracket deeper at most
 pub follows_depth : (k : Known) (s : Stage) (x : Placed) (k' : Known) (s' : Stage) → Follows k s x k' s' → depth_of s' ≤ depth_of s + 1

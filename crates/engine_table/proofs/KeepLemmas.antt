@@ -33,7 +33,7 @@ use Rattle.engine_table.specs.Names.{is_among}
 use Rattle.engine_table.specs.Symbols.{IsSymbol}
 use Rattle.engine_table.specs.Grammar.{word_type, type_in, structure_of, defined, has_constants, has_type, of_type, constant_in, negative, brackets}
 use Rattle.engine_table.specs.Headers.{function_fault, constant_fault, value_fault}
-use Rattle.engine_table.specs.Turns.{TurnResult, goes, misfit, unless_fault, typed, start_turn, hash_turn, define_turn, given, typed_turn, named_turn, type_of, param_turn, constant_end, valued_turn, owner_fault, checked, got, minus_turn, is_minus_of_int, constant_turn, loose_by, value_by, params_turn, behind_turn, param_type_turn, closed_turn, turn, IsOpen, KeepsOwner, KeepsValue, KeepsStage, KeepsDeclaration, KeepsTurn}
+use Rattle.engine_table.specs.Turns.{TurnResult, goes, misfit, unless_fault, typed, start_turn, hash_turn, define_turn, given, typed_turn, named_turn, type_of, param_turn, constant_end, valued_turn, owner_fault, checked, got, minus_turn, is_minus_of_int, is_new, constant_turn, loose_by, value_by, params_turn, behind_turn, param_type_turn, closed_turn, turn, IsOpen, KeepsOwner, KeepsValue, KeepsStage, KeepsDeclaration, TellsNew, KeepsTurn}
 
 -- ---- no fault
 
@@ -137,8 +137,24 @@ made_keeps k o (symbol.Word w) d e = some_keeps k declaration.Passed d e tt
 made_keeps k o (symbol.Int n) d e = some_keeps k declaration.Passed d e tt
 made_keeps k o x d e = absurd (none-some d e)
 
-given_keeps : (k : Known) (o : Option Declaration) (p : ℕ) (t : Turn) → ((d : Declaration) → o ≡ Some d → KeepsDeclaration k d) → given o p ≡ Ok t → KeepsTurn k t
-given_keeps k (Some d) p t h e = is_turn k (Gives d) t e (h d refl)
+some_told : (k : Known) (a d : Declaration) → Some a ≡ Some d → TellsNew k a false → TellsNew k d false
+some_told k a d e h = subst (λ (z : Declaration). TellsNew k z false) (same_Some a d e) h
+
+if_told : (k : Known) (b : Bool) (a d : Declaration) → (if b then Some a else None) ≡ Some d → TellsNew k a false → TellsNew k d false
+if_told k true a d e h = some_told k a d e h
+if_told k false a d e h = absurd (none-some d e)
+
+made_told : (k : Known) (o : Option ℕ) (x : Symbol) (d : Declaration) → defined o x ≡ Some d → TellsNew k d false
+made_told k None (symbol.Name n) d e = some_told k declaration.Passed d e tt
+made_told k (Some c) (symbol.Name n) d e = if_told k (nat_lt 1 c) (declaration.TypeWord n) d e tt
+made_told k (Some c) (symbol.Word word.Effect) d e = if_told k _ declaration.Passed d e tt
+made_told k (Some c) (symbol.Word word.Event) d e = if_told k _ declaration.Passed d e tt
+made_told k o (symbol.Word w) d e = some_told k declaration.Passed d e tt
+made_told k o (symbol.Int n) d e = some_told k declaration.Passed d e tt
+made_told k o x d e = absurd (none-some d e)
+
+given_keeps : (k : Known) (o : Option Declaration) (p : ℕ) (t : Turn) → ((d : Declaration) → o ≡ Some d → KeepsDeclaration k d × TellsNew k d false) → given o p ≡ Ok t → KeepsTurn k t
+given_keeps k (Some d) p t h e = is_turn k (Gives d false) t e (h d refl)
 given_keeps k None p t h e = absurd (no_turn _ t e)
 
 named_typed_keeps : (k : Known) (b : Bool) (u : Ty) (p : ℕ) (x : Symbol) (t : Turn) → IsNoStruct u → typed_turn b u p x ≡ Ok t → KeepsTurn k t
@@ -187,14 +203,15 @@ param_keeps k f u c p (symbol.Sign sign.Close) t h few plain fits e =
     is_turn k (Goes (stage.Closed (with_one f u c))) t e ((open_more k f u c h plain fits, (let n = one_longer f.params (record { ty = u; default = c }) in omega (arith, n, few))), tt)
 param_keeps k f u c p x t h few plain fits e = absurd (no_turn _ t e)
 
-end_keeps : (k : Known) (d : Declared) (c : Option Const) (p : ℕ) (x : Symbol) (t : Turn) → constant_fault k d ≡ None → value_fault k d c ≡ None → IfSome c IsConstant
-    → constant_end d c p x ≡ Ok t → KeepsTurn k t
-end_keeps k d c p (symbol.Sign sign.Semicolon) t a b bounds e = is_turn k (Gives (declaration.Constant d c)) t e (a, b, bounds)
-end_keeps k d c p x t a b bounds e = absurd (no_turn _ t e)
+end_keeps : (k : Known) (d : Declared) (c : Option Const) (new : Bool) (p : ℕ) (x : Symbol) (t : Turn) → constant_fault k d ≡ None → value_fault k d c ≡ None
+    → IfSome c IsConstant → new ≡ is_new k c (owner.Constant d) → constant_end d c new p x ≡ Ok t → KeepsTurn k t
+end_keeps k d c new p (symbol.Sign sign.Semicolon) t a b bounds told e = is_turn k (Gives (declaration.Constant d c) new) t e ((a, b, bounds), told)
+end_keeps k d c new p x t a b bounds told e = absurd (no_turn _ t e)
 
-valued_keeps : (k : Known) (o : Owner) (c : Option Const) (p : ℕ) (x : Symbol) (t : Turn) → KeepsValue k o c → valued_turn o c p x ≡ Ok t → KeepsTurn k t
-valued_keeps k (owner.Constant d) c p x t h e = end_keeps k d c p x t h.0 h.1 h.2 e
-valued_keeps k (owner.Parameter f u) c p x t h e = param_keeps k f u c p x t h.0 h.1 h.2 h.3 e
+valued_keeps : (k : Known) (o : Owner) (c : Option Const) (new : Bool) (p : ℕ) (x : Symbol) (t : Turn) → KeepsValue k o c → new ≡ is_new k c o
+    → valued_turn o c new p x ≡ Ok t → KeepsTurn k t
+valued_keeps k (owner.Constant d) c new p x t h told e = end_keeps k d c new p x t h.0 h.1 h.2 told e
+valued_keeps k (owner.Parameter f u) c new p x t h told e = param_keeps k f u c p x t h.0 h.1 h.2 h.3 e
 
 pub bounds_of : (c : Option Const) (u : Ty) → FitsType c u → IfSome c IsConstant
 bounds_of None u fits = tt
@@ -206,10 +223,10 @@ valued_of k (owner.Constant d) c h fits none = (h, none, bounds_of c d.ty fits)
 valued_of k (owner.Parameter f u) c h fits none = (h.0, h.1, h.2, fits)
 
 got_keeps : (k : Known) (o : Owner) (c : Const) (t : Turn) → KeepsOwner k o → FitsType (Some c) (type_of o)
-    → checked k o (Some c) (goes (stage.Valued o (Some c))) ≡ Ok t → KeepsTurn k t
+    → checked k o (Some c) (goes (stage.Valued o (Some c) (is_new k (Some c) o))) ≡ Ok t → KeepsTurn k t
 got_keeps k o c t h fits e =
-    unless (KeepsTurn k t) (owner_fault k o (Some c)) (goes (stage.Valued o (Some c))) t
-    (λ none is. is_turn k (Goes (stage.Valued o (Some c))) t is (valued_of k o (Some c) h fits none, tt)) e
+    unless (KeepsTurn k t) (owner_fault k o (Some c)) (goes (stage.Valued o (Some c) (is_new k (Some c) o))) t
+    (λ none is. is_turn k (Goes (stage.Valued o (Some c) (is_new k (Some c) o))) t is ((valued_of k o (Some c) h fits none, refl), tt)) e
 
 its_type : (c : Const) (u : Ty) → has_type c u ≡ true → const_type c ≡ u
 its_type (const.Int n) ty.Int e = refl
@@ -285,7 +302,8 @@ minus_keeps k o p x t bounds h int e = absurd (no_turn _ t e)
 loose_by_keeps : (k : Known) (o : Owner) (d : Option ℕ) (p : ℕ) (x : Symbol) (t : Turn) → KeepsOwner k o → loose_by k o d p x ≡ Ok t → KeepsTurn k t
 loose_by_keeps k o (Some e) p x t h is = is_turn k (Goes (stage.Loose o e)) t is (h, tt)
 loose_by_keeps k o None p x t h is =
-    unless (KeepsTurn k t) (owner_fault k o None) (valued_turn o None p x) t (λ none e. valued_keeps k o None p x t (valued_of k o None h tt none) e) is
+    unless (KeepsTurn k t) (owner_fault k o None) (valued_turn o None false p x) t
+    (λ none e. valued_keeps k o None false p x t (valued_of k o None h tt none) refl e) is
 
 value_by_keeps : (b : Bool) (k : Known) (o : Owner) (p : ℕ) (x : Symbol) (t : Turn) → AreConstants k.table.constants → IsSymbol x → KeepsOwner k o → value_by b k o p x ≡ Ok t → KeepsTurn k t
 value_by_keeps true k o p x t all bounds h e = constant_keeps k o p x t all bounds h e
@@ -308,7 +326,7 @@ param_type_keeps k f u p (symbol.Name n) t h few plain e = is_turn k (Goes (stag
 param_type_keeps k f u p x t h few plain e = behind_keeps k f u p x t h few plain e
 
 closed_keeps : (k : Known) (f : Function) (p : ℕ) (x : Symbol) (t : Turn) → IsOpen k f → length f.params ≤ 255 → closed_turn f p x ≡ Ok t → KeepsTurn k t
-closed_keeps k f p (symbol.Sign sign.Semicolon) t h few e = is_turn k (Gives (declaration.Function f)) t e (h, few)
+closed_keeps k f p (symbol.Sign sign.Semicolon) t h few e = is_turn k (Gives (declaration.Function f) false) t e ((h, few), tt)
 closed_keeps k f p x t h few e = absurd (no_turn _ t e)
 
 pub turn_keeps : (k : Known) (s : Stage) (p : ℕ) (x : Symbol) (t : Turn) → AreConstants k.table.constants → IsSymbol x → KeepsStage k s → turn k s p x ≡ Ok t → KeepsTurn k t
@@ -316,14 +334,14 @@ unfolding turn
 turn_keeps k stage.Start p x t all bounds h e = start_keeps k p x t e
 turn_keeps k stage.Hash p x t all bounds h e = hash_keeps k p x t e
 turn_keeps k stage.Define p x t all bounds h e = define_keeps k p x t e
-turn_keeps k (stage.Defined n) p x t all bounds h e = given_keeps k (defined (structure_of n) x) p t (λ d is. made_keeps k (structure_of n) x d is) e
+turn_keeps k (stage.Defined n) p x t all bounds h e = given_keeps k (defined (structure_of n) x) p t (λ d is. (made_keeps k (structure_of n) x d is, made_told k (structure_of n) x d is)) e
 turn_keeps k stage.Const p x t all bounds h e = typed_keeps k (stage.Typed true) (type_in k.words x) p t (λ u is. (no_struct k.words x u is, tt)) e
 turn_keeps k (stage.Typed b u) p x t all bounds h e = named_typed_keeps k b u p x t h e
 turn_keeps k (stage.Named b d) p x t all bounds h e = named_keeps k b d p x t h e
 turn_keeps k (stage.Value o) p x t all bounds h e = value_by_keeps (has_constants (type_of o)) k o p x t all bounds h e
 turn_keeps k (stage.Minus o) p x t all bounds h e = minus_keeps k o p x t bounds h.0 h.1 e
 turn_keeps k (stage.Loose o d) p x t all bounds h e = loose_by_keeps k o (brackets d x) p x t h e
-turn_keeps k (stage.Valued o c) p x t all bounds h e = valued_keeps k o c p x t h e
+turn_keeps k (stage.Valued o c new) p x t all bounds h e = valued_keeps k o c new p x t h.0 h.1 e
 turn_keeps k (stage.Params f) p x t all bounds h e = params_keeps k f p x t h.0 h.1 e
 turn_keeps k (stage.Param f) p x t all bounds h e = typed_keeps k (stage.ParamType f) (type_in k.words x) p t (λ u is. ((h.0, h.1, no_struct k.words x u is), tt)) e
 turn_keeps k (stage.ParamType f u) p x t all bounds h e = param_type_keeps k f u p x t h.0 h.1 h.2 e

@@ -1,5 +1,5 @@
 -- Names of constants, as type words.
-use Rattle.std.proofs.Common.{◌≡◌, ℕ, Bool, true, false, cond, ◌||◌, List, [], ◌∷◌, map, Option, Some, None, is_some, bytes_eq, Bor, refl, ◌∙◌}
+use Rattle.std.proofs.Common.{◌≡◌, ℕ, ◌≤◌, Bool, true, false, cond, ◌||◌, List, [], ◌∷◌, length, map, Option, Some, None, is_some, bytes_eq, Bor, refl, ◌∙◌, arith}
 use Rattle.nwq_value.specs.declared.engine.Const.{Const}
 use Rattle.std.specs.Option.{option_copied}
 use Rattle.nwq_value.specs.declared.engine.Routine.{Routine}
@@ -30,3 +30,8 @@ no_routines name (r ∷ rs) e = cc
 pub is_some-copied : {A : Type 0} (o : Option (Bor A)) → is_some o ≡ is_some (option_copied o)
 is_some-copied None = refl
 is_some-copied (Some x) = refl
+
+pub none_named : (name : List ℕ) (rs : List Routine) (count : ℕ) → count ≡ length rs → count ≤ 0 → false ≡ is_some (routine_named name rs)
+unfolding routine_named
+none_named name [] count is none = refl
+none_named name (r ∷ rs) count is none = absurd (omega (arith, is, none))

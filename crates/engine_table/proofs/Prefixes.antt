@@ -198,7 +198,7 @@ begun_prefix k s xs (progress.named b d hs h) = heading_prefix k b d hs h
 begun_prefix k s xs (progress.value o ys own) = value_prefix k o ys own
 begun_prefix k s xs (progress.minus o ys p own int) = minus_prefix k o ys p own int
 begun_prefix k s xs (progress.loose o d ys vs own has is) = loose_prefix k o d ys vs own has is
-begun_prefix k s xs (progress.valued o c ys vs own is none) = owned_prefix k o c ys vs own is
+begun_prefix k s xs (progress.valued o c new ys vs own is none) = owned_prefix k o c ys vs own is
 begun_prefix k s xs (progress.opened d hs o h free) =
     prefix_less k (hs ++ sign_at o sign.Open ∷ []) (at 0 (symbol.Word word.Int) ∷ []) (int_spelled, tt)
     (parameter_prefix k (record { head = d; params = [] }) ty.Int (hs ++ sign_at o sign.Open ∷ []) (at 0 (symbol.Word word.Int) ∷ []) (progress.first d hs o h free) (int_type k))

@@ -28,7 +28,7 @@ use Rattle.engine_table.specs.Grammar as grammar
 use Rattle.engine_table.specs.Grammar.{sign_at, type_in, structure_of, defined, has_constants, constant_in, negative, brackets, Loose, Value, Heading, ParameterType, Parameter, Parameters, ParameterList, Line}
 use Rattle.engine_table.specs.Headers as header
 use Rattle.engine_table.specs.Headers.{function_fault, constant_fault, value_fault, IsClear, Clashes}
-use Rattle.engine_table.specs.Turns.{TurnResult, goes, misfit, unless_fault, typed, start_turn, hash_turn, define_turn, given, typed_turn, named_turn, type_of, param_turn, constant_end, valued_turn, owner_fault, checked, got, minus_turn, is_minus_of_int, loose_by, value_by, params_turn, behind_turn, param_type_turn, closed_turn, turn}
+use Rattle.engine_table.specs.Turns.{TurnResult, goes, misfit, unless_fault, typed, start_turn, hash_turn, define_turn, given, typed_turn, named_turn, type_of, param_turn, constant_end, valued_turn, owner_fault, checked, got, minus_turn, is_minus_of_int, is_new, loose_by, value_by, params_turn, behind_turn, param_type_turn, closed_turn, turn}
 
 -- ---- regrouping
 
@@ -77,8 +77,8 @@ pub data Begun (k : Known) : Stage → List Placed → Type 0 where
   value : (o : Owner) (xs : List Placed) → Owned k o xs → Begun k (stage.Value o) xs
   minus : (o : Owner) (xs : List Placed) (p : ℕ) → Owned k o xs → type_of o ≡ ty.Int → Begun k (stage.Minus o) (xs ++ sign_at p sign.Minus ∷ [])
   loose : (o : Owner) (d : ℕ) (xs vs : List Placed) → Owned k o xs → has_constants (type_of o) ≡ false → Loose d vs → Begun k (stage.Loose o d) (xs ++ vs)
-  valued : (o : Owner) (c : Option Const) (xs vs : List Placed) → Owned k o xs → Value k.table.constants (type_of o) c vs → owner_fault k o c ≡ None
-      → Begun k (stage.Valued o c) (xs ++ vs)
+  valued : (o : Owner) (c : Option Const) (new : Bool) (xs vs : List Placed) → Owned k o xs → Value k.table.constants (type_of o) c vs → owner_fault k o c ≡ None
+      → Begun k (stage.Valued o c new) (xs ++ vs)
   opened : (d : Declared) (hs : List Placed) (o : ℕ) → Heading k false d hs → function_fault k d ≡ None
       → Begun k (stage.Params (record { head = d; params = [] })) (hs ++ sign_at o sign.Open ∷ [])
   param : (f : Function) (xs : List Placed) → Before k f xs → Begun k (stage.Param f) xs
@@ -91,7 +91,7 @@ pub data Begun (k : Known) : Stage → List Placed → Type 0 where
 -- what a token makes of the tokens before it
 abbrev pub After : Known → List Placed → Placed → TurnResult → Type 0
 After k xs x (Ok (Goes s)) = Begun k s (xs ++ x ∷ [])
-After k xs x (Ok (Gives d)) = Line k d (xs ++ x ∷ []) × IsClear k d
+After k xs x (Ok (Gives d new)) = Line k d (xs ++ x ∷ []) × IsClear k d
 After k xs x (Err f) = (f ≡ Header x.place) ⊎ Clashes k f (xs ++ x ∷ [])
 
 -- ---- parts put together
@@ -206,10 +206,10 @@ value_clash k o c f xs vs (parameter g t us ws e before type) has is fault = abs
 
 -- a value of a type with constants was read with this token
 checked_step : (k : Known) (o : Owner) (c : Const) (xs vs zs : List Placed) (x : Placed) → Owned k o xs → has_constants (type_of o) ≡ true
-    → Value k.table.constants (type_of o) (Some c) vs → zs ++ x ∷ [] ≡ xs ++ vs → After k zs x (checked k o (Some c) (goes (stage.Valued o (Some c))))
+    → Value k.table.constants (type_of o) (Some c) vs → zs ++ x ∷ [] ≡ xs ++ vs → After k zs x (checked k o (Some c) (goes (stage.Valued o (Some c) (is_new k (Some c) o))))
 checked_step k o c xs vs zs x own has is same =
-    unless (After k zs x) (owner_fault k o (Some c)) (goes (stage.Valued o (Some c)))
-    (λ none. moved (Begun k (stage.Valued o (Some c))) _ _ same (valued o (Some c) xs vs own is none))
+    unless (After k zs x) (owner_fault k o (Some c)) (goes (stage.Valued o (Some c) (is_new k (Some c) o)))
+    (λ none. moved (Begun k (stage.Valued o (Some c) (is_new k (Some c) o))) _ _ same (valued o (Some c) (is_new k (Some c) o) xs vs own is none))
     (λ f fault. inr (moved (Clashes k f) _ _ same (value_clash k o c f xs vs own has is fault)))
 
 -- behind a parameter
@@ -222,18 +222,18 @@ list_step k f x ws p (symbol.Sign sign.Comma) all =
 list_step k f x ws p (symbol.Sign sign.Close) all = closed_of k (with_param f x) ws p all
 list_step k f x ws p s all = inl refl
 
-constant_end_step : (k : Known) (b : Bool) (d : Declared) (c : Option Const) (hs vs : List Placed) (e p : ℕ) (s : Symbol) → Heading k b d hs
+constant_end_step : (k : Known) (b : Bool) (d : Declared) (c : Option Const) (new : Bool) (hs vs : List Placed) (e p : ℕ) (s : Symbol) → Heading k b d hs
     → Value k.table.constants d.ty c vs → constant_fault k d ≡ None → value_fault k d c ≡ None
-    → After k (hs ++ sign_at e sign.Equals ∷ vs) (at p s) (constant_end d c p s)
-constant_end_step k b d c hs vs e p (symbol.Sign sign.Semicolon) h is free none =
+    → After k (hs ++ sign_at e sign.Equals ∷ vs) (at p s) (constant_end d c new p s)
+constant_end_step k b d c new hs vs e p (symbol.Sign sign.Semicolon) h is free none =
     (moved (Line k (IsConstant d c)) _ _ (three hs (sign_at e sign.Equals) vs (sign_at p sign.Semicolon ∷ [])) (grammar.constant b d c hs vs e p h is), (free, none))
-constant_end_step k b d c hs vs e p s h is free none = inl refl
+constant_end_step k b d c new hs vs e p s h is free none = inl refl
 
-end_step : (k : Known) (o : Owner) (c : Option Const) (xs vs : List Placed) (p : ℕ) (s : Symbol) → Owned k o xs → Value k.table.constants (type_of o) c vs
-    → owner_fault k o c ≡ None → After k (xs ++ vs) (at p s) (valued_turn o c p s)
-end_step k o c xs vs p s (constant b d hs e h free) is none =
-    moved (λ (z : List Placed). After k z (at p s) (constant_end d c p s)) _ _ (two hs (sign_at e sign.Equals) vs) (constant_end_step k b d c hs vs e p s h is free none)
-end_step k o c xs vs p s (parameter f t us ws e before type) is none =
+end_step : (k : Known) (o : Owner) (c : Option Const) (new : Bool) (xs vs : List Placed) (p : ℕ) (s : Symbol) → Owned k o xs → Value k.table.constants (type_of o) c vs
+    → owner_fault k o c ≡ None → After k (xs ++ vs) (at p s) (valued_turn o c new p s)
+end_step k o c new xs vs p s (constant b d hs e h free) is none =
+    moved (λ (z : List Placed). After k z (at p s) (constant_end d c new p s)) _ _ (two hs (sign_at e sign.Equals) vs) (constant_end_step k b d c new hs vs e p s h is free none)
+end_step k o c new xs vs p s (parameter f t us ws e before type) is none =
     let ends : (us ++ (ws ++ sign_at e sign.Equals ∷ [])) ++ vs ≡ us ++ (ws ++ sign_at e sign.Equals ∷ vs)
     = append_assoc us (ws ++ sign_at e sign.Equals ∷ []) vs ∙ ap (λ (z : List Placed). us ++ z) (two ws (sign_at e sign.Equals) vs) in
     moved (λ (z : List Placed). After k z (at p s) (param_turn f (record { ty = t; default = c }) p s)) _ _ ends
@@ -249,10 +249,10 @@ loose_clash k o f xs vs p s (parameter g t us ws e before type) has is ends faul
 
 -- the token that ends a value of a type without constants
 loose_end_step : (k : Known) (o : Owner) (xs vs : List Placed) (p : ℕ) (s : Symbol) → Owned k o xs → has_constants (type_of o) ≡ false → Loose zero vs
-    → brackets zero s ≡ None → After k (xs ++ vs) (at p s) (checked k o None (valued_turn o None p s))
+    → brackets zero s ≡ None → After k (xs ++ vs) (at p s) (checked k o None (valued_turn o None false p s))
 loose_end_step k o xs vs p s own has is ends =
-    unless (After k (xs ++ vs) (at p s)) (owner_fault k o None) (valued_turn o None p s)
-    (λ none. end_step k o None xs vs p s own (grammar.other (type_of o) vs has is) none)
+    unless (After k (xs ++ vs) (at p s)) (owner_fault k o None) (valued_turn o None false p s)
+    (λ none. end_step k o None false xs vs p s own (grammar.other (type_of o) vs has is) none)
     (λ f fault. inr (loose_clash k o f xs vs p s own has is ends fault))
 
 ended_depth : (d : ℕ) (s : Symbol) → brackets d s ≡ None → d ≡ zero
@@ -344,7 +344,7 @@ step k st xs p s (named b d hs h) = named_step k b d hs p s h
 step k st xs p s (value o ys own) = value_step (has_constants (type_of o)) k o ys p s own refl
 step k st xs p s (minus o ys q own int) = minus_step k o ys q p s own int
 step k st xs p s (loose o d ys vs own has is) = loose_step k o d ys vs p s (brackets d s) own has is refl
-step k st xs p s (valued o c ys vs own is none) = end_step k o c ys vs p s own is none
+step k st xs p s (valued o c new ys vs own is none) = end_step k o c new ys vs p s own is none
 step k st xs p s (opened d hs o h free) = opened_step k d hs o p s h free
 step k st xs p s (param f ys before) = param_type_of k f ys p s before
 step k st xs p s (param_type f t ys q x before is) = param_name_step k f t ys q p x s before is

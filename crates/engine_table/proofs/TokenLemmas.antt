@@ -82,7 +82,7 @@ read_none bytes r known start counted = record {
 led : (end : ℕ) (k : Known) (xs : List Placed) (what : Turn) (k' : Known) (s' : Stage) → Leads k what k' s'
     → run_by (Ok what) (λ n. declarations_read end k n xs) (λ g. declarations_read end (after k g) stage.Start xs) ≡ declarations_read end k' s' xs
 led end k xs (Goes n) k' s' leads = ap (λ (z : Stage). declarations_read end k z xs) (sym leads.1) ∙ ap (λ (z : Known). declarations_read end z s' xs) (sym leads.0)
-led end k xs (Gives d) k' s' leads = ap (λ (z : Known). declarations_read end z stage.Start xs) (sym leads.0) ∙ ap (λ (z : Stage). declarations_read end k' z xs) (sym leads.1)
+led end k xs (Gives d new) k' s' leads = ap (λ (z : Known). declarations_read end z stage.Start xs) (sym leads.0) ∙ ap (λ (z : Stage). declarations_read end k' z xs) (sym leads.1)
 
 followed : (end : ℕ) (k : Known) (s : Stage) (x : Placed) (xs : List Placed) (k' : Known) (s' : Stage) → Follows k s x k' s' → declarations_read end k s (x ∷ xs) ≡ declarations_read end k' s' xs
 unfolding declarations_read

@@ -192,7 +192,7 @@ walk_by : (end : ℕ) (k : Known) (s : Stage) (before : List Placed) (x : Placed
     → Walk end k s before (x ∷ xs)
 walk_by end k s before x xs begun more (Ok (Goes next)) e is =
     onward end k s next before x xs (λ i. by_turn end k s x i (Ok (Goes next)) e) (more next (before ++ x ∷ []) is)
-walk_by end k s before x xs begun more (Ok (Gives d)) e is = whole d (x ∷ []) xs refl is.0 is.1 (λ i. by_turn end k s x i (Ok (Gives d)) e)
+walk_by end k s before x xs begun more (Ok (Gives d new)) e is = whole d (x ∷ []) xs refl is.0 is.1 (λ i. by_turn end k s x i (Ok (Gives d new)) e)
 walk_by end k s before x xs begun more (Err f) e is =
     broke s [] x xs f refl (subst (Begun k s) (sym (append-nil before)) begun)
     (subst (λ (z : List Placed). (f ≡ Header x.place) ⊎ Clashes k f (z ++ x ∷ [])) (sym (append-nil before)) is) (λ i. by_turn end k s x i (Err f) e)
@@ -240,7 +240,7 @@ whole_prefix k d xs is = ([], d, subst (Line k d) (sym (append-nil xs)) is)
 misfit_by : (end : ℕ) (k : Known) (xs : List Placed) (x : Placed) (ys : List Placed) (r : Reached end k xs) (t : TurnResult) → IsMisfit k xs x → turn k r.to x.place x.symbol ≡ t
     → After k xs x t → line end k stage.Start (xs ++ x ∷ ys) ≡ Broke (Header x.place) (x ∷ ys)
 misfit_by end k xs x ys r (Ok (Goes next)) m e is = absurd (m.through (unspelled k (xs ++ x ∷ []) (begun_prefix k next (xs ++ x ∷ []) is)))
-misfit_by end k xs x ys r (Ok (Gives d)) m e is = absurd (m.through (whole_prefix k d (xs ++ x ∷ []) is.0))
+misfit_by end k xs x ys r (Ok (Gives d new)) m e is = absurd (m.through (whole_prefix k d (xs ++ x ∷ []) is.0))
 misfit_by end k xs x ys r (Err f) m e (inl is) = r.reads (x ∷ ys) ∙ by_turn end k r.to x ys (Err f) e ∙ ap (λ (z : HeaderFault). Broke z (x ∷ ys)) is
 misfit_by end k xs x ys r (Err f) m e (inr clash) = absurd (m.no_clash f clash)
 
@@ -267,7 +267,7 @@ begun_stage k s xs (progress.named b d hs h) = inl tt
 begun_stage k s xs (progress.value o ys own) = inl tt
 begun_stage k s xs (progress.minus o ys p own int) = inl tt
 begun_stage k s xs (progress.loose o d ys vs own has is) = inl tt
-begun_stage k s xs (progress.valued o c ys vs own is none) = inl tt
+begun_stage k s xs (progress.valued o c new ys vs own is none) = inl tt
 begun_stage k s xs (progress.opened d hs o h free) = inl tt
 begun_stage k s xs (progress.param f ys before) = inl tt
 begun_stage k s xs (progress.param_type f t ys p x before is) = inl tt
@@ -286,7 +286,7 @@ got_by : (end : ℕ) (k : Known) (s : Stage) (x : Placed) (xs : List Placed) (d 
 unfolding declarations_read
 got_by end k s x xs d r (Ok (Goes next)) e more is =
     ap (λ (t : TurnResult). run_by t (λ n. declarations_read end k n xs) (λ g. declarations_read end (after k g) stage.Start xs)) e ∙ more next is
-got_by end k s x xs d r (Ok (Gives g)) e more is =
+got_by end k s x xs d r (Ok (Gives g new)) e more is =
     let parts : (g ≡ d) × (xs ≡ r) = same g d xs r is in
     ap (λ (t : TurnResult). run_by t (λ n. declarations_read end k n xs) (λ g. declarations_read end (after k g) stage.Start xs)) e
     ∙ ap (λ (z : Declaration). declarations_read end (after k z) stage.Start xs) parts.0 ∙ ap (declarations_read end (after k d) stage.Start) parts.1 where
@@ -311,7 +311,7 @@ unfolding declarations_read
 broke_by end k s before x xs f left (Ok (Goes next)) e is more h =
     ap (λ (t : TurnResult). run_by t (λ n. declarations_read end k n xs) (λ g. declarations_read end (after k g) stage.Start xs)) e
     ∙ more next (before ++ x ∷ []) is (has_begun k next before x is) h
-broke_by end k s before x xs f left (Ok (Gives d)) e is more h = absurd (got_broke d f xs left h)
+broke_by end k s before x xs f left (Ok (Gives d new)) e is more h = absurd (got_broke d f xs left h)
 broke_by end k s before x xs f left (Err g) e is more h =
     ap (λ (t : TurnResult). run_by t (λ n. declarations_read end k n xs) (λ g. declarations_read end (after k g) stage.Start xs)) e ∙ ap (λ (z : HeaderFault). Err z) (same_break g f (x ∷ xs) left h)
 
@@ -372,7 +372,7 @@ got_shorter end k [] s d r e = absurd (got_broke d (Header end) r [] (sym e))
 got_shorter end k (x ∷ xs) s d r e = by (turn k s x.place x.symbol) (λ next e'. got_shorter end k xs next d r e') e where
   by : (t : TurnResult) → ((next : Stage) → line end k next xs ≡ Got d r → length r < length xs) → line_by t x xs (λ next. line end k next xs) ≡ Got d r → length r < suc (length xs)
   by (Ok (Goes next)) more e = let h = more next e in omega (arith, h)
-  by (Ok (Gives g)) more e = let h = ap length (same_got g d xs r e) in omega (arith, h)
+  by (Ok (Gives g new)) more e = let h = ap length (same_got g d xs r e) in omega (arith, h)
   by (Err f) more e = absurd (got_broke d f r (x ∷ xs) (sym e))
 
 right_by : (end : ℕ) (k : Known) (xs : List Placed) → ((j : Known) (ys : List Placed) → length ys < length xs → Comes end j ys (declarations_read end j stage.Start ys))

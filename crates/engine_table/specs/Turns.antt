@@ -1,11 +1,11 @@
 -- What a token does to a line that has come so far, as the code does it. No public clause names
 -- this: it is proved to find exactly what the grammar has.
-use Rattle.std.specs.Prelude.{◌≡◌, ℕ, zero, ◌+◌, ◌≤◌, ◌<◌, Bool, true, false, nat_lt, List, [], ◌∷◌, ◌++◌, length, codes, bytes_eq, Option, None, Some, IfSome, if◌then◌else◌, Result, Ok, Err}
+use Rattle.std.specs.Prelude.{◌≡◌, ℕ, zero, ◌+◌, ◌≤◌, ◌<◌, Bool, true, false, nat_lt, List, [], ◌∷◌, ◌++◌, length, codes, bytes_eq, Option, None, Some, is_none, IfSome, if◌then◌else◌, Result, Ok, Err}
 use Rattle.nwq_value.specs.declared.value.Ty.{Ty}
 use Rattle.nwq_value.specs.declared.value.Ty.TheVariants as ty
 use Rattle.nwq_value.specs.declared.engine.Const.{Const}
 use Rattle.nwq_value.specs.declared.engine.Param.{Param}
-use Rattle.nwq_value.specs.Engine.{EngineTable, IsConstant, IsNoStruct, FitsType, AreParams}
+use Rattle.nwq_value.specs.Engine.{EngineTable, constant_named, IsConstant, IsNoStruct, FitsType, AreParams}
 use Rattle.nwq_value.specs.Limits.{parameter_limit}
 use Rattle.engine_table.specs.declared.symbol.Word.TheVariants as word
 use Rattle.engine_table.specs.declared.symbol.Sign.TheVariants as sign
@@ -68,7 +68,7 @@ define_turn p (symbol.Name n) = goes (stage.Defined n)
 define_turn p _ = misfit p
 
 abbrev pub given : Option Declaration → ℕ → TurnResult
-given (Some d) p = Ok (Gives d)
+given (Some d) p = Ok (Gives d false)
 given None p = misfit p
 
 abbrev pub defined_turn : List ℕ → ℕ → Symbol → TurnResult
@@ -98,14 +98,14 @@ param_turn f x p (symbol.Sign sign.Comma) =
 param_turn f x p (symbol.Sign sign.Close) = goes (stage.Closed (record f { params = f.params ++ x ∷ [] }))
 param_turn f x p _ = misfit p
 
-abbrev pub constant_end : Declared → Option Const → ℕ → Symbol → TurnResult
-constant_end d c p (symbol.Sign sign.Semicolon) = Ok (Gives (declaration.Constant d c))
-constant_end d c p _ = misfit p
+abbrev pub constant_end : Declared → Option Const → Bool → ℕ → Symbol → TurnResult
+constant_end d c new p (symbol.Sign sign.Semicolon) = Ok (Gives (declaration.Constant d c) new)
+constant_end d c new p _ = misfit p
 
 -- the token behind a value
-abbrev pub valued_turn : Owner → Option Const → ℕ → Symbol → TurnResult
-valued_turn (owner.Constant d) c p s = constant_end d c p s
-valued_turn (owner.Parameter f t) c p s = param_turn f (record { ty = t; default = c }) p s
+abbrev pub valued_turn : Owner → Option Const → Bool → ℕ → Symbol → TurnResult
+valued_turn (owner.Constant d) c new p s = constant_end d c new p s
+valued_turn (owner.Parameter f t) c new p s = param_turn f (record { ty = t; default = c }) p s
 
 -- a value was read
 abbrev pub owner_fault : Known → Owner → Option Const → Option HeaderFault
@@ -115,8 +115,14 @@ owner_fault k (owner.Parameter f t) c = None
 abbrev pub checked : Known → Owner → Option Const → TurnResult → TurnResult
 checked k o c next = unless_fault (owner_fault k o c) next
 
+-- whether this is the value of a constant whose name no constant before it has
+abbrev pub is_new : Known → Option Const → Owner → Bool
+is_new k None o = false
+is_new k (Some c) (owner.Constant d) = is_none (constant_named d.name k.table.constants)
+is_new k (Some c) (owner.Parameter f t) = false
+
 abbrev pub got : Known → Owner → Option Const → ℕ → TurnResult
-got k o (Some c) p = checked k o (Some c) (goes (stage.Valued o (Some c)))
+got k o (Some c) p = checked k o (Some c) (goes (stage.Valued o (Some c) (is_new k (Some c) o)))
 got k o None p = misfit p
 
 abbrev pub minus_turn : Known → Owner → ℕ → Symbol → TurnResult
@@ -132,7 +138,7 @@ constant_turn k o t p s = if is_minus_of_int t s then goes (stage.Minus o) else 
 
 abbrev pub loose_by : Known → Owner → Option ℕ → ℕ → Symbol → TurnResult
 loose_by k o (Some e) p s = goes (stage.Loose o e)
-loose_by k o None p s = checked k o None (valued_turn o None p s)
+loose_by k o None p s = checked k o None (valued_turn o None false p s)
 
 abbrev pub loose_turn : Known → Owner → ℕ → ℕ → Symbol → TurnResult
 loose_turn k o d p s = loose_by k o (brackets d s) p s
@@ -160,7 +166,7 @@ param_type_turn f t p (symbol.Name n) = goes (stage.ParamName f t)
 param_type_turn f t p s = behind_turn f t p s
 
 abbrev pub closed_turn : Function → ℕ → Symbol → TurnResult
-closed_turn f p (symbol.Sign sign.Semicolon) = Ok (Gives (declaration.Function f))
+closed_turn f p (symbol.Sign sign.Semicolon) = Ok (Gives (declaration.Function f) false)
 closed_turn f p _ = misfit p
 
 -- what a token at this place does
@@ -175,7 +181,7 @@ turn k (stage.Named b d) p s = named_turn k b d p s
 turn k (stage.Value o) p s = value_turn k o p s
 turn k (stage.Minus o) p s = minus_turn k o p s
 turn k (stage.Loose o d) p s = loose_turn k o d p s
-turn k (stage.Valued o c) p s = valued_turn o c p s
+turn k (stage.Valued o c new) p s = valued_turn o c new p s
 turn k (stage.Params f) p s = params_turn k.words f p s
 turn k (stage.Param f) p s = typed (stage.ParamType f) (type_in k.words s) p
 turn k (stage.ParamType f t) p s = param_type_turn f t p s
@@ -217,7 +223,7 @@ KeepsStage k (stage.Named b d) = IsNoStruct d.ty
 KeepsStage k (stage.Value o) = KeepsOwner k o
 KeepsStage k (stage.Minus o) = KeepsOwner k o × (type_of o ≡ ty.Int)
 KeepsStage k (stage.Loose o d) = KeepsOwner k o
-KeepsStage k (stage.Valued o c) = KeepsValue k o c
+KeepsStage k (stage.Valued o c new) = KeepsValue k o c × (new ≡ is_new k c o)
 KeepsStage k (stage.Params f) = IsOpen k f × (f.params ≡ [])
 KeepsStage k (stage.Param f) = IsOpen k f × (length f.params < parameter_limit)
 KeepsStage k (stage.ParamType f t) = IsOpen k f × (length f.params < parameter_limit) × IsNoStruct t
@@ -230,6 +236,11 @@ KeepsDeclaration k (declaration.Constant d c) = (constant_fault k d ≡ None) ×
 KeepsDeclaration k (declaration.Function f) = IsOpen k f × (length f.params ≤ parameter_limit)
 KeepsDeclaration k _ = Unit {0}
 
+-- of a constant it is told whether its name is new
+abbrev pub TellsNew : Known → Declaration → Bool → Type 0
+TellsNew k (declaration.Constant d c) new = new ≡ is_new k c (owner.Constant d)
+TellsNew k d new = Unit {0}
+
 -- something of a line stands there
 abbrev pub HasBegun : Stage → Type 0
 HasBegun stage.Start = ⊥
@@ -237,7 +248,7 @@ HasBegun _ = Unit {0}
 
 abbrev pub KeepsTurn : Known → Turn → Type 0
 KeepsTurn k (Goes s) = KeepsStage k s × HasBegun s
-KeepsTurn k (Gives d) = KeepsDeclaration k d
+KeepsTurn k (Gives d new) = KeepsDeclaration k d × TellsNew k d new
 
 -- ---- many tokens
 
@@ -248,7 +259,7 @@ ended end k _ = Err (Header end)
 
 abbrev pub run_by : TurnResult → (Stage → Result EngineTable HeaderFault) → (Declaration → Result EngineTable HeaderFault) → Result EngineTable HeaderFault
 run_by (Ok (Goes s)) on line = on s
-run_by (Ok (Gives d)) on line = line d
+run_by (Ok (Gives d new)) on line = line d
 run_by (Err f) on line = Err f
 
 unfoldable pub declarations_read : ℕ → Known → Stage → List Placed → Result EngineTable HeaderFault
@@ -269,7 +280,7 @@ Answers r (Err NoMemory) = Unit {0}
 -- a turn leads from what is known to what is known then, and to a stage
 abbrev pub Leads : Known → Turn → Known → Stage → Type 0
 Leads k (Goes s) k' s' = (k' ≡ k) × (s' ≡ s)
-Leads k (Gives d) k' s' = (k' ≡ after k d) × (s' ≡ stage.Start)
+Leads k (Gives d new) k' s' = (k' ≡ after k d) × (s' ≡ stage.Start)
 
 -- a token leads from a stage to another
 pub record Follows (k : Known) (s : Stage) (x : Placed) (k' : Known) (s' : Stage) : Type 0 where

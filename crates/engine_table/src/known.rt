@@ -1,6 +1,6 @@
 ghost use Rattle.std.specs.Prelude.{◌≡◌, ◌==◌, if◌then◌else◌, ◌<◌, ◌≤◌, ◌+◌, [], ◌∷◌, ◌++◌};
-ghost use Rattle.std.specs.Prelude.{length, Some, None, IfOk, IfSome, OnErr, OnOk};
-ghost use Rattle.nwq_value.specs.Engine.{IsConstant, constant_named};
+ghost use Rattle.std.specs.Prelude.{false, length, is_some, Some, None, IfOk, IfErr, IfSome, OnErr, OnOk};
+ghost use Rattle.nwq_value.specs.Engine.{IsConstant, constant_named, routine_named};
 ghost use Rattle.nwq_value.specs.Limits.{parameter_limit};
 ghost use Rattle.engine_table.specs.declared.symbol.Symbol.TheVariants as symbol;
 ghost use Rattle.engine_table.specs.declared.declaration.Declaration.TheVariants as declaration;
@@ -299,7 +299,7 @@ fn defined_turn(name: &[u8], place: u32, symbol: Symbol) -> Result<Turn, HeaderF
     ensures turn { result ≡ turns.defined_turn name.now place symbol }
 {
     match defined(structure_of(name), symbol) {
-        Some(declaration) => Ok(Turn::Gives(declaration)),
+        Some(declaration) => Ok(Turn::Gives(declaration, false)),
         None => misfit(place),
     }
 }
@@ -317,7 +317,7 @@ fn closed_turn(function: Function, place: u32, symbol: Symbol) -> Result<Turn, H
     ensures { result ≡ turns.closed_turn function place symbol }
 {
     match symbol {
-        Symbol::Sign(Sign::Semicolon) => Ok(Turn::Gives(Declaration::Function(function))),
+        Symbol::Sign(Sign::Semicolon) => Ok(Turn::Gives(Declaration::Function(function), false)),
         _ => misfit(place),
     }
 }
@@ -326,13 +326,14 @@ fn closed_turn(function: Function, place: u32, symbol: Symbol) -> Result<Turn, H
 fn constant_end(
     head: Declared,
     value: Option<Const>,
+    new: bool,
     place: u32,
     symbol: Symbol,
 ) -> Result<Turn, HeaderFault>
-    ensures { result ≡ turns.constant_end head value place symbol }
+    ensures { result ≡ turns.constant_end head value new place symbol }
 {
     match symbol {
-        Symbol::Sign(Sign::Semicolon) => Ok(Turn::Gives(Declaration::Constant(head, value))),
+        Symbol::Sign(Sign::Semicolon) => Ok(Turn::Gives(Declaration::Constant(head, value), new)),
         _ => misfit(place),
     }
 }
@@ -372,13 +373,14 @@ fn param_turn(
 fn valued_turn(
     owner: Owner,
     value: Option<Const>,
+    new: bool,
     place: u32,
     symbol: Symbol,
 ) -> Result<Turn, HeaderFault>
-    ensures { Answers (turns.valued_turn owner value place symbol) result }
+    ensures { Answers (turns.valued_turn owner value new place symbol) result }
 {
     match owner {
-        Owner::Constant(head) => constant_end(head, value, place, symbol),
+        Owner::Constant(head) => constant_end(head, value, new, place, symbol),
         Owner::Parameter(function, ty) => {
             let param = Param { ty, default: value };
             param_turn(function, param, place, symbol)
@@ -501,12 +503,21 @@ impl Known {
         }
     }
 
+    /// Whether a function has this name. Most headers have their constants before all functions:
+    /// there is nothing to look for then.
+    #[tactic(auto, using(crate::proofs::NameLemmas::none_named))]
+    fn is_routine(&self, name: &[u8]) -> bool
+        ensures { result ≡ is_some (routine_named name.now self.now.table.routines) }
+    {
+        self.table.count() > 0 && self.table.by_name(name).is_some()
+    }
+
     /// What is wrong with a function of this name.
     #[tactic(auto, unfolding(crate::specs::Headers::function_fault))]
     fn function_fault(&self, head: &Declared) -> Option<HeaderFault>
         ensures { result ≡ header.function_fault (known_of self.now) head.now }
     {
-        if self.table.by_name(head.name.bytes()).is_some() {
+        if self.is_routine(head.name.bytes()) {
             Some(HeaderFault::Twice(head.place))
         } else if self.table.constant(head.name.bytes()).is_some() {
             Some(HeaderFault::Twice(head.place))
@@ -522,30 +533,44 @@ impl Known {
     fn constant_fault(&self, head: &Declared) -> Option<HeaderFault>
         ensures { result ≡ header.constant_fault (known_of self.now) head.now }
     {
-        if self.table.by_name(head.name.bytes()).is_some() {
+        if self.is_routine(head.name.bytes()) {
             Some(HeaderFault::Twice(head.place))
         } else {
             None
         }
     }
 
-    /// What is wrong with a constant of this name and this value.
+    /// What is wrong with a constant of this name without a value.
     #[tactic(auto, unfolding(crate::specs::Headers::value_fault))]
-    fn value_fault(&self, head: &Declared, value: &Option<Const>) -> Option<HeaderFault>
-        ensures { result ≡ header.value_fault (known_of self.now) head.now value.now }
+    fn loose_fault(&self, head: &Declared) -> Option<HeaderFault>
+        ensures { result ≡ header.value_fault (known_of self.now) head.now None }
+    {
+        if self.table.constant(head.name.bytes()).is_some() {
+            Some(HeaderFault::Twice(head.place))
+        } else {
+            None
+        }
+    }
+
+    /// Whether a constant of this name is new; else it has to be equal to the one that is there.
+    #[tactic(auto, unfolding(crate::specs::Headers::value_fault))]
+    fn is_new(&self, head: &Declared, value: &Const) -> Result<bool, HeaderFault>
+        ensures new { IfOk result (λ new.
+            new ≡ turns.is_new (known_of self.now) (Some value.now) (owner.Constant head.now)) }
+        ensures clear { IfOk result
+            (λ _. header.value_fault (known_of self.now) head.now (Some value.now) ≡ None) }
+        ensures fault { IfErr result
+            (λ f. header.value_fault (known_of self.now) head.now (Some value.now) ≡ Some f) }
     {
         match self.table.constant(head.name.bytes()) {
-            None => None,
-            Some(old) => match value {
-                None => Some(HeaderFault::Twice(head.place)),
-                Some(new) => {
-                    if same(old, new) {
-                        None
-                    } else {
-                        Some(HeaderFault::Twice(head.place))
-                    }
+            None => Ok(true),
+            Some(old) => {
+                if same(old, value) {
+                    Ok(false)
+                } else {
+                    Err(HeaderFault::Twice(head.place))
                 }
-            },
+            }
         }
     }
 
@@ -596,26 +621,25 @@ impl Known {
         }
     }
 
-    /// What is wrong with what a value is for.
-    fn owner_fault(&self, owner: &Owner, value: &Option<Const>) -> Option<HeaderFault>
-        ensures { result ≡ turns.owner_fault (known_of self.now) owner.now value.now }
+    /// What is wrong with what a value that has no constant is for.
+    fn owner_fault(&self, owner: &Owner) -> Option<HeaderFault>
+        ensures { result ≡ turns.owner_fault (known_of self.now) owner.now None }
     {
         match owner {
-            Owner::Constant(head) => self.value_fault(head, value),
+            Owner::Constant(head) => self.loose_fault(head),
             Owner::Parameter(_, _) => None,
         }
     }
 
-    /// A value was read.
+    /// A value was read. This is where a constant is looked up, once.
     fn got(&self, owner: Owner, value: Const) -> Result<Turn, HeaderFault>
-        ensures { result ≡ turns.checked (known_of self.now) owner (Some value)
-            (turns.goes (stage.Valued owner (Some value))) }
+        ensures { result ≡ turns.got (known_of self.now) owner (Some value) 0 }
     {
-        let value = Some(value);
-        match self.owner_fault(&owner, &value) {
-            Some(fault) => Err(fault),
-            None => Ok(Turn::Goes(Stage::Valued(owner, value))),
-        }
+        let new = match &owner {
+            Owner::Constant(head) => self.is_new(head, &value)?,
+            Owner::Parameter(_, _) => false,
+        };
+        Ok(Turn::Goes(Stage::Valued(owner, Some(value), new)))
     }
 
     /// The constant of this type that a name stands for.
@@ -705,11 +729,11 @@ impl Known {
     /// The token that ends such a value.
     fn loose_end(&self, owner: Owner, place: u32, symbol: Symbol) -> Result<Turn, HeaderFault>
         ensures { Answers (turns.checked (known_of self.now) owner None
-            (turns.valued_turn owner None place symbol)) result }
+            (turns.valued_turn owner None false place symbol)) result }
     {
-        match self.owner_fault(&owner, &None) {
+        match self.owner_fault(&owner) {
             Some(fault) => Err(fault),
-            None => valued_turn(owner, None, place, symbol),
+            None => valued_turn(owner, None, false, place, symbol),
         }
     }
 
@@ -754,7 +778,7 @@ impl Known {
             Stage::Value(owner) => self.value_turn(alloc, owner, place, symbol),
             Stage::Minus(owner) => self.minus_turn(owner, place, symbol),
             Stage::Loose(owner, depth) => self.loose_turn(owner, depth, place, symbol),
-            Stage::Valued(owner, value) => valued_turn(owner, value, place, symbol),
+            Stage::Valued(owner, value, new) => valued_turn(owner, value, new, place, symbol),
             Stage::Params(function) => self.params_turn(function, place, &symbol),
             Stage::Param(function) => self.param_start(function, place, &symbol),
             Stage::ParamType(function, ty) => param_type_turn(function, ty, place, symbol),
@@ -784,15 +808,17 @@ impl Known {
     }
 
     /// Takes a constant into the table, unless one of its name is there.
-    fn define(&mut self, head: Declared, value: Const) -> Result<(), NoMemory>
+    fn define(&mut self, head: Declared, value: Const, new: bool) -> Result<(), NoMemory>
         requires value { IsConstant value }
         requires free { header.constant_fault (known_of self.old) head ≡ None }
+        requires new { new
+            ≡ turns.is_new (known_of self.old) (Some value) (owner.Constant head) }
         requires counted { IsCounted self.old }
         ensures declared { OnOk result (known_of self.new
             ≡ header.after (known_of self.old) (declaration.Constant head (Some value))) }
         ensures counted { OnOk result (IsCounted self.new) }
     {
-        if self.table.constant(head.name.bytes()).is_some() {
+        if !new {
             return Ok(());
         }
         hold(&mut self.text, text_bytes(&value))?;
@@ -800,24 +826,31 @@ impl Known {
     }
 
     /// Takes a constant into the table, where it has a value.
-    fn declare_constant(&mut self, head: Declared, value: Option<Const>) -> Result<(), NoMemory>
+    fn declare_constant(
+        &mut self,
+        head: Declared,
+        value: Option<Const>,
+        new: bool,
+    ) -> Result<(), NoMemory>
         requires value { IfSome value IsConstant }
         requires free { header.constant_fault (known_of self.old) head ≡ None }
+        requires new { new ≡ turns.is_new (known_of self.old) value (owner.Constant head) }
         requires counted { IsCounted self.old }
         ensures declared { OnOk result (known_of self.new
             ≡ header.after (known_of self.old) (declaration.Constant head value)) }
         ensures counted { OnOk result (IsCounted self.new) }
     {
         match value {
-            Some(value) => self.define(head, value),
+            Some(value) => self.define(head, value, new),
             None => Ok(()),
         }
     }
 
     /// Takes in what a line declares. It fails where memory is refused, or the strings of the table
     /// pass the budget.
-    pub fn declare(&mut self, declared: Declaration) -> Result<(), NoMemory>
+    pub fn declare(&mut self, declared: Declaration, new: bool) -> Result<(), NoMemory>
         requires keeps { KeepsDeclaration (known_of self.old) declared }
+        requires new { turns.TellsNew (known_of self.old) declared new }
         requires counted { IsCounted self.old }
         ensures declared { OnOk result
             (known_of self.new ≡ header.after (known_of self.old) declared) }
@@ -826,7 +859,7 @@ impl Known {
         match declared {
             Declaration::Passed => Ok(()),
             Declaration::TypeWord(name) => self.words.add(name),
-            Declaration::Constant(head, value) => self.declare_constant(head, value),
+            Declaration::Constant(head, value) => self.declare_constant(head, value, new),
             Declaration::Function(function) => self.declare_function(function),
         }
     }

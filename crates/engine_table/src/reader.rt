@@ -34,8 +34,8 @@ fn go(known: &mut Known, turn: Turn) -> Result<Stage, NoMemory>
 {
     match turn {
         Turn::Goes(stage) => Ok(stage),
-        Turn::Gives(declaration) => {
-            known.declare(declaration)?;
+        Turn::Gives(declaration, new) => {
+            known.declare(declaration, new)?;
             Ok(Stage::Start)
         }
     }

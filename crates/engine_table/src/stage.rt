@@ -31,8 +31,8 @@ pub enum Stage {
     Minus(Owner),
     /// in a value of a type that has no constants, inside so many brackets
     Loose(Owner, u32),
-    /// behind a value
-    Valued(Owner, Option<Const>),
+    /// behind a value; `true` where it is that of a constant whose name no constant has yet
+    Valued(Owner, Option<Const>, bool),
     /// behind a function's `(`
     Params(Function),
     /// behind a `,` between parameters
@@ -45,9 +45,10 @@ pub enum Stage {
     Closed(Function),
 }
 
-/// What a token does to a line: it goes on, or it is whole and declares something.
+/// What a token does to a line: it goes on, or it is whole and declares something. Of a constant
+/// with a value it is told whether its name is new, so that it isn't looked up again.
 #[derive(Drop)]
 pub enum Turn {
     Goes(Stage),
-    Gives(Declaration),
+    Gives(Declaration, bool),
 }

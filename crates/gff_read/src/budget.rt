@@ -4,7 +4,7 @@ ghost use Rattle.std.specs.Prelude.{◌≡◌, ◌<◌, ◌+◌, OnOk, OnErr};
 ghost use Rattle.gff_tree.specs.Tree.{plain_leaf};
 ghost use Rattle.gff_read.specs.Charge.{IsScalar, leaf_charge, parts_charge, text_charge};
 
-use gff_tree::{Blob, Leaf, Parts};
+use gff_tree::{Leaf, Parts};
 use nwq_value::NoMemory;
 
 /// How many bytes a tree may be charged. Fields and lists of a file may be shared, so a small file
@@ -40,7 +40,7 @@ pub fn charge(left: &mut u64, bytes: u64) -> Result<(), NoMemory>
     }
 }
 
-fn charge_text(left: &mut u64, text: &Blob) -> Result<(), NoMemory>
+fn charge_text(left: &mut u64, text: &[u8]) -> Result<(), NoMemory>
     ensures taken { OnOk result (left.old ≡ left.new + text_charge text.now) }
     ensures passed { OnErr result (left.old < text_charge text.now) }
 {
@@ -54,7 +54,7 @@ fn charge_parts(left: &mut u64, parts: &Parts) -> Result<(), NoMemory>
 {
     for part in parts.as_slice() {
         charge(left, PART_BYTES)?;
-        charge_text(left, &part.text)?;
+        charge_text(left, part.text.as_slice())?;
     }
     Ok(())
 }
@@ -66,7 +66,8 @@ pub fn charge_data(left: &mut u64, value: &Leaf) -> Result<(), NoMemory>
     ensures passed { OnErr result (left.old < leaf_charge (plain_leaf value.now)) }
 {
     match value {
-        Leaf::Str(text) | Leaf::Res(text) | Leaf::Void(text) => charge_text(left, text),
+        Leaf::Str(text) => charge_text(left, text.as_slice()),
+        Leaf::Res(text) | Leaf::Void(text) => charge_text(left, text.as_slice()),
         Leaf::Loc(loc) => charge_parts(left, &loc.parts),
         _ => Ok(()),
     }

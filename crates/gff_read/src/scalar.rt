@@ -12,6 +12,7 @@ use byteorder::{ByteOrder, LittleEndian};
 use gff_bytes::{Part, Range, View};
 use gff_tree::{Leaf, Loc, LocPart, Parts};
 use nwq_value::Items;
+use shared_bytes::SharedBytes;
 use std::alloc::Global;
 
 /// How many bytes the name of a resource has at most.
@@ -213,7 +214,7 @@ fn text_leaf(alloc: Global, view: &View<'_>, field: u32, word: u32) -> Result<Le
     ensures { Gives plain_leaf result (leaf_for view.now field FieldKind.Str word) }
 {
     match counted_at(view, field, word) {
-        Ok(text) => Ok(Leaf::Str(Items::of_slice(alloc, text)?)),
+        Ok(text) => Ok(Leaf::Str(SharedBytes::of_slice(alloc, text)?)),
         Err(e) => Err(e),
     }
 }

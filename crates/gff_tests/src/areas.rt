@@ -10,7 +10,8 @@ use gff_bytes::View;
 use gff_read::read;
 use gff_write::write;
 use local_variables::{Var, Vars};
-use nwq_value::FILE_BYTES;
+use nwq_value::{FILE_BYTES, NoMemory};
+use shared_bytes::SharedBytes;
 use std::alloc::Global;
 
 /// An area of six objects with all five lists, the waypoints' before the doors'.
@@ -190,8 +191,11 @@ fn set_int(area: &mut Area, o: u32, name: &[u8], n: i32) -> bool {
     has(area, o) && area.set_int(o, name, n).is_ok()
 }
 
-fn set_text(area: &mut Area, o: u32, name: &[u8], text: &[u8]) -> bool {
-    has(area, o) && area.set_text(o, name, text).is_ok()
+fn set_text(alloc: Global, area: &mut Area, o: u32, name: &[u8], text: &[u8]) -> bool {
+    match SharedBytes::of_slice(alloc, text) {
+        Ok(text) => has(area, o) && area.set_text(o, name, text).is_ok(),
+        Err(NoMemory) => false,
+    }
 }
 
 fn delete_int(area: &mut Area, o: u32, name: &[u8]) -> bool {
@@ -285,13 +289,13 @@ fn what_nobody_changed_goes_back_as_it_was(rt: HostRuntime) {
 }
 
 /// Changes variables of the two creatures; false where memory ran out.
-fn change(area: &mut Area) -> bool {
+fn change(alloc: Global, area: &mut Area) -> bool {
     set_int(area, 1, b"n", -7)
         && delete_int(area, 1, b"s")
         && delete_text(area, 1, b"s")
-        && set_text(area, 1, b"s", b"new")
+        && set_text(alloc, area, 1, b"s", b"new")
         && set_int(area, 2, b"k", 1)
-        && set_text(area, 2, b"t", b"x")
+        && set_text(alloc, area, 2, b"t", b"x")
 }
 
 #[test]
@@ -299,10 +303,38 @@ fn changed_variables_go_back_in_their_places(rt: HostRuntime) {
     let mut area = area_of(rt.alloc(), AREA.as_slice())
         .ok()
         .expect(&rt, "an area");
-    let changed = change(&mut area);
+    let changed = change(rt.alloc(), &mut area);
     let file = file_of(rt.alloc(), area).expect(&rt, "a file");
     assert!(rt; changed);
     assert_eq!(rt; file.as_slice(), AREA_CHANGED.as_slice());
+}
+
+/// A string that is long enough to be shared.
+const LONG: &[u8] = &[b'x'; 200];
+
+/// Whether an object of this number has the long string.
+fn has_long(area: &Area, o: u32) -> bool {
+    o >= 1 && o <= area.count() && area.get_text(o, b"s") == LONG
+}
+
+/// The area that is left where the long string takes the place of one and comes last.
+fn with_long(alloc: Global) -> Option<Area> {
+    let mut area = area_of(alloc, AREA.as_slice()).ok()?;
+    let first = set_text(alloc, &mut area, 1, b"s", LONG);
+    let second = set_text(alloc, &mut area, 2, b"s", LONG);
+    let file = file_of(alloc, area)?;
+    if first && second {
+        area_of(alloc, file.as_slice()).ok()
+    } else {
+        None
+    }
+}
+
+#[test]
+fn a_long_string_goes_back_for_each_that_has_it(rt: HostRuntime) {
+    let area = with_long(rt.alloc()).expect(&rt, "an area");
+    assert!(rt; has_long(&area, 1));
+    assert!(rt; has_long(&area, 2));
 }
 
 /// The variables `s`, a text and an int; nothing where memory ran out.

@@ -3,6 +3,7 @@ ghost use Rattle.gff_tree.specs.Tree.{is_sound, plain_node};
 
 use crate::label::Label;
 use nwq_value::Items;
+use shared_bytes::SharedBytes;
 
 /// A list of bytes of any length.
 pub type Blob = Items<u8>;
@@ -38,7 +39,7 @@ pub enum Leaf {
     Int64(i64),
     Float([u8; 4]),
     Double([u8; 8]),
-    Str(Blob),
+    Str(SharedBytes),
     Res(Blob),
     Loc(Loc),
     Void(Blob),

@@ -8,14 +8,11 @@ ghost use Rattle.kept_files.specs.Kept.{Keeps, KeepsRead};
 use nwq_outside::{Done, Files, MemFiles, Read};
 use std::alloc::Global;
 
-/// How a file of bytecode begins. No message shows a line of one.
-const CODE: &[u8] = b"NCS V1.0";
-
 /// How the state of a play begins.
 const STATE: &[u8] = b"NWQSAVE";
 
-/// Files that keep for a message what each read of a name answered last, but for bytecode, and each
-/// state of a play that was written. The message is made of that alone: no file is opened again.
+/// Files that keep for a message what each read of a name answered last, and each state of a play
+/// that was written. The message is made of that alone: no file is opened again.
 #[derive(Drop)]
 pub struct KeptFiles<F: Files> {
     pub inner: F,
@@ -41,16 +38,12 @@ fn keep(kept: &mut MemFiles, name: &str, bytes: &[u8])
     let _held = kept.add(name, bytes);
 }
 
-/// Keeps what a read of the name answered, where a message may show a line of it.
+/// Keeps the bytes that a read of the name answered.
 fn keep_read(kept: &mut MemFiles, name: &str, answer: &Read)
     ensures kept { KeepsRead name.now answer.now kept.old.contents kept.new.contents }
 {
     match answer {
-        Read::Bytes(bytes) => {
-            if !bytes.starts_with(CODE) {
-                keep(kept, name, bytes.as_slice());
-            }
-        }
+        Read::Bytes(bytes) => keep(kept, name, bytes.as_slice()),
         _ => {}
     }
 }

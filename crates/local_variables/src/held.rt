@@ -3,24 +3,25 @@
 //! variable that is taken out leaves its slot empty, and renumbers no other.
 
 ghost use Rattle.std.specs.Prelude.{◌≡◌, [], ◌∷◌, ◌++◌, ◌<◌, length, Some, OnOk, OnErr, IfOk};
-ghost use Rattle.std.specs.Prelude.{IfSome};
+ghost use Rattle.std.specs.Prelude.{IfSome, MatchOption};
 ghost use Rattle.std.specs.List.{AllByRecursion};
 ghost use Rattle.std.specs.Option.{option_map};
 ghost use Rattle.indexmap.specs.IndexMap.{keys};
 ghost use Rattle.nwq_value.specs.Index.{number_under, Puts};
-ghost use Rattle.local_variables.specs.Variables.{variable_of, int_of, text_of};
+ghost use Rattle.local_variables.specs.Variables.{IntVar, TextVar, variable_of, int_of, text_of};
 ghost use Rattle.local_variables.specs.Kept.{variable_in, variable_at, with_content, at_stamp};
 ghost use Rattle.local_variables.specs.Kept.{Ascend};
 
 use crate::vars::Var;
 use indexmap::IndexMap;
 use nwq_value::{Items, NameIndex, NoMemory};
+use shared_bytes::SharedBytes;
 use std::alloc::Global;
 
 /// What a variable holds.
 pub enum Content {
     Int(i32),
-    Text(Items<u8>),
+    Text(SharedBytes),
 }
 
 /// A variable.
@@ -51,22 +52,28 @@ impl Drop for Held {
 }
 
 impl Held {
-    /// A copy of a variable.
-    pub fn of(alloc: Global, v: Var<'_>) -> Result<Held, NoMemory>
-        ensures variable { IfOk result (λ h. variable_in h ≡ variable_of v.entry) }
+    /// An int under a name.
+    pub fn of_int(alloc: Global, name: &[u8], n: i32) -> Result<Held, NoMemory>
+        ensures variable { IfOk result (λ h. variable_in h ≡ IntVar name.now n) }
     {
-        match v {
-            Var::Int(name, n) => Ok(Held {
-                name: Items::of_slice(alloc, name)?,
-                content: Content::Int(n),
+        Ok(Held {
+            name: Items::of_slice(alloc, name)?,
+            content: Content::Int(n),
+        })
+    }
+
+    /// A string under a name.
+    pub fn of_text(alloc: Global, name: &[u8], text: SharedBytes) -> Result<Held, NoMemory>
+        ensures variable { IfOk result (λ h. variable_in h ≡ TextVar name.now text) }
+    {
+        match Items::of_slice(alloc, name) {
+            Ok(name) => Ok(Held {
+                name,
+                content: Content::Text(text),
             }),
-            Var::Text(name, text) => {
-                let name = Items::of_slice(alloc, name)?;
-                let text = Items::of_slice(alloc, text)?;
-                Ok(Held {
-                    name,
-                    content: Content::Text(text),
-                })
+            Err(NoMemory) => {
+                drop(text);
+                Err(NoMemory)
             }
         }
     }
@@ -90,13 +97,14 @@ impl Held {
         }
     }
 
-    /// Its string, or the empty one where it is an int.
-    fn text(&self) -> &[u8]
-        ensures { result.now ≡ text_of (Some (variable_in self.now)) }
+    /// Its string, unless it is an int.
+    fn string(&self) -> Option<&SharedBytes>
+        ensures { MatchOption result (text_of (Some (variable_in self.now)) ≡ [])
+            (λ text. text.now ≡ text_of (Some (variable_in self.now))) }
     {
         match &self.content {
-            Content::Int(_) => &[],
-            Content::Text(text) => text.as_slice(),
+            Content::Int(_) => None,
+            Content::Text(text) => Some(text),
         }
     }
 }
@@ -111,13 +119,14 @@ pub fn int_in(slot: &Option<Held>) -> i32
     }
 }
 
-/// The string in a slot, or the empty one where there is none.
-pub fn text_in(slot: &Option<Held>) -> &[u8]
-    ensures { result.now ≡ text_of (variable_at slot.now) }
+/// The string in a slot, if there is one.
+pub fn string_in(slot: &Option<Held>) -> Option<&SharedBytes>
+    ensures { MatchOption result (text_of (variable_at slot.now) ≡ [])
+        (λ text. text.now ≡ text_of (variable_at slot.now)) }
 {
     match slot {
-        Some(held) => held.text(),
-        None => &[],
+        Some(held) => held.string(),
+        None => None,
     }
 }
 

@@ -1,15 +1,16 @@
 //! The variables of an object that has some.
 
 ghost use Rattle.std.specs.Prelude.{◌≡◌, [], ◌∷◌, ◌++◌, not, false, filter, length};
-ghost use Rattle.std.specs.Prelude.{is_some, OnOk, OnErr};
+ghost use Rattle.std.specs.Prelude.{is_some, OnOk, OnErr, MatchOption};
 ghost use Rattle.std.specs.List.{list_any, IsDistinct};
 ghost use Rattle.local_variables.specs.Variables.{IntVar, TextVar, variable_of, is_int, is_text};
 ghost use Rattle.local_variables.specs.Variables.{same_variable, int_named, text_named, put};
 
-use crate::held::{Content, Held, Slots, add, find, int_in, text_in, write};
+use crate::held::{Content, Held, Slots, add, find, int_in, string_in, write};
 use crate::slot_walk::SlotWalk;
 use crate::vars::Var;
-use nwq_value::{Items, NameIndex, NoMemory};
+use nwq_value::{NameIndex, NoMemory};
+use shared_bytes::SharedBytes;
 use std::alloc::Global;
 use std::marker::Model;
 
@@ -103,13 +104,14 @@ impl Kept {
         }
     }
 
-    /// The string of a name, or the empty one where there is none.
-    pub(crate) fn text(&self, name: &[u8]) -> &[u8]
-        ensures value { result.now ≡ text_named name.now self.now }
+    /// The string of a name, if there is one.
+    pub(crate) fn string(&self, name: &[u8]) -> Option<&SharedBytes>
+        ensures value { MatchOption result (text_named name.now self.now ≡ [])
+            (λ text. text.now ≡ text_named name.now self.now) }
     {
         match find(&self.slots, &self.texts, name) {
-            Some(i) => text_in(&self.slots[i]),
-            None => &[],
+            Some(i) => string_in(&self.slots[i]),
+            None => None,
         }
     }
 
@@ -120,7 +122,7 @@ impl Kept {
         ensures err { OnErr result (self.new ≡ self.old) }
     {
         let next = self.next.checked_add(1).ok_or(NoMemory)?;
-        let held = Held::of(self.alloc, Var::Int(name, n))?;
+        let held = Held::of_int(self.alloc, name, n)?;
         add(&mut self.slots, &mut self.ints, name, self.next, held)?;
         self.next = next;
         self.live += 1;
@@ -128,13 +130,13 @@ impl Kept {
     }
 
     /// Puts a string last.
-    fn push_text(&mut self, name: &[u8], text: &[u8]) -> Result<(), NoMemory>
+    fn push_text(&mut self, name: &[u8], text: SharedBytes) -> Result<(), NoMemory>
         requires new { list_any (is_text name.now) self.old ≡ false }
-        ensures ok { OnOk result (self.new ≡ self.old ++ TextVar name.now text.now ∷ []) }
+        ensures ok { OnOk result (self.new ≡ self.old ++ TextVar name.now text ∷ []) }
         ensures err { OnErr result (self.new ≡ self.old) }
     {
         let next = self.next.checked_add(1).ok_or(NoMemory)?;
-        let held = Held::of(self.alloc, Var::Text(name, text))?;
+        let held = Held::of_text(self.alloc, name, text)?;
         add(&mut self.slots, &mut self.texts, name, self.next, held)?;
         self.next = next;
         self.live += 1;
@@ -150,7 +152,10 @@ impl Kept {
     {
         match v {
             Var::Int(name, n) => self.push_int(name, n),
-            Var::Text(name, text) => self.push_text(name, text),
+            Var::Text(name, text) => {
+                let text = SharedBytes::of_slice(self.alloc, text)?;
+                self.push_text(name, text)
+            }
         }
     }
 
@@ -169,15 +174,14 @@ impl Kept {
     }
 
     /// Gives a string of a name a value, in its place, or puts it last where there is none.
-    pub(crate) fn set_text(&mut self, name: &[u8], text: &[u8]) -> Result<(), NoMemory>
-        ensures ok { OnOk result (self.new ≡ put (TextVar name.now text.now) self.old) }
+    pub(crate) fn set_text(&mut self, name: &[u8], text: SharedBytes) -> Result<(), NoMemory>
+        ensures ok { OnOk result (self.new ≡ put (TextVar name.now text) self.old) }
         ensures err { OnErr result (self.new ≡ self.old) }
     {
         match find(&self.slots, &self.texts, name) {
             None => self.push_text(name, text),
             Some(i) => {
-                let new = Items::of_slice(self.alloc, text)?;
-                write(&mut self.slots[i], Content::Text(new));
+                write(&mut self.slots[i], Content::Text(text));
                 Ok(())
             }
         }
@@ -191,7 +195,10 @@ impl Kept {
     {
         match v {
             Var::Int(name, n) => self.set_int(name, n),
-            Var::Text(name, text) => self.set_text(name, text),
+            Var::Text(name, text) => {
+                let text = SharedBytes::of_slice(self.alloc, text)?;
+                self.set_text(name, text)
+            }
         }
     }
 

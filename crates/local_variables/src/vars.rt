@@ -1,7 +1,7 @@
 //! The variables of an object.
 
 ghost use Rattle.std.specs.Prelude.{◌≡◌, [], ◌∷◌, ◌++◌, not, false, filter, length, slice_get};
-ghost use Rattle.std.specs.Prelude.{IfOk, OnOk, OnErr};
+ghost use Rattle.std.specs.Prelude.{IfOk, OnOk, OnErr, MatchOption};
 ghost use Rattle.std.specs.List.{list_any, IsDistinct};
 ghost use Rattle.std.specs.Option.{option_map};
 ghost use Rattle.local_variables.specs.Variables.{IntVar, TextVar, variable_of, is_int, is_text};
@@ -10,6 +10,7 @@ ghost use Rattle.local_variables.specs.Variables.{same_variable, int_named, text
 use crate::kept::Kept;
 use crate::walk::Walk;
 use nwq_value::NoMemory;
+use shared_bytes::SharedBytes;
 use std::alloc::Global;
 use std::marker::Model;
 
@@ -51,6 +52,20 @@ fn only(alloc: Global, v: Var<'_>) -> Result<Box<Kept>, NoMemory>
 {
     let mut all = Kept::new(alloc);
     match all.push(v) {
+        Err(NoMemory) => {
+            drop(all);
+            Err(NoMemory)
+        }
+        Ok(()) => Ok(Box::new(alloc, all)?),
+    }
+}
+
+/// The list of one string.
+fn only_text(alloc: Global, name: &[u8], text: SharedBytes) -> Result<Box<Kept>, NoMemory>
+    ensures only { IfOk result (λ all. all.value ≡ TextVar name.now text ∷ []) }
+{
+    let mut all = Kept::new(alloc);
+    match all.set_text(name, text) {
         Err(NoMemory) => {
             drop(all);
             Err(NoMemory)
@@ -118,13 +133,24 @@ impl Vars {
         }
     }
 
+    /// The string of a name, if there is one.
+    pub fn string(&self, name: &[u8]) -> Option<&SharedBytes>
+        ensures value { MatchOption result (text_named name.now self.now ≡ [])
+            (λ text. text.now ≡ text_named name.now self.now) }
+    {
+        match &self.kept {
+            None => None,
+            Some(all) => all.string(name),
+        }
+    }
+
     /// The string of a name, or the empty one where there is none.
     pub fn text(&self, name: &[u8]) -> &[u8]
         ensures value { result.now ≡ text_named name.now self.now }
     {
-        match &self.kept {
+        match self.string(name) {
             None => &[],
-            Some(all) => all.text(name),
+            Some(text) => text.as_slice(),
         }
     }
 
@@ -153,11 +179,17 @@ impl Vars {
     }
 
     /// Gives a string of a name a value, in its place, or puts it last where there is none.
-    pub fn set_text(&mut self, name: &[u8], text: &[u8]) -> Result<(), NoMemory>
-        ensures ok { OnOk result (self.new ≡ put (TextVar name.now text.now) self.old) }
+    pub fn set_text(&mut self, name: &[u8], text: SharedBytes) -> Result<(), NoMemory>
+        ensures ok { OnOk result (self.new ≡ put (TextVar name.now text) self.old) }
         ensures err { OnErr result (self.new ≡ self.old) }
     {
-        self.set(Var::Text(name, text))
+        match &mut self.kept {
+            None => {
+                self.kept = Some(only_text(self.alloc, name, text)?);
+                Ok(())
+            }
+            Some(all) => all.set_text(name, text),
+        }
     }
 
     /// Gives the variable of a type and name a value, in its place, or puts it last where there is

@@ -1,6 +1,6 @@
 -- Values on top of cells.
 use Rattle.std.proofs.Common.{arith, ◌≡◌, ◌≢◌, ◌<◌, ◌≤◌, ◌+◌, ◌++◌, ℕ, suc, List, [], ◌∷◌, length, take, drop, replicate, Option, Some, None, Bool, true, inl, inr, sym, ap, ◌∙◌, refl}
-use Rattle.std.specs.Prelude.{ℤ, slice_get, slice_set, nat_lt, if◌then◌else◌}
+use Rattle.std.specs.Prelude.{ℤ, pos, slice_get, slice_set, nat_lt, if◌then◌else◌}
 use Rattle.std.proofs.lemmas.Bool.{cases_lt}
 use Rattle.std.proofs.lemmas.Bool.Decides.{nat_tests}
 use Rattle.std.proofs.lemmas.List.{append-nil, take_all, take_at}
@@ -10,7 +10,9 @@ use Rattle.nwq_value.specs.declared.value.Value.TheVariants.{Int, Text, Object, 
 use Rattle.nwq_value.specs.Operators.{is_zero}
 use Rattle.saved_state.specs.declared.cell.Cell.{Cell}
 use Rattle.saved_state.specs.declared.cell.Cell.TheVariants.{Value as Holds, Base}
-use Rattle.machine_rules.specs.Cells.{on_int, on_text, of_int, of_ints, of_texts, zero_on_top}
+use Rattle.machine_rules.specs.Cells.{on_int, on_text, of_int, of_ints, of_texts, value_pushed, zero_on_top}
+use Rattle.machine_rules.specs.Values.{starting_value}
+use Rattle.stack_shape.specs.StackEffects.{type_of_one}
 use Rattle.machine_rules.specs.Act.{int_dropped}
 use Rattle.machine_frames.specs.Tops.{HasValue, HasInt, HasText}
 
@@ -58,9 +60,6 @@ second_int f cells h = let top = first_int f cells h in
     has_lower cells (on_int_has (drop 1 cells) (λ x below. Some (Holds (Int (f x top.int)) ∷ below))
     (λ none. h (on_int_is cells (λ y rest. on_int rest (λ x below. Some (Holds (Int (f x y)) ∷ below))) top.int top.is ∙ none)))
 
-pub two_lie : (f : ℤ → ℤ → ℤ) (cells : List Cell) → of_ints f cells ≢ None → 0 < length cells
-two_lie f cells h = let first = first_int f cells h in within_one cells (Holds (Int first.int)) first.is
-
 two_is : (f : ℤ → ℤ → ℤ) (cells : List Cell) (x y : ℤ) → slice_get cells 0 ≡ Some (Holds (Int y)) → slice_get cells 1 ≡ Some (Holds (Int x))
     → of_ints f cells ≡ Some (Holds (Int (f x y)) ∷ drop 2 cells)
 two_is f cells x y a b =
@@ -68,18 +67,10 @@ two_is f cells x y a b =
     ∙ on_int_is (drop 1 cells) (λ x below. Some (Holds (Int (f x y)) ∷ below)) x (lower cells 0 ∙ b)
     ∙ ap (λ (below : List Cell). Some (Holds (Int (f x y)) ∷ below)) (drop_two cells)
 
--- the answer stands in place of the first operand
-pub two_value : (f : ℤ → ℤ → ℤ) (cells : List Cell) → of_ints f cells ≢ None → HasValue 0 (drop 1 cells)
-two_value f cells h = let second = second_int f cells h in record { value = Int second.int; is = lower cells 0 ∙ second.is }
-
 set_lower : (cells : List Cell) (c new : Cell) → slice_get cells 1 ≡ Some c → slice_set (drop 1 cells) 0 new ≡ new ∷ drop 2 cells
 set_lower [] c new h = absurd cc
 set_lower (a ∷ []) c new h = absurd cc
 set_lower (a ∷ b ∷ cells) c new h = refl
-
-pub two_set : (f : ℤ → ℤ → ℤ) (cells : List Cell) (x y : ℤ) → slice_get cells 0 ≡ Some (Holds (Int y)) → slice_get cells 1 ≡ Some (Holds (Int x))
-    → of_ints f cells ≡ Some (slice_set (drop 1 cells) 0 (Holds (Int (f x y))))
-two_set f cells x y a b = two_is f cells x y a b ∙ sym (ap Some (set_lower cells (Holds (Int x)) (Holds (Int (f x y))) b))
 
 pub zero_is : (cells : List Cell) (y : ℤ) → slice_get cells 0 ≡ Some (Holds (Int y)) → zero_on_top cells ≡ is_zero y
 zero_is [] y h = absurd cc
@@ -88,7 +79,26 @@ zero_is (c ∷ cells) y h = ap (λ (c : Cell). zero_on_top (c ∷ cells)) (same 
     same : slice_get (c ∷ cells) 0 ≡ Some (Holds (Int y)) → c ≡ Holds (Int y)
     same h = cc
 
-pub ruleset two_lemmas = (first_int, second_int, two_lie, two_value, two_set, zero_is)
+pub ruleset two_lemmas = (first_int, second_int)
+
+-- the answer is written onto the lower one before the upper one goes
+pub fold_value : (cells : List Cell) (x : ℤ) → slice_get cells 1 ≡ Some (Holds (Int x)) → HasValue 1 cells
+fold_value cells x b = record { value = Int x; is = b }
+
+pub fold_lies : (cells : List Cell) (c new : Cell) → slice_get cells 0 ≡ Some c → 0 < length (slice_set cells 1 new)
+fold_lies [] c new h = absurd cc
+fold_lies (a ∷ cells) c new h = omega arith
+
+pub fold_is : (f : ℤ → ℤ → ℤ) (cells : List Cell) (x y : ℤ) → slice_get cells 0 ≡ Some (Holds (Int y)) → slice_get cells 1 ≡ Some (Holds (Int x))
+    → of_ints f cells ≡ Some (drop 1 (slice_set cells 1 (Holds (Int (f x y)))))
+fold_is f cells x y a b = two_is f cells x y a b ∙ sym (ap Some (set_upper cells (Holds (Int x)) (Holds (Int (f x y))) b))
+  where
+    set_upper : (cells : List Cell) (c new : Cell) → slice_get cells 1 ≡ Some c → drop 1 (slice_set cells 1 new) ≡ new ∷ drop 2 cells
+    set_upper [] c new h = absurd cc
+    set_upper (a ∷ []) c new h = absurd cc
+    set_upper (a ∷ b ∷ cells) c new h = refl
+
+pub ruleset fold_lemmas = (fold_value, fold_lies, fold_is, zero_is)
 
 -- ---- one int
 
@@ -114,6 +124,12 @@ pub dropped_is : (cells : List Cell) → int_dropped cells ≢ None → int_drop
 dropped_is cells h = let top = on_int_has cells (λ n rest. Some rest) h in on_int_is cells (λ n rest. Some rest) top.int top.is
 
 pub ruleset drop_lemmas = (dropped_has, dropped_lies, dropped_is, zero_is)
+
+-- ---- a starting value
+
+pub int_started : (kind : ℕ) (cells : List Cell) → kind ≡ 3 → value_pushed (starting_value kind) cells ≡ Some (Holds (Int (pos 0)) ∷ cells)
+unfolding type_of_one
+int_started kind cells is = ap (λ (k : ℕ). value_pushed (starting_value k) cells) is
 
 -- ---- two texts
 

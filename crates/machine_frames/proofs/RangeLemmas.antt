@@ -168,9 +168,6 @@ at_has f depth cells h =
     zero_more : depth ≡ depth + 0
     zero_more = omega arith
 
-pub at_value : (f : ℤ → ℤ) (depth : ℕ) (cells : List Cell) → int_at f depth cells ≢ None → HasValue depth cells
-at_value f depth cells h = let top = at_has f depth cells h in record { value = Int top.int; is = top.is }
-
 pub at_is : (f : ℤ → ℤ) (depth : ℕ) (cells : List Cell) (n : ℤ) → slice_get cells depth ≡ Some (Holds (Int n))
     → int_at f depth cells ≡ Some (slice_set cells depth (Holds (Int (f n))))
 at_is f depth cells n e =
@@ -188,7 +185,9 @@ at_end f depth first now n k m p e read is write put =
     ∙ ap (λ m. Some (slice_set first.cells depth (Holds (Int m)))) (sym write)
     ∙ sym (ap (λ (s : StackView). Some s.cells) put)
 
-pub ruleset at_lemmas = (at_has, at_value, at_is)
+-- an int is a value
+pub int_value : (depth : ℕ) (cells : List Cell) (n : ℤ) → slice_get cells depth ≡ Some (Holds (Int n)) → HasValue depth cells
+int_value depth cells n h = record { value = Int n; is = h }
 
 pub changed_at : (f : ℤ → ℤ) (range : Option CellRange) (r : CellRange) (cells : List Cell) → range ≡ Some r → int_changed f range cells ≢ None
     → int_changed f range cells ≡ int_at f r.above cells

@@ -188,6 +188,22 @@ copied from onto count left first now k v c e read =
         ∙ set_seam (take (onto + k) first.cells) (Holds w) rest (Holds v)
         ∙ ap (λ vs. take (onto + k) first.cells ++ with_values vs (drop (onto + count) first.cells)) (sym values)
 
+-- one value is written onto another
+pub put_read : (from onto : ℕ) (first now : StackView) (v : Value) → slice_get first.cells from ≡ Some (Holds v)
+    → now ≡ record first { cells = slice_set first.cells onto (Holds v) }
+    → IfSome (slice_get first.cells from) (λ cell. now ≡ record first { cells = slice_set first.cells onto cell })
+put_read from onto first now v read put = subst (λ o. IfSome o (λ cell. now ≡ record first { cells = slice_set first.cells onto cell })) (sym read) put
+
+pub copied_one : (from onto count left : ℕ) (first now after : StackView) → CopiedDown from onto count left first now → 0 < left
+    → IfSome (slice_get now.cells (from + (left - 1))) (λ cell. after ≡ record now { cells = slice_set now.cells (onto + (left - 1)) cell })
+    → CopiedDown from onto count (left - 1) first after
+copied_one from onto count left first now after c some step =
+    let last : left ≡ suc (left - 1) = omega (arith, some) in
+    let read = reads from onto count left first now (left - 1) c last in
+    let put : after ≡ record now { cells = slice_set now.cells (onto + (left - 1)) (Holds read.value) } =
+    subst (λ o. IfSome o (λ cell. after ≡ record now { cells = slice_set now.cells (onto + (left - 1)) cell })) read.is step in
+    subst (λ s. CopiedDown from onto count (left - 1) first s) (sym put) (copied from onto count left first now (left - 1) read.value c last read.is)
+
 -- nothing is written yet
 begun_in : (from onto count : ℕ) (first : StackView) (s : There count (drop from first.cells)) → AreValues count (drop onto first.cells) → from ≤ onto
     → CopiedDown from onto count count first first
@@ -232,7 +248,7 @@ onto_fits from onto count left len k first now c e size =
     let few = c.few in
     let inside = target_inside onto count k first.cells c.target (omega arith) in omega arith
 
-pub ruleset copy_lemmas = (reads, writes, copied, copy_begins, copy_ends, from_fits, onto_fits)
+pub ruleset copy_lemmas = (reads, writes, copied_one, copy_begins, copy_ends, from_fits, onto_fits)
 
 -- ---- copies that are pushed
 
@@ -269,6 +285,19 @@ one_pushed above count first now v w some most is same put =
     subst (λ (n : ℕ). IfSome (values_on n (drop above first.cells)) (λ vs. now ≡ record first { cells = with_values vs first.cells })) (sym e)
     (subst (λ o. IfSome o (λ vs. now ≡ record first { cells = with_values vs first.cells })) (sym whole) after)
 
+pub pushed_read : (above : ℕ) (first now : StackView) (v : Value) → slice_get first.cells above ≡ Some (Holds v)
+    → now ≡ record first { cells = Holds v ∷ first.cells }
+    → IfSome (slice_get first.cells above) (λ cell. now ≡ record first { cells = cell ∷ first.cells })
+pushed_read above first now v read put = subst (λ o. IfSome o (λ cell. now ≡ record first { cells = cell ∷ first.cells })) (sym read) put
+
+pub copy_pushed : (above count : ℕ) (first now : StackView) → AreValues count (drop above first.cells) → 0 < count → count ≤ 1
+    → IfSome (slice_get first.cells above) (λ cell. now ≡ record first { cells = cell ∷ first.cells })
+    → IfSome (values_on count (drop above first.cells)) (λ vs. now ≡ record first { cells = with_values vs first.cells })
+copy_pushed above count first now h some most step =
+    let read = one_has above count first.cells h some in
+    one_pushed above count first now read.value read.value some most read.is refl
+    (subst (λ o. IfSome o (λ cell. now ≡ record first { cells = cell ∷ first.cells })) read.is step)
+
 pub many_fit : (above count : ℕ) (cells : List Cell) → AreValues count (drop above cells) → 1 < count → above + count ≤ length cells
 many_fit above count cells h some =
     let t = there count (drop above cells) h in
@@ -285,4 +314,4 @@ many_pushed above count first now h put =
     put ∙ ap (λ (c : List Cell). record first { cells = c ++ first.cells }) (values_taken count (drop above first.cells) t.vs t.are) in
     subst (λ o. IfSome o (λ vs. now ≡ record first { cells = with_values vs first.cells })) (sym t.are) after
 
-pub ruleset push_lemmas = (none_pushed, one_has, one_pushed, many_fit, many_pushed)
+pub ruleset push_lemmas = (none_pushed, one_has, copy_pushed, many_fit, many_pushed)

@@ -130,6 +130,7 @@ impl Frame {
         requires small { self.old.place + op_size (op_of step.now) ≤ file_limit }
         ensures act { OnOk result (moved (op_of step.now) self.old ≡ Some (Moves self.new)) }
         ensures script { self.new.script ≡ self.old.script }
+        ensures own { self.new.self ≡ self.old.self }
     {
         self.place = change(alloc, &mut self.stack, step, self.place, self.own)?;
         Ok(())
@@ -144,6 +145,7 @@ impl Frame {
         ensures act { IfOk result (λ goes. moved (Div kind) self.old
             ≡ Some (if goes then Moves self.new else Divides)) }
         ensures script { self.new.script ≡ self.old.script }
+        ensures own { self.new.self ≡ self.old.self }
     {
         if zero_on_top(&self.stack) {
             return Ok(false);
@@ -161,6 +163,7 @@ impl Frame {
         ensures act { IfOk result (λ goes. moved Mod self.old
             ≡ Some (if goes then Moves self.new else Divides)) }
         ensures script { self.new.script ≡ self.old.script }
+        ensures own { self.new.self ≡ self.old.self }
     {
         if zero_on_top(&self.stack) {
             return Ok(false);
@@ -177,6 +180,7 @@ impl Frame {
         requires small { self.old.place + size ≤ file_limit }
         ensures act { OnOk result (subroutine_called offset self.old ≡ Moves self.new) }
         ensures script { self.new.script ≡ self.old.script }
+        ensures own { self.new.self ≡ self.old.self }
     {
         if self.calls.len() == self.calls.capacity() {
             more_calls(&mut self.calls)?;
@@ -193,6 +197,7 @@ impl Frame {
         ensures act { returned self.old.calls self.old
             ≡ (if result then Moves self.new else Returns) }
         ensures script { self.new.script ≡ self.old.script }
+        ensures own { self.new.self ≡ self.old.self }
     {
         match self.calls.pop() {
             None => false,
@@ -210,6 +215,7 @@ impl Frame {
         requires small { self.old.place + size ≤ file_limit }
         ensures act { OnOk result (based self.old ≡ Moves self.new) }
         ensures script { self.new.script ≡ self.old.script }
+        ensures own { self.new.self ≡ self.old.self }
     {
         let len = self.stack.len();
         let bp = self.stack.bp();
@@ -230,6 +236,7 @@ impl Frame {
         requires small { self.old.place + size ≤ file_limit }
         ensures act { restored self.old.stack.cells self.old ≡ Some (Moves self.new) }
         ensures script { self.new.script ≡ self.old.script }
+        ensures own { self.new.self ≡ self.old.self }
     {
         let bp = self.kept_bp();
         self.stack.drop_one();
@@ -258,6 +265,7 @@ impl Frame {
         requires small { self.old.place + size ≤ file_limit }
         ensures act { OnOk result (stored globals locals self.old ≡ Some (Moves self.new)) }
         ensures script { self.new.script ≡ self.old.script }
+        ensures own { self.new.self ≡ self.old.self }
     {
         match (cell_count(globals), cell_count(locals)) {
             (Some(globals), Some(locals)) => self.capture(globals, locals, size),
@@ -275,6 +283,7 @@ impl Frame {
           pending = saved ∷ self.old.pending;
         }) (stored_cells globals locals self.old) ≡ Some self.new) }
         ensures script { self.new.script ≡ self.old.script }
+        ensures own { self.new.self ≡ self.old.self }
     {
         let saved = self
             .stack

@@ -1,8 +1,10 @@
 //! Instructions that name cells by offsets and sizes.
 ghost use Rattle.std.specs.Prelude.{◌≡◌, ◌≢◌, ◌+◌, ◌≤◌, ◌<◌, ◌^◌, None, Some, OnOk, IfSome, drop};
-ghost use Rattle.std.specs.Prelude.{length};
+ghost use Rattle.std.specs.Prelude.{length, slice_get};
 ghost use Rattle.nwq_value.specs.Operators.{values_eq};
 ghost use Rattle.nwq_value.specs.declared.value.Ty.TheVariants.{Int as IntTy};
+ghost use Rattle.nwq_value.specs.declared.value.Value.TheVariants.{Int as IntValue};
+ghost use Rattle.saved_state.specs.declared.cell.Cell.TheVariants.{Value as Holds};
 ghost use Rattle.machine_rules.specs.Act.{bp_range, compared};
 ghost use Rattle.machine_rules.specs.Cells.{int_changed, pair_compared, range_kept, range_pushed};
 ghost use Rattle.machine_rules.specs.Cells.{range_written, runs_compared, values_dropped};
@@ -82,16 +84,42 @@ pub fn write_range(
     }
 }
 
-/// The int so far down changes where it stands.
+/// The int so far down changes where it stands. Where it can be read at once, no call is made.
 #[inline(always)]
-#[tactic(auto, using(crate::proofs::RangeLemmas::at_lemmas))]
 fn change_at(stack: &mut Stack, depth: usize, op: Unary) -> Result<(), NoMemory>
     requires case { int_at (unary_of op) depth stack.old.cells ≢ None }
     ensures cells { OnOk result
         (int_at (unary_of op) depth stack.old.cells ≡ Some stack.new.cells) }
     ensures bp { OnOk result (stack.new.bp ≡ stack.old.bp) }
 {
+    match stack.int_near(depth) {
+        None => change_apart(stack, depth, op),
+        Some(n) => put_changed(stack, depth, op, n),
+    }
+}
+
+/// The same by a call of its own, wherever the int lies.
+#[inline(never)]
+#[tactic(auto, using(crate::proofs::RangeLemmas::at_has))]
+fn change_apart(stack: &mut Stack, depth: usize, op: Unary) -> Result<(), NoMemory>
+    requires case { int_at (unary_of op) depth stack.old.cells ≢ None }
+    ensures cells { OnOk result
+        (int_at (unary_of op) depth stack.old.cells ≡ Some stack.new.cells) }
+    ensures bp { OnOk result (stack.new.bp ≡ stack.old.bp) }
+{
     let n = int(stack, depth);
+    put_changed(stack, depth, op, n)
+}
+
+/// What an int becomes is put in its place.
+#[inline(always)]
+#[tactic(auto, using(crate::proofs::RangeLemmas::int_value))]
+fn put_changed(stack: &mut Stack, depth: usize, op: Unary, n: i32) -> Result<(), NoMemory>
+    requires int { slice_get stack.old.cells depth ≡ Some (Holds (IntValue n)) }
+    ensures cells { OnOk result
+        (int_at (unary_of op) depth stack.old.cells ≡ Some stack.new.cells) }
+    ensures bp { OnOk result (stack.new.bp ≡ stack.old.bp) }
+{
     put(stack, depth, Value::Int(of_one(op, n)))?;
     Ok(())
 }

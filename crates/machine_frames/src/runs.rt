@@ -1,35 +1,83 @@
 //! Instructions that read and write runs of values.
-ghost use Rattle.std.specs.Prelude.{◌≡◌, ◌≢◌, ◌≤◌, ◌<◌, ◌+◌, ◌^◌, Some, OnOk, IfOk, IfSome};
-ghost use Rattle.std.specs.Prelude.{drop, length};
+ghost use Rattle.std.specs.Prelude.{◌≡◌, ◌≢◌, ◌≤◌, ◌<◌, ◌+◌, ◌^◌, Some, OnOk, IfSome};
+ghost use Rattle.std.specs.Prelude.{◌∷◌, drop, length, slice_get, slice_set};
 ghost use Rattle.nwq_value.specs.Operators.{values_eq};
 ghost use Rattle.machine_rules.specs.Cells.{int_changed, overwritten, range_kept, range_pushed};
 ghost use Rattle.machine_rules.specs.Cells.{range_written, runs_compared, pair_compared};
 ghost use Rattle.machine_rules.specs.Cells.{values_dropped, values_on, with_values};
 ghost use Rattle.machine_frames.specs.Operations.{unary_of};
-ghost use Rattle.machine_frames.specs.Tops.{AreValues, answer_of};
+ghost use Rattle.machine_frames.specs.Tops.{AreValues, HasValue, answer_of};
 
 use crate::top::{put, value};
 use nwq_value::{NoMemory, Value};
 use saved_state::{Cell, Stack};
 use std::alloc::Global;
 
-/// An equal value: a call of its own, so that the way of ints stays short.
-#[inline(never)]
-fn copied_apart(alloc: Global, value: &Value) -> Result<Value, NoMemory>
-    ensures ok { IfOk result (λ copy. copy ≡ value.now) }
+/// Copies a value onto another one. Most are ints, which are copied here.
+#[inline(always)]
+#[tactic(auto, using(crate::proofs::RunLemmas::put_read))]
+fn copy_onto(alloc: Global, stack: &mut Stack, from: usize, onto: usize) -> Result<(), NoMemory>
+    requires from { HasValue from stack.old.cells }
+    requires onto { HasValue onto stack.old.cells }
+    ensures cells { OnOk result (IfSome (slice_get stack.old.cells from)
+        (λ cell. stack.new ≡ record stack.old { cells = slice_set stack.old.cells onto cell })) }
 {
-    value.copy(alloc)
+    match stack.int_near(from) {
+        None => copy_onto_apart(alloc, stack, from, onto),
+        Some(n) => {
+            put(stack, onto, Value::Int(n))?;
+            Ok(())
+        }
+    }
 }
 
-/// An equal value. Most are ints, which are copied here.
-#[inline(always)]
-fn copied(alloc: Global, value: &Value) -> Result<Value, NoMemory>
-    ensures ok { IfOk result (λ copy. copy ≡ value.now) }
+/// The same by a call of its own, so that the way of ints stays short.
+#[inline(never)]
+#[tactic(auto, using(crate::proofs::RunLemmas::put_read))]
+fn copy_onto_apart(
+    alloc: Global,
+    stack: &mut Stack,
+    from: usize,
+    onto: usize,
+) -> Result<(), NoMemory>
+    requires from { HasValue from stack.old.cells }
+    requires onto { HasValue onto stack.old.cells }
+    ensures cells { OnOk result (IfSome (slice_get stack.old.cells from)
+        (λ cell. stack.new ≡ record stack.old { cells = slice_set stack.old.cells onto cell })) }
 {
-    match value {
-        Value::Int(n) => Ok(Value::Int(*n)),
-        _ => copied_apart(alloc, value),
+    let copy = value(stack, from).copy(alloc)?;
+    put(stack, onto, copy)?;
+    Ok(())
+}
+
+/// Pushes a copy of a value. Most are ints, which are copied here.
+#[inline(always)]
+#[tactic(auto, using(crate::proofs::RunLemmas::pushed_read))]
+fn push_copy(alloc: Global, stack: &mut Stack, above: usize) -> Result<(), NoMemory>
+    requires value { HasValue above stack.old.cells }
+    ensures cells { OnOk result (IfSome (slice_get stack.old.cells above)
+        (λ cell. stack.new ≡ record stack.old { cells = cell ∷ stack.old.cells })) }
+{
+    match stack.int_near(above) {
+        None => push_copy_apart(alloc, stack, above),
+        Some(n) => {
+            stack.push(Cell::Value(Value::Int(n)))?;
+            Ok(())
+        }
     }
+}
+
+/// The same by a call of its own.
+#[inline(never)]
+#[tactic(auto, using(crate::proofs::RunLemmas::pushed_read))]
+fn push_copy_apart(alloc: Global, stack: &mut Stack, above: usize) -> Result<(), NoMemory>
+    requires value { HasValue above stack.old.cells }
+    ensures cells { OnOk result (IfSome (slice_get stack.old.cells above)
+        (λ cell. stack.new ≡ record stack.old { cells = cell ∷ stack.old.cells })) }
+{
+    let copy = value(stack, above).copy(alloc)?;
+    stack.push(Cell::Value(copy))?;
+    Ok(())
 }
 
 /// Writes the `count` values that begin `from` cells down onto those that begin `onto` cells down,
@@ -53,8 +101,7 @@ pub fn copy_down(
     let mut left = count;
     while left > 0 {
         left -= 1;
-        let copy = copied(alloc, value(stack, from + left))?;
-        put(stack, onto + left, copy)?;
+        copy_onto(alloc, stack, from + left, onto + left)?;
     }
     Ok(())
 }
@@ -76,8 +123,7 @@ pub fn push_copies(
         stack.push_copies(above, count)?;
         Ok(())
     } else if count > 0 {
-        let copy = copied(alloc, value(stack, above))?;
-        stack.push(Cell::Value(copy))?;
+        push_copy(alloc, stack, above)?;
         Ok(())
     } else {
         Ok(())

@@ -1,6 +1,8 @@
 //! Instructions that pop and push values.
-ghost use Rattle.std.specs.Prelude.{◌≡◌, ◌≢◌, ◌&&◌, false, None, Some, OnOk};
+ghost use Rattle.std.specs.Prelude.{◌≡◌, ◌≢◌, ◌&&◌, false, None, Some, OnOk, slice_get};
 ghost use Rattle.nwq_value.specs.Operators.{complement, opposite, joined_texts};
+ghost use Rattle.nwq_value.specs.declared.value.Value.TheVariants.{Int as IntValue};
+ghost use Rattle.saved_state.specs.declared.cell.Cell.TheVariants.{Value as Holds};
 ghost use Rattle.ncs_code.specs.Plain.{Object as ObjectLit, Text as TextLit};
 ghost use Rattle.decoded_code.specs.Steps.{whole};
 ghost use Rattle.machine_rules.specs.Act.{added, if_ints, int_dropped};
@@ -16,10 +18,27 @@ use saved_state::{Cell, Stack};
 use stack_shape::type_of_one;
 use std::alloc::Global;
 
-/// An operation of the two ints on top.
+/// An operation of the two ints on top. Where both can be read at once, no call is made.
 #[inline(always)]
-#[tactic(auto, using(crate::proofs::Popped::two_lemmas))]
 pub fn two_ints(stack: &mut Stack, op: Binary) -> Result<(), NoMemory>
+    requires case { of_ints (binary_of op) stack.old.cells ≢ None }
+    requires divisor { (divides op && zero_on_top stack.old.cells) ≡ false }
+    ensures cells { OnOk result (of_ints (binary_of op) stack.old.cells ≡ Some stack.new.cells) }
+    ensures bp { OnOk result (stack.new.bp ≡ stack.old.bp) }
+{
+    let Some(y) = stack.int_near(0) else {
+        return two_ints_apart(stack, op);
+    };
+    let Some(x) = stack.int_near(1) else {
+        return two_ints_apart(stack, op);
+    };
+    fold_ints(stack, op, x, y)
+}
+
+/// The same by a call of its own, wherever the ints lie.
+#[inline(never)]
+#[tactic(auto, using(crate::proofs::Popped::two_lemmas))]
+fn two_ints_apart(stack: &mut Stack, op: Binary) -> Result<(), NoMemory>
     requires case { of_ints (binary_of op) stack.old.cells ≢ None }
     requires divisor { (divides op && zero_on_top stack.old.cells) ≡ false }
     ensures cells { OnOk result (of_ints (binary_of op) stack.old.cells ≡ Some stack.new.cells) }
@@ -27,8 +46,22 @@ pub fn two_ints(stack: &mut Stack, op: Binary) -> Result<(), NoMemory>
 {
     let y = int(stack, 0);
     let x = int(stack, 1);
+    fold_ints(stack, op, x, y)
+}
+
+/// What two ints give is written onto the lower one, and then the upper one goes.
+#[inline(always)]
+#[tactic(auto, using(crate::proofs::Popped::fold_lemmas))]
+fn fold_ints(stack: &mut Stack, op: Binary, x: i32, y: i32) -> Result<(), NoMemory>
+    requires upper { slice_get stack.old.cells 0 ≡ Some (Holds (IntValue y)) }
+    requires lower { slice_get stack.old.cells 1 ≡ Some (Holds (IntValue x)) }
+    requires divisor { (divides op && zero_on_top stack.old.cells) ≡ false }
+    ensures cells { OnOk result (of_ints (binary_of op) stack.old.cells ≡ Some stack.new.cells) }
+    ensures bp { OnOk result (stack.new.bp ≡ stack.old.bp) }
+{
+    put(stack, 1, Value::Int(of_two(op, x, y)))?;
     stack.drop_one();
-    put(stack, 0, Value::Int(of_two(op, x, y)))
+    Ok(())
 }
 
 /// The same of an instruction whose type byte says that it is of ints.
@@ -121,14 +154,48 @@ pub fn take_zero(stack: &mut Stack) -> bool
     ensures cells { int_dropped stack.old.cells ≡ Some stack.new.cells }
     ensures bp { stack.new.bp ≡ stack.old.bp }
 {
+    match stack.int_near(0) {
+        None => take_zero_apart(stack),
+        Some(n) => {
+            stack.drop_one();
+            n == 0
+        }
+    }
+}
+
+/// The same by a call of its own, wherever the int lies.
+#[inline(never)]
+#[tactic(auto, using(crate::proofs::Popped::drop_lemmas))]
+fn take_zero_apart(stack: &mut Stack) -> bool
+    requires case { int_dropped stack.old.cells ≢ None }
+    ensures test { result ≡ zero_on_top stack.old.cells }
+    ensures cells { int_dropped stack.old.cells ≡ Some stack.new.cells }
+    ensures bp { stack.new.bp ≡ stack.old.bp }
+{
     let n = int(stack, 0);
     stack.drop_one();
     n == 0
 }
 
-/// RSADD.
-#[inline(never)]
+/// RSADD. An int is pushed here.
+#[inline(always)]
+#[tactic(auto, using(crate::proofs::Popped::int_started))]
 pub fn push_start(alloc: Global, stack: &mut Stack, kind: u8) -> Result<(), NoMemory>
+    requires case { value_pushed (starting_value kind) stack.old.cells ≢ None }
+    ensures cells { OnOk result
+        (value_pushed (starting_value kind) stack.old.cells ≡ Some stack.new.cells) }
+    ensures bp { OnOk result (stack.new.bp ≡ stack.old.bp) }
+{
+    if kind == 0x03 {
+        stack.push(Cell::Value(Value::Int(0)))
+    } else {
+        push_start_apart(alloc, stack, kind)
+    }
+}
+
+/// RSADD of any value.
+#[inline(never)]
+fn push_start_apart(alloc: Global, stack: &mut Stack, kind: u8) -> Result<(), NoMemory>
     requires case { value_pushed (starting_value kind) stack.old.cells ≢ None }
     ensures cells { OnOk result
         (value_pushed (starting_value kind) stack.old.cells ≡ Some stack.new.cells) }

@@ -33,7 +33,7 @@ fn keeps_source(alloc: Global) -> Result<bool, NoMemory> {
     Ok(first && second && written && third)
 }
 
-/// Whether nothing is kept of bytecode, of what isn't there, and of a name that wasn't read.
+/// Whether bytecode is kept, and nothing of what isn't there and of a name that wasn't read.
 fn keeps_no_more(alloc: Global) -> Result<bool, NoMemory> {
     let mut files = begun(alloc)?;
     let code = matches!(files.read(alloc, "p.ncs"), Read::Bytes(_));
@@ -41,7 +41,7 @@ fn keeps_no_more(alloc: Global) -> Result<bool, NoMemory> {
     let mut again = Again::of(&files.kept);
     Ok(
         code && absent
-            && matches!(again.read(alloc, "p.ncs"), Read::Missing)
+            && is_read(again.read(alloc, "p.ncs"), b"NCS V1.0B\0\0\0\x0d")
             && matches!(again.read(alloc, "q.nss"), Read::Missing)
             && matches!(again.read(alloc, "p.nss"), Read::Missing),
     )

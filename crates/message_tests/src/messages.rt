@@ -74,8 +74,9 @@ const TYPES: &[Row] = &[
         }],
         number: 2,
         line: b"refused p.nss 1 29 mismatch\n",
-        said: "p.nss:1:30: error: the types that `+` is given don't go together: string and int \
-            [mismatch]\nvoid main() { string s = \"a\" + 1; }\n                             ^\n",
+        said: "p.nss:1:30: error: the types that `+` is given don't go together: string and int; \
+            `IntToString` gives the string of an int [mismatch]\nvoid main() { string s = \"a\" + \
+            1; }\n                             ^\n",
     },
     Row {
         words: &["nwq", "compile", "-", "p"],
@@ -194,6 +195,47 @@ const SCRIPTS: &[Refused] = &[
         line: b"refused p.nss 1 22 unknown\n",
         said: "p.nss:1:23: error: there is no member `x`: the struct has none, or what stands \
             before the point is no struct [unknown]\nvoid main() { int n; n.x = 1; \
+            }\n                      ^\n",
+    },
+    Refused {
+        bytes: b"void main() { if (1) { int n = 1; }",
+        line: b"refused p.nss 1 35 syntax\n",
+        said: "p.nss:1:36: error: the script ends here, and isn't whole: the `{` of line 1, column \
+            13, isn't closed; here could stand `;`, a name, a number, a string, `(`, `{` and more \
+            [syntax]\nvoid main() { if (1) { int n = 1; }\n                                   \
+            ^\n",
+    },
+    Refused {
+        bytes: b"void main() { int int = 1; }",
+        line: b"refused p.nss 1 18 syntax\n",
+        said: "p.nss:1:19: error: `int` can't stand here; here could stand a name; `int` is a word \
+            of the language [syntax]\nvoid main() { int int = 1; }\n                  ^\n",
+    },
+    Refused {
+        bytes: b"int TRUE; void main() {}",
+        line: b"refused p.nss 1 4 redeclared\n",
+        said: "p.nss:1:5: error: `TRUE` is a constant of the header, and can't be declared again \
+            [redeclared]\nint TRUE; void main() {}\n    ^\n",
+    },
+    Refused {
+        bytes: b"int Random(int n) { return 1; } void main() {}",
+        line: b"refused p.nss 1 4 redeclared\n",
+        said: "p.nss:1:5: error: `Random` is a routine of the header, and can't be declared again \
+            [redeclared]\nint Random(int n) { return 1; } void main() {}\n    ^\n",
+    },
+    // In a function the header's names are free: the scope itself has it.
+    Refused {
+        bytes: b"void main() { int Random; int Random; }",
+        line: b"refused p.nss 1 30 redeclared\n",
+        said: "p.nss:1:31: error: `Random` stands here a second time, or has other types than where \
+            it was declared [redeclared]\nvoid main() { int Random; int Random; \
+            }\n                              ^\n",
+    },
+    Refused {
+        bytes: b"void main() { int n = GetLocalInt; }",
+        line: b"refused p.nss 1 22 unknown\n",
+        said: "p.nss:1:23: error: `GetLocalInt` is a routine of the header, and no value: its \
+            arguments in brackets are missing [unknown]\nvoid main() { int n = GetLocalInt; \
             }\n                      ^\n",
     },
     Refused {

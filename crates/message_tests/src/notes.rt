@@ -174,6 +174,95 @@ const USED_UP: &[Row] = &[
         }],
         number: 0,
         line: b"end done clock 3 entries 4 instructions 30\n",
+        said: "s.nwq: note: the command read this file as STATE, and then wrote over it\n",
+    },
+];
+
+/// Commands that wrote over a file that they read, and some that didn't.
+const OVERWRITTEN: &[Row] = &[
+    Row {
+        words: &["nwq", "play", "-", "a.git", "a.plan", "a.git"],
+        files: &[],
+        number: 0,
+        line: b"end done clock 0 entries 0 instructions 0\n",
+        said: "a.git: note: the command read this file as AREA, and then wrote over it\n",
+    },
+    Row {
+        words: &["nwq", "play", "h.nss", "a.git", "a.plan", "h.nss", "a.git"],
+        files: &[],
+        number: 0,
+        line: b"end done clock 0 entries 0 instructions 0\n",
+        said: "h.nss: note: the command read this file as HEADER, and then wrote over it\n",
+    },
+    // A limit ended the play: nothing was written.
+    Row {
+        words: &["nwq", "play", "-", "a.git", "a.plan", "a.git"],
+        files: &[],
+        number: 5,
+        line: b"end entries clock 0 entries 0 instructions 0\n",
+        said: "",
+    },
+    Row {
+        words: &["nwq", "play", "-", "a.git", "a.plan", "cat.nss"],
+        files: &[Held {
+            name: "a.plan",
+            bytes: b"NWQ PLAN 1\nbinary dog\nscript cat\n",
+        }],
+        number: 0,
+        line: b"end done clock 0 entries 0 instructions 0\n",
+        said: "cat.nss: note: the command read this file as a script of the plan, and then wrote \
+            over it\n",
+    },
+    // A file that the command made is no input, and a binary has no source.
+    Row {
+        words: &["nwq", "play", "-", "a.git", "a.plan", "cat.ncs"],
+        files: &[Held {
+            name: "a.plan",
+            bytes: b"NWQ PLAN 1\nbinary dog\nscript cat\n",
+        }],
+        number: 0,
+        line: b"end done clock 0 entries 0 instructions 0\n",
+        said: "",
+    },
+    Row {
+        words: &["nwq", "save", "-", "a.git", "a.plan", "4", "dog.ncs"],
+        files: &[Held {
+            name: "a.plan",
+            bytes: b"NWQ PLAN 1\nbinary dog\nscript cat\n",
+        }],
+        number: 0,
+        line: b"saved dog.ncs entries 4\n",
+        said: "dog.ncs: note: the command read this file as a script of the plan, and then wrote \
+            over it\n",
+    },
+    Row {
+        words: &[
+            "nwq", "save", "-", "a.git", "a.plan", "4", "a.plan", "a.git",
+        ],
+        files: &[],
+        number: 0,
+        line: b"saved a.plan entries 4\n",
+        said: "a.plan: note: the command read this file as PLAN, and then wrote over it\n",
+    },
+    Row {
+        words: &["nwq", "resume", "s.nwq", "t.txt", "t.txt"],
+        files: &[],
+        number: 0,
+        line: b"end done clock 3 entries 4 instructions 30\n",
+        said: "t.txt: note: the command read this file as TABLES, and then wrote over it\n",
+    },
+    Row {
+        words: &["nwq", "dis", "p.ncs", "p.ncs"],
+        files: &[],
+        number: 0,
+        line: b"disassembled p.ncs 2\n",
+        said: "p.ncs: note: the command read this file as FILE, and then wrote over it\n",
+    },
+    Row {
+        words: &["nwq", "asm", "p.txt", "p.ncs"],
+        files: &[],
+        number: 0,
+        line: b"assembled p.ncs 2\n",
         said: "",
     },
 ];
@@ -252,4 +341,9 @@ fn notes(rt: HostRuntime) {
 fn random_numbers(rt: HostRuntime) {
     assert!(rt; are_said_used_up(rt.alloc(), USED_UP));
     assert!(rt; are_said(rt.alloc(), SAVED));
+}
+
+#[test]
+fn inputs_that_are_gone(rt: HostRuntime) {
+    assert!(rt; are_said(rt.alloc(), OVERWRITTEN));
 }

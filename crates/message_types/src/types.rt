@@ -7,7 +7,7 @@ ghost use Rattle.nss_lexer.specs.Lexemes.{IsToken};
 
 use crate::parts::{Part, Shape, parts_at};
 use crate::probe::{Refused, refused_at, type_of, type_wanted};
-use message_sentences::put_words;
+use message_sentences::{put_words, same};
 use nss_lexer::Token;
 use nwq_text::put_count;
 use nwq_value::{NoMemory, Table};
@@ -37,6 +37,26 @@ fn put_list(out: &mut Vec<u8>, types: &[&'static str]) -> Result<(), NoMemory> {
     Ok(())
 }
 
+/// Appends what makes a string of an int, where the two are added.
+fn put_remedy(
+    out: &mut Vec<u8>,
+    unit: Refused<'_>,
+    types: &[&'static str],
+) -> Result<(), NoMemory> {
+    let is_sum = matches!(unit.tokens.get(unit.at), Some(token) if same(token.text, b"+"));
+    let is_mixed = match types {
+        [left, right] => {
+            (*left == "string" && *right == "int") || (*left == "int" && *right == "string")
+        }
+        _ => false,
+    };
+    if is_sum && is_mixed {
+        put_words(out, "; `IntToString` gives the string of an int")
+    } else {
+        Ok(())
+    }
+}
+
 /// Appends the types of the operands of an operator. Whether they are found.
 fn put_operands(
     alloc: Global,
@@ -48,6 +68,7 @@ fn put_operands(
         None => Ok(false),
         Some(types) => {
             put_list(out, types.as_slice())?;
+            put_remedy(out, unit, types.as_slice())?;
             Ok(true)
         }
     }

@@ -64,7 +64,8 @@ Stays code.Enters w v = Unit {0}
 Stays code.Ends w v = v ≡ w
 Stays code.Divides w v = v ≡ w
 
--- where the script goes on, the frames that run before and after a step are of the same one
+-- Where the script goes on, the frames that run before and after a step are of the same one, and run
+-- on the same object.
 abbrev pub Remains : StepOutcome → ℕ → ℕ → Type 0
 Remains code.Goes before after = after ≡ before
 Remains code.Enters before after = Unit {0}

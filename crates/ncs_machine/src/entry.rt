@@ -79,19 +79,22 @@ fn run_machine(
     table.keeps();
     answers_have_types::<Saved>();
     let mut script = machine.script(scripts);
+    let mut own = machine.own();
     for done in 0..limit {
-        let own = machine.own();
         match machine.step(alloc, scripts, script, world, hooks, table) {
             Err(_) => return (Ran::NoMemory, done, own),
             Ok(next) => match next {
                 StepOutcome::Goes => {}
-                StepOutcome::Enters => script = machine.script(scripts),
+                StepOutcome::Enters => {
+                    script = machine.script(scripts);
+                    own = machine.own();
+                }
                 StepOutcome::Ends => return (Ran::Ended, done + 1, own),
                 StepOutcome::Divides => return (Ran::Divide, done + 1, own),
             },
         }
     }
-    (Ran::Limit, limit, machine.own())
+    (Ran::Limit, limit, own)
 }
 
 /// The run of an entry that begins so, with `caller` as self: how it ends, how many instructions it

@@ -175,6 +175,7 @@ impl Machine {
         ensures next { (w : WorldView SavedView) → over self.old.waiting (state self.old w)
             ≡ next_of result (state self.new w) }
         ensures remains { (script : ℕ) → Remains result script self.new.running.script }
+        ensures own { (own : ℕ) → Remains result own self.new.running.self }
     {
         match self.waiting.pop() {
             None => StepOutcome::Ends,
@@ -193,6 +194,7 @@ impl Machine {
             followed h (state self.old w) (returned self.old.running.calls self.old.running)
             ≡ next_of result (state self.new w) }
         ensures remains { Remains result self.old.running.script self.new.running.script }
+        ensures own { Remains result self.old.running.self self.new.running.self }
     {
         if self.running.give_back() {
             StepOutcome::Goes

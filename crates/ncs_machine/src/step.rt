@@ -56,6 +56,8 @@ impl Machine {
             ≡ next_of next (state self.new world.new.world))) }
         ensures remains { IfOk result (λ next. Remains next self.old.running.script
             self.new.running.script) }
+        ensures own { IfOk result (λ next. Remains next self.old.running.self
+            self.new.running.self) }
         ensures cut { OnErr result (IsHalfway world.old.world (world_behind (option_map (followed
             (host (scripts_of scripts.now)
             (engine_view table.now (map (λ h. h.known) hooks.now.all.items)))
@@ -138,6 +140,8 @@ impl Machine {
             ≡ Some (next_of next (state self.new world.new.world))) }
         ensures remains { IfOk result (λ next. Remains next self.old.running.script
             self.new.running.script) }
+        ensures own { IfOk result (λ next. Remains next self.old.running.self
+            self.new.running.self) }
         ensures cut { OnErr result (IsHalfway world.old.world (world_behind (step
             (host (scripts_of scripts.now)
             (engine_view table.now (map (λ h. h.known) hooks.now.all.items)))

@@ -2,4 +2,5 @@ mod StepLemmas
 mod UnitLemmas
 mod PieceLemmas
 mod ProgressLemmas
+mod ReadLemmas
 mod OneUnit

@@ -1,9 +1,9 @@
 -- What is answered of a unit, of whichever files.
-use Rattle.std.specs.Prelude.{◌≡◌, ℕ, List, [], ◌∷◌, Some, None, Result, Ok, Err}
+use Rattle.std.specs.Prelude.{◌≡◌, ℕ, zero, suc, List, [], ◌∷◌, length, Some, None, Result, Ok, Err}
 use Rattle.std.specs.List.{AllByRecursion}
 use Rattle.nwq_outside.specs.declared.counts.CountOf.TheVariants.{Faults, Absences, Longs}
 use Rattle.nwq_outside.specs.declared.counts.FileCounts.{FileCounts}
-use Rattle.nwq_outside.specs.Outside.{NoneRose, Rose}
+use Rattle.nwq_outside.specs.Outside.{next, NoneRose, Rose}
 use Rattle.nss_lexer.specs.Splitting.{Lexeme}
 use Rattle.nss_include.specs.declared.fault.GatherFault.{GatherFault}
 use Rattle.nss_include.specs.declared.fault.GatherFault.TheVariants.{Missing, Fault, Long, Bad, Tokens, Include, NoMemory}
@@ -37,6 +37,15 @@ CountsGathered (Err (Bad spot)) before now = NoneRose before now
 CountsGathered (Err (Tokens spot)) before now = NoneRose before now
 CountsGathered (Err (Include spot)) before now = NoneRose before now
 CountsGathered (Err NoMemory) before now = NoneRose before now
+
+-- the count of reads after so many more
+abbrev pub after_reads : ℕ → ℕ → ℕ
+after_reads zero count = count
+after_reads (suc n) count = next (after_reads n count)
+
+-- there was one read for each of these files, whose names are distinct in a unit
+abbrev pub AreReadOnce : List Source → ℕ → ℕ → Type 0
+AreReadOnce files before now = now ≡ after_reads (length files) before
 
 -- the file of this script stands first
 abbrev pub HasScript : List Source → List ℕ → Type 0

@@ -1,5 +1,6 @@
-ghost use Rattle.std.specs.Prelude.{◌≡◌, ◌<◌, ◌≤◌, ◌+◌, Bool, length, OnOk, IfOk, IfErr, IsTrue};
-ghost use Rattle.nwq_outside.specs.Outside.{content};
+ghost use Rattle.std.specs.Prelude.{◌≡◌, ◌<◌, ◌≤◌, ◌+◌, ℕ, Bool, length, OnOk, IfOk, IfErr};
+ghost use Rattle.std.specs.Prelude.{IsTrue};
+ghost use Rattle.nwq_outside.specs.Outside.{content, next};
 ghost use Rattle.std.specs.String.{string_bytes};
 ghost use Rattle.std.specs.Str.{IsUtf8};
 ghost use Rattle.nwq_value.specs.Limits.{token_limit};
@@ -7,6 +8,7 @@ ghost use Rattle.nss_include.specs.declared.step.Step.TheVariants as step;
 ghost use Rattle.nss_include.specs.Names.{file_name};
 ghost use Rattle.nss_include.specs.Units.{Lookup, IsUnit, HaveDistinctNames};
 ghost use Rattle.nss_include.specs.Gather.{CountsGathered, HoldsFiles, Claims, HasScript, Gathers};
+ghost use Rattle.nss_include.specs.Gather.{AreReadOnce};
 ghost use Rattle.nss_include.specs.View.{file_count_limit};
 ghost use Rattle.nss_include.specs.Progress.{Reads, ReadFails, Extends};
 ghost use Rattle.nss_include.specs.Progress.{IsOwnFault, BeginsWithScript, ComesTo};
@@ -48,6 +50,7 @@ fn read_into<F: Files>(
     ensures fails { IfErr result (ReadFails F.tells
         (content (F.contents files.old)) name.now) }
     ensures same { F.contents files.new ≡ F.contents files.old }
+    ensures once { OnOk result (F.reads files.new ≡ next (F.reads files.old)) }
     ensures counts { CountsGathered result (F.counts files.old) (F.counts files.new) }
 {
     // The name of a refusal is made before the read: so want of memory for it raises no count.
@@ -93,6 +96,7 @@ impl Gatherer {
         requires step { HasStep self.old here (step.Gives span) }
         ensures advances { OnOk result ((tells : Bool) (outside : Lookup)
             → Advances tells outside (reopened here self.old) self.new) }
+        ensures files { OnOk result (self.new.unit.files ≡ self.old.unit.files) }
         ensures own { IfErr result IsOwnFault }
         ensures stops { IfErr result (StopsBy (reopened here self.old)) }
     {
@@ -137,6 +141,7 @@ impl Gatherer {
         ensures fails { IfErr result (ReadFails F.tells
             (content (F.contents files.old)) name.now) }
         ensures same { F.contents files.new ≡ F.contents files.old }
+        ensures once { OnOk result (F.reads files.new ≡ next (F.reads files.old)) }
         ensures counts { CountsGathered result (F.counts files.old) (F.counts files.new) }
     {
         self.pass(here, after)?;
@@ -166,6 +171,10 @@ impl Gatherer {
         ensures halts { IfErr result (Halts F.tells
             (content (F.contents files.old)) (reopened here self.old)) }
         ensures same { F.contents files.new ≡ F.contents files.old }
+        // Where each of the files so far was read once, so is this one.
+        ensures once { OnOk result ((start : ℕ)
+            → AreReadOnce self.old.unit.files start (F.reads files.old)
+            → AreReadOnce self.new.unit.files start (F.reads files.new)) }
         ensures counts { CountsGathered result (F.counts files.old) (F.counts files.new) }
     {
         if self.count + 3 > MOST_TOKENS {
@@ -206,6 +215,9 @@ impl Gatherer {
         ensures halts { IfErr result (Halts F.tells
             (content (F.contents files.old)) (reopened here self.old)) }
         ensures same { F.contents files.new ≡ F.contents files.old }
+        ensures once { OnOk result ((start : ℕ)
+            → AreReadOnce self.old.unit.files start (F.reads files.old)
+            → AreReadOnce self.new.unit.files start (F.reads files.new)) }
         ensures counts { CountsGathered result (F.counts files.old) (F.counts files.new) }
     {
         match self.step_at(alloc, here)? {
@@ -244,6 +256,9 @@ impl Gatherer {
             (content (F.contents files.old)) self.old.unit.files → IfErr result
             (λ fault. Claims fault (ComesTo (content (F.contents files.old)) self.old fault)) }
         ensures same { F.contents files.new ≡ F.contents files.old }
+        ensures once { OnOk result ((start : ℕ)
+            → AreReadOnce self.old.unit.files start (F.reads files.old)
+            → AreReadOnce self.new.unit.files start (F.reads files.new)) }
         ensures counts { CountsGathered result (F.counts files.old) (F.counts files.new) }
     {
         while let Some(here) = self.stack.pop() {
@@ -257,12 +272,15 @@ impl Gatherer {
 }
 
 /// Begins to gather the unit of a script with its file.
+#[tactic(auto, using(crate::proofs::ReadLemmas::first_one))]
 fn begin<F: Files>(alloc: Global, files: &mut F, script: &str) -> Result<Gatherer, GatherFault>
     ensures begins { IfOk result (λ gatherer. BeginsWithScript F.tells
         (content (F.contents files.old)) gatherer script.now) }
     ensures fails { IfErr result (ReadFails F.tells
         (content (F.contents files.old)) (file_name script.now)) }
     ensures same { F.contents files.new ≡ F.contents files.old }
+    ensures once { IfOk result (λ gatherer.
+        AreReadOnce gatherer.unit.files (F.reads files.old) (F.reads files.new)) }
     ensures counts { CountsGathered result (F.counts files.old) (F.counts files.new) }
 {
     let file = file_of(alloc, script.as_bytes())?;
@@ -290,6 +308,9 @@ pub fn gather<F: Files>(alloc: Global, files: &mut F, name: &str) -> Result<Unit
     ensures distinct { IfOk result (λ unit. HaveDistinctNames unit.files) }
     ensures told { IsTrue F.tells → Gathers (content (F.contents files.old)) name.now result }
     ensures same { F.contents files.new ≡ F.contents files.old }
+    // Each of the files was read, and once.
+    ensures once { IfOk result
+        (λ unit. AreReadOnce unit.files (F.reads files.old) (F.reads files.new)) }
     ensures counts { CountsGathered result (F.counts files.old) (F.counts files.new) }
 {
     one_first();

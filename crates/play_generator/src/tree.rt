@@ -10,6 +10,7 @@ ghost use Rattle.play_generator.specs.Made.{below, tag_of, creature_node, area_t
 use gff_tree::{Gff, Label, Leaf, Node, fields_tell};
 use nwq_text::put_count;
 use nwq_value::{Items, NoMemory};
+use shared_bytes::SharedBytes;
 use std::alloc::Global;
 
 /// The format's number of a creature's struct.
@@ -32,7 +33,7 @@ fn tag_leaf(alloc: Global, number: u32) -> Result<Leaf, NoMemory>
     let mut tag = Vec::new(alloc);
     tag.push(b'c')?;
     put_count(&mut tag, u64::from(number))?;
-    Ok(Leaf::Str(Items::of_vec(tag)))
+    Ok(Leaf::Str(SharedBytes::of_items(Items::of_vec(tag))))
 }
 
 fn script_leaf(alloc: Global) -> Result<Leaf, NoMemory>

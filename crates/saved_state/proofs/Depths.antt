@@ -1,9 +1,11 @@
 -- Cells by how many lie over them, and by their place.
-use Rattle.std.proofs.Common.{arith, ◌≡◌, ◌<◌, ◌≤◌, ◌+◌, ◌-◌, ◌++◌, ℕ, zero, suc, List, [], ◌∷◌, length, take, drop, reverse, set, Some, Bool, Result, Ok, Err, sym, ap, ◌∙◌, if◌then◌else◌}
-use Rattle.std.specs.Prelude.{OnOk, slice_get, slice_set}
+use Rattle.std.proofs.Common.{arith, ◌≡◌, ◌<◌, ◌≤◌, ◌+◌, ◌-◌, ◌++◌, ℕ, zero, suc, List, [], ◌∷◌, length, take, drop, reverse, set, Option, Some, None, Bool, Result, Ok, Err, sym, ap, ◌∙◌, if◌then◌else◌}
+use Rattle.std.specs.Prelude.{ℤ, IfSome, OnOk, slice_get, slice_set}
 use Rattle.std.proofs.lemmas.Bool.{ne_eqb, eq-eqb}
 use Rattle.std.proofs.lemmas.List.{length-reverse, reverse-append, reverse-reverse}
+use Rattle.nwq_value.specs.declared.value.Value.TheVariants.{Int}
 use Rattle.saved_state.specs.declared.cell.Cell.{Cell}
+use Rattle.saved_state.specs.declared.cell.Cell.TheVariants.{Value as Holds}
 use Rattle.saved_state.specs.Cells.{StackView, cell_at, with_cell}
 use Rattle.saved_state.proofs.Places.{cell_got, part_is, put_is}
 use Rattle.saved_state.proofs.Views.{dropped_view, height, seen}
@@ -57,6 +59,14 @@ seen_down cells depth bp stack cell is less here =
     ap (λ (s : StackView). slice_get s.cells depth) (sym is)
     ∙ got_down cells depth (fits_down cells bp (suc depth) stack is less)
     ∙ here
+
+pub seen_int : (cells : List Cell) (depth bp : ℕ) (stack : StackView) (o : Option ℤ) → seen cells bp ≡ stack
+    → IfSome o (λ n. slice_get cells (length cells - 1 - depth) ≡ Some (Holds (Int n)))
+    → IfSome o (λ n. depth < length cells)
+    → IfSome o (λ n. slice_get stack.cells depth ≡ Some (Holds (Int n)))
+seen_int cells depth bp stack None is here inside = tt
+seen_int cells depth bp stack (Some n) is here inside =
+    ap (λ (s : StackView). slice_get s.cells depth) (sym is) ∙ got_down cells depth inside ∙ here
 
 pub seen_less : (cells left : List Cell) (bp n : ℕ) (stack : StackView) → seen cells bp ≡ stack → n ≤ length stack.cells
     → left ≡ take (length cells - n) cells → seen left bp ≡ record stack { cells = drop n stack.cells }

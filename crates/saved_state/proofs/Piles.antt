@@ -1,5 +1,5 @@
 -- Two lists of cells in a row: the lower ones, and those on top.
-use Rattle.std.proofs.Common.{◌≡◌, ◌<◌, ◌≤◌, ◌+◌, ◌-◌, ◌++◌, ◌∷◌, [], ℕ, List, length, take, drop, set, slice_get, get_or, Some, refl, sym, ap, ◌∙◌, arith, append_assoc}
+use Rattle.std.proofs.Common.{◌≡◌, ◌<◌, ◌≤◌, ◌+◌, ◌-◌, ◌++◌, ◌∷◌, [], ℕ, zero, suc, List, length, take, drop, set, slice_get, get_or, Some, refl, sym, ap, ◌∙◌, arith, append_assoc}
 use Rattle.std.proofs.lemmas.List.{length-append, length-drop, append-nil, drop_at, drop-drop, drop-take, take-append-le, take_at, set-append_left, set-append_right, length-take-le, take_all, take_more, take-take}
 use Rattle.std.proofs.lemmas.Option.{slice_get-get_or}
 use Rattle.std.proofs.Math.Seq.{take-append-add}
@@ -170,12 +170,31 @@ copies_longer old now first place is inside =
     let size = ap length is ∙ length-append old (take (place - first) (drop first old)) in
     omega (arith, size, inside)
 
-pub one_item : (old now : List Cell) (first place : ℕ) (cell : Cell) → now ≡ old ++ take (place - first) (drop first old)
-    → first ≤ place → place < length old → cell ≡ get_or now place cell
-    → now ++ cell ∷ [] ≡ old ++ take (place + 1 - first) (drop first old)
-one_item old now first place cell is over inside here =
-    one_copy old now first place cell is over inside
-    (slice_get-get_or now place cell (copies_longer old now first place is inside) ∙ ap Some (sym here))
+pub last_copy : (now : List Cell) (index : ℕ) (cell : Cell) → index < length now → cell ≡ get_or now index cell → now ++ cell ∷ [] ≡ now ++ take 1 (drop index now)
+last_copy now index cell inside here = ap (λ (t : List Cell). now ++ t) (sym (first_of index now cell inside here))
+  where
+    first_of : (k : ℕ) (xs : List Cell) (x : Cell) → k < length xs → x ≡ get_or xs k x → take 1 (drop k xs) ≡ x ∷ []
+    first_of k [] x inside here = absurd (omega arith)
+    first_of zero (y ∷ ys) x inside here = ap (λ (c : Cell). c ∷ []) (sym here)
+    first_of (suc k) (y ∷ ys) x inside here = first_of k ys x (omega arith) here
+
+pub one_taken : (old now after : List Cell) (first place : ℕ) → now ≡ old ++ take (place - first) (drop first old)
+    → first ≤ place → place < length old → after ≡ now ++ take 1 (drop place now)
+    → after ≡ old ++ take (place + 1 - first) (drop first old)
+one_taken old now after first place is over inside last =
+    let longer = copies_longer old now first place is inside in
+    let found = some_in now place longer in
+    last ∙ ap (λ (t : List Cell). now ++ t) (one_of now place found.0 found.1) ∙ one_copy old now first place found.0 is over inside found.1
+  where
+    some_in : (xs : List Cell) (i : ℕ) → i < length xs → (x : Cell) × (slice_get xs i ≡ Some x)
+    some_in [] i less = absurd (omega arith)
+    some_in (x ∷ xs) zero less = (x, refl)
+    some_in (x ∷ xs) (suc i) less = some_in xs i (omega arith)
+
+    one_of : (xs : List Cell) (k : ℕ) (x : Cell) → slice_get xs k ≡ Some x → take 1 (drop k xs) ≡ x ∷ []
+    one_of [] k x here = absurd cc
+    one_of (y ∷ ys) zero x here = cc
+    one_of (y ∷ ys) (suc k) x here = one_of ys k x here
 
 pub all_copies : (old now : List Cell) (first place count : ℕ) → now ≡ old ++ take (place - first) (drop first old)
     → place ≡ first + count → now ≡ old ++ take count (drop first old)
@@ -194,7 +213,7 @@ run_on_top low top above count k inside is =
 
 pub ruleset each_lemmas = (no_copies, one_copy, copies_longer, all_copies)
 
-pub ruleset copy_lemmas = (no_copies, one_item, copies_longer, all_copies)
+pub ruleset copy_lemmas = (no_copies, one_taken, copies_longer, all_copies)
 
 pub ruleset run_lemmas = (run_on_top, size_is)
 

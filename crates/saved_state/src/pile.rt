@@ -1,6 +1,6 @@
 ghost use Rattle.std.specs.Prelude.{◌≡◌, ◌<◌, ◌≤◌, ◌-◌, [], ◌∷◌, ◌++◌, length, take, drop};
 ghost use Rattle.std.specs.Prelude.{slice_get};
-ghost use Rattle.std.specs.Prelude.{slice_set, Some, OnOk, OnErr, IfOk, ◌+◌, ◌^◌};
+ghost use Rattle.std.specs.Prelude.{slice_set, Some, OnOk, OnErr, IfOk, IfSome, ◌+◌, ◌^◌};
 ghost use Rattle.std.specs.Vec.{vec_len, vec_capacity};
 ghost use Rattle.saved_state.specs.Kept.{OwnsFew, listed};
 ghost use Rattle.nwq_value.specs.declared.value.Value.TheVariants.{Int as IntValue};
@@ -195,6 +195,25 @@ impl Pile {
         self.at(self.len() - 1 - depth)
     }
 
+    /// The int over which so many others lie, where it is among the cells on top: whoever asks has
+    /// a way of its own for other cells, and so a short one for ints.
+    #[inline(always)]
+    #[tactic(auto, using(crate::proofs::Piles::down_lemmas))]
+    pub fn int_near(&self, depth: usize) -> Option<i32>
+        ensures int { IfSome result (λ n. slice_get self.now (length self.now - 1 - depth)
+            ≡ Some (ValueCell (IntValue n))) }
+        ensures inside { IfSome result (λ _n. depth < length self.now) }
+    {
+        let count = self.top.len();
+        if depth >= count {
+            return None;
+        }
+        match &self.top[count - 1 - depth] {
+            Cell::Value(Value::Int(n)) => Some(*n),
+            _ => None,
+        }
+    }
+
     /// Replaces the cell at a place. After `NoMemory` the new one is dropped and the cells are as
     /// before.
     #[inline(always)]
@@ -258,7 +277,7 @@ impl Pile {
     }
 
     /// Drops so many of the topmost cells.
-    #[inline(never)]
+    #[inline(always)]
     #[tactic(auto, using(crate::proofs::Piles::less_lemmas))]
     pub fn drop_top(&mut self, n: usize)
         requires inside { n ≤ length self.old }
@@ -268,9 +287,7 @@ impl Pile {
         if n <= count {
             keep_first(&mut self.top, count - n);
         } else {
-            let left = self.low.len() - (n - count);
-            self.top.clear();
-            self.low.truncate(left);
+            drop_low(&mut self.low, &mut self.top, n);
         }
     }
 
@@ -353,29 +370,46 @@ fn copy_up(top: &mut Vec<Cell>, first: usize, count: usize) -> Result<(), NoMemo
     let alloc = *top.allocator();
     let len = top.len();
     for index in first..first + count {
-        let copy = copied(alloc, &top[index])?;
-        top.push_reserved(copy);
+        copy_last(alloc, top, index)?;
     }
     Ok(())
 }
 
-/// An equal cell. Most are ints, which are copied here.
+/// Puts a copy of the cell at an index last. Most are ints, which are copied here.
 #[inline(always)]
-fn copied(alloc: Global, cell: &Cell) -> Result<Cell, NoMemory>
-    ensures same { IfOk result (λ copy. copy ≡ cell.now) }
+#[tactic(auto, using(crate::proofs::Piles::last_copy))]
+fn copy_last(alloc: Global, top: &mut Vec<Cell>, index: usize) -> Result<(), NoMemory>
+    requires inside { index < length top.old.items }
+    requires room { vec_len top.old < vec_capacity top.old }
+    ensures copied { OnOk result
+        (top.new.items ≡ top.old.items ++ take 1 (drop index top.old.items)) }
+    ensures len { OnOk result (vec_len top.new ≡ vec_len top.old + 1) }
+    ensures capacity { OnOk result (vec_capacity top.new ≡ vec_capacity top.old) }
 {
-    match cell {
-        Cell::Value(Value::Int(n)) => Ok(Cell::Value(Value::Int(*n))),
-        other => copied_apart(alloc, other),
+    match &top[index] {
+        Cell::Value(Value::Int(n)) => {
+            let copy = *n;
+            top.push_reserved(Cell::Value(Value::Int(copy)));
+            Ok(())
+        }
+        _ => copy_last_apart(alloc, top, index),
     }
 }
 
-/// An equal cell, by a call of its own.
+/// The same by a call of its own.
 #[inline(never)]
-fn copied_apart(alloc: Global, cell: &Cell) -> Result<Cell, NoMemory>
-    ensures same { IfOk result (λ copy. copy ≡ cell.now) }
+#[tactic(auto, using(crate::proofs::Piles::last_copy))]
+fn copy_last_apart(alloc: Global, top: &mut Vec<Cell>, index: usize) -> Result<(), NoMemory>
+    requires inside { index < length top.old.items }
+    requires room { vec_len top.old < vec_capacity top.old }
+    ensures copied { OnOk result
+        (top.new.items ≡ top.old.items ++ take 1 (drop index top.old.items)) }
+    ensures len { OnOk result (vec_len top.new ≡ vec_len top.old + 1) }
+    ensures capacity { OnOk result (vec_capacity top.new ≡ vec_capacity top.old) }
 {
-    cell.copy(alloc)
+    let copy = top[index].copy(alloc)?;
+    top.push_reserved(copy);
+    Ok(())
 }
 
 /// Drops a cell that may own memory: a call of its own, so that the way of ints stays short.
@@ -432,6 +466,21 @@ fn keep_first(top: &mut Vec<Cell>, n: usize)
         left -= 1;
         drop_last(top);
     }
+}
+
+/// Drops all cells on top, and so many of the others that `n` go: a call of its own, since it is
+/// rare.
+#[inline(never)]
+fn drop_low(low: &mut Pages, top: &mut Vec<Cell>, n: usize)
+    requires over { length top.old.items ≤ n }
+    requires inside { n ≤ length low.old + length top.old.items }
+    ensures low { low.new ≡ take (length low.old - (n - length top.old.items)) low.old }
+    ensures few { length low.new ≤ length low.old }
+    ensures top { top.new.items ≡ [] }
+{
+    let left = low.len() - (n - top.len());
+    top.clear();
+    low.truncate(left);
 }
 
 /// Puts the cells of other pages last. After `NoMemory` none are left.

@@ -1,8 +1,9 @@
 ghost use Rattle.std.specs.Prelude.{◌≡◌, ◌≢◌, ◌<◌, ◌≤◌, ℕ, Some, [], ◌∷◌, length, drop, OnOk};
-ghost use Rattle.std.specs.Prelude.{OnErr, IfOk, slice_get, slice_set, take, ◌+◌, ◌++◌};
+ghost use Rattle.std.specs.Prelude.{OnErr, IfOk, IfSome, slice_get, slice_set, take, ◌+◌, ◌++◌};
 ghost use Rattle.saved_state.specs.Cells.{cell_at, with_cell, captured, resumed};
 ghost use Rattle.saved_state.specs.declared.cell.Cell.TheVariants.{Value as ValueCell};
 ghost use Rattle.saved_state.specs.declared.cell.Cell.TheVariants.{Base as BaseCell};
+ghost use Rattle.nwq_value.specs.declared.value.Value.TheVariants.{Int as IntValue};
 
 use crate::cell::Cell;
 use crate::pile::Pile;
@@ -99,6 +100,16 @@ impl Stack {
         ensures cell { slice_get self.now.cells depth ≡ Some result.now }
     {
         self.cells.down(depth)
+    }
+
+    /// The int over which so many others lie, where it can be read at once. `None` says nothing: the
+    /// cell may hold an int all the same.
+    #[inline(always)]
+    pub fn int_near(&self, depth: usize) -> Option<i32>
+        ensures int { IfSome result (λ n. slice_get self.now.cells depth
+            ≡ Some (ValueCell (IntValue n))) }
+    {
+        self.cells.int_near(depth)
     }
 
     /// Drops the topmost cell. BP stays, even where its place is that cell's.

@@ -4,9 +4,9 @@
 //! or tells the place at which bytes stop being those of a state. What a state has to keep beside
 //! its form isn't asked here.
 //!
-//! What is written goes to a [`Writer`]: to a [`Tally`] first, which counts the bytes, and to a list
-//! only if they aren't more than a file may have. A crate above that knows a state's parts by other
-//! values puts the fields of these by itself.
+//! What is written goes to a [`Writer`]: to a [`Tally`] first, which counts the bytes, and to a
+//! list only if they aren't more than a file may have. A crate above that knows a state's parts by
+//! other values puts the fields of these by itself.
 //!
 //! `specs/Parts.antt` says which parts can be written, `specs/Fields.antt` how they are laid out,
 //! and `specs/Place.antt` at which place bytes stop being those of a state. docs/SAVES.md tells the

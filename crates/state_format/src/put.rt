@@ -35,7 +35,8 @@ impl Written for i32 {
 }
 
 fn put_effect<W: Writer>(out: &mut W, effect: &Effect) -> Result<(), NoMemory>
-    ensures put { OnOk result (W.taken out.new ≡ W.taken out.old ++ joined (effect_fields effect.now)) }
+    ensures put { OnOk result (W.taken out.new ≡ W.taken out.old
+        ++ joined (effect_fields effect.now)) }
 {
     put_short(out, effect.routine)?;
     put_list(out, &effect.ints)
@@ -79,7 +80,8 @@ impl Written for Cell {
 }
 
 fn put_captured<W: Writer>(out: &mut W, state: &Captured) -> Result<(), NoMemory>
-    ensures put { OnOk result (W.taken out.new ≡ W.taken out.old ++ joined (captured_fields state.now)) }
+    ensures put { OnOk result (W.taken out.new ≡ W.taken out.old
+        ++ joined (captured_fields state.now)) }
 {
     put_word(out, state.script)?;
     put_word(out, state.place)?;
@@ -88,7 +90,8 @@ fn put_captured<W: Writer>(out: &mut W, state: &Captured) -> Result<(), NoMemory
 }
 
 fn put_variable<W: Writer>(out: &mut W, variable: &Variable) -> Result<(), NoMemory>
-    ensures put { OnOk result (W.taken out.new ≡ W.taken out.old ++ joined (variable_fields variable.now)) }
+    ensures put { OnOk result (W.taken out.new ≡ W.taken out.old
+        ++ joined (variable_fields variable.now)) }
 {
     match variable {
         Variable::Int(name, n) => {
@@ -128,7 +131,8 @@ fn put_number<W: Writer>(out: &mut W, number: Option<u64>) -> Result<(), NoMemor
 }
 
 fn put_standing<W: Writer>(out: &mut W, standing: &Standing) -> Result<(), NoMemory>
-    ensures put { OnOk result (W.taken out.new ≡ W.taken out.old ++ joined (standing_fields standing.now)) }
+    ensures put { OnOk result (W.taken out.new ≡ W.taken out.old
+        ++ joined (standing_fields standing.now)) }
 {
     put_number(out, standing.number)?;
     put_effect(out, &standing.effect)
@@ -184,7 +188,8 @@ fn put_busy<W: Writer>(out: &mut W, busy: bool) -> Result<(), NoMemory>
 }
 
 fn put_object<W: Writer>(out: &mut W, object: &Object) -> Result<(), NoMemory>
-    ensures put { OnOk result (W.taken out.new ≡ W.taken out.old ++ joined (object_fields object.now)) }
+    ensures put { OnOk result (W.taken out.new ≡ W.taken out.old
+        ++ joined (object_fields object.now)) }
 {
     put_busy(out, object.busy)?;
     put_list(out, &object.variables)?;
@@ -233,7 +238,8 @@ fn put_kind<W: Writer>(out: &mut W, kind: &KindPart) -> Result<(), NoMemory>
 }
 
 fn put_entry<W: Writer>(out: &mut W, entry: &Entry) -> Result<(), NoMemory>
-    ensures put { OnOk result (W.taken out.new ≡ W.taken out.old ++ joined (entry_fields entry.now)) }
+    ensures put { OnOk result (W.taken out.new ≡ W.taken out.old
+        ++ joined (entry_fields entry.now)) }
 {
     put_wide(out, entry.due)?;
     put_wide(out, entry.number)?;
@@ -251,7 +257,8 @@ impl Written for Entry {
 }
 
 fn put_script<W: Writer>(out: &mut W, script: &Script) -> Result<(), NoMemory>
-    ensures put { OnOk result (W.taken out.new ≡ W.taken out.old ++ joined (script_fields script.now)) }
+    ensures put { OnOk result (W.taken out.new ≡ W.taken out.old
+        ++ joined (script_fields script.now)) }
 {
     put_blob(out, script.name.as_slice())?;
     put_blob(out, script.code.as_slice())
@@ -292,7 +299,8 @@ fn put_header<W: Writer>(out: &mut W, header: &Option<Items<u8>>) -> Result<(), 
 
 /// The limits, clock and counts behind the version.
 fn put_counts<W: Writer>(out: &mut W, parts: &Parts) -> Result<(), NoMemory>
-    ensures put { OnOk result (W.taken out.new ≡ W.taken out.old ++ joined (count_fields parts.now)) }
+    ensures put { OnOk result (W.taken out.new ≡ W.taken out.old
+        ++ joined (count_fields parts.now)) }
 {
     put_small(out, parts.version)?;
     put_wide(out, parts.limit)?;
@@ -313,7 +321,8 @@ pub fn put_magic<W: Writer>(out: &mut W) -> Result<(), NoMemory>
 
 /// Puts what stands in front of the random numbers.
 fn put_first<W: Writer>(out: &mut W, parts: &Parts) -> Result<(), NoMemory>
-    ensures put { OnOk result (W.taken out.new ≡ W.taken out.old ++ joined (first_fields parts.now)) }
+    ensures put { OnOk result (W.taken out.new ≡ W.taken out.old
+        ++ joined (first_fields parts.now)) }
 {
     put_magic(out)?;
     put_header(out, &parts.header)?;
@@ -324,7 +333,8 @@ fn put_first<W: Writer>(out: &mut W, parts: &Parts) -> Result<(), NoMemory>
 
 /// Puts the random numbers, the objects and the agenda.
 fn put_last<W: Writer>(out: &mut W, parts: &Parts) -> Result<(), NoMemory>
-    ensures put { OnOk result (W.taken out.new ≡ W.taken out.old ++ joined (last_fields parts.now)) }
+    ensures put { OnOk result (W.taken out.new ≡ W.taken out.old
+        ++ joined (last_fields parts.now)) }
 {
     put_list(out, &parts.random)?;
     put_list(out, &parts.objects)?;
@@ -332,7 +342,8 @@ fn put_last<W: Writer>(out: &mut W, parts: &Parts) -> Result<(), NoMemory>
 }
 
 fn put_fields<W: Writer>(out: &mut W, parts: &Parts) -> Result<(), NoMemory>
-    ensures put { OnOk result (W.taken out.new ≡ W.taken out.old ++ joined (parts_fields parts.now)) }
+    ensures put { OnOk result (W.taken out.new ≡ W.taken out.old
+        ++ joined (parts_fields parts.now)) }
 {
     put_first(out, parts)?;
     put_last(out, parts)

@@ -44,7 +44,8 @@ pub(crate) trait Written {
 
     /// Puts the part's fields last.
     fn put<W: Writer>(&self, out: &mut W) -> Result<(), NoMemory>
-        ensures put { OnOk result (W.taken out.new ≡ W.taken out.old ++ joined (laid_out self.now)) };
+        ensures put { OnOk result (W.taken out.new ≡ W.taken out.old
+            ++ joined (laid_out self.now)) };
 }
 
 /// The byte that tells which form follows.
@@ -133,7 +134,8 @@ pub(crate) fn put_list<T: Written, W: Writer>(
     out: &mut W,
     members: &Items<T>,
 ) -> Result<(), NoMemory>
-    ensures put { OnOk result (W.taken out.new ≡ W.taken out.old ++ joined (list_of T.laid_out members.now)) }
+    ensures put { OnOk result (W.taken out.new ≡ W.taken out.old
+        ++ joined (list_of T.laid_out members.now)) }
 {
     put_count(out, members.len())?;
     put_members(out, members.as_slice())

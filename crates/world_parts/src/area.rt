@@ -7,7 +7,7 @@ ghost use Rattle.local_variables.specs.Variables.{text_named};
 ghost use Rattle.world_rules.specs.Arguments.{int_at, object_at, text_at};
 ghost use Rattle.world_rules.specs.Rows.{changed_variables, read};
 
-use crate::args::{int_at, object_at, text_at};
+use crate::args::{int_at, object_at, string_at, text_at};
 use crate::parts::Parts;
 use nwq_value::{Args, NoMemory};
 
@@ -78,7 +78,8 @@ impl<X: Drop> Parts<X> {
     {
         let o = object_at(args, 0);
         if self.is_valid(o) {
-            self.area.set_text(o, text_at(args, 1), text_at(args, 2))
+            let text = string_at(self.alloc(), args, 2)?;
+            self.area.set_text(o, text_at(args, 1), text)
         } else {
             Ok(())
         }

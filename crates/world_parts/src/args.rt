@@ -4,6 +4,7 @@ ghost use Rattle.world_rules.specs.Arguments.{int_at, text_at, object_at, effect
 ghost use Rattle.world_rules.specs.Arguments.{effect_in, text_in};
 
 use nwq_value::{Args, Effect, NoMemory, Text, Value};
+use shared_bytes::SharedBytes;
 use std::alloc::Global;
 
 pub(crate) fn int_at(args: &Args, i: usize) -> i32
@@ -39,6 +40,18 @@ pub(crate) fn text_at(args: &Args, i: usize) -> &[u8]
     match args.get(i) {
         Some(Value::Text(text)) => text.bytes(),
         Some(Value::Event(_) | Value::Int(_) | Value::Effect(_) | Value::Object(_)) | None => &[],
+    }
+}
+
+/// The string at a place, whose bytes are shared with it.
+pub(crate) fn string_at(alloc: Global, args: &Args, i: usize) -> Result<SharedBytes, NoMemory>
+    ensures text { IfOk result (λ text. text ≡ text_at i args.now) }
+{
+    match args.get(i) {
+        Some(Value::Text(text)) => SharedBytes::of_text(alloc, text),
+        Some(Value::Event(_) | Value::Int(_) | Value::Effect(_) | Value::Object(_)) | None => {
+            Ok(SharedBytes::new(alloc))
+        }
     }
 }
 

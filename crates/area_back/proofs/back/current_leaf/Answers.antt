@@ -9,4 +9,4 @@ pub returns-in-Int : goal.returns-in-Int
 returns-in-Int c = rw c.in-Int.is (ap (λ n. Holds (Int n)) (to_z-of_z w32 c.int.result (record { sfits = c.int.type_inv }) ∙ c.int.ensures.value))
 
 pub returns-in-Text : goal.returns-in-Text
-returns-in-Text c = rw c.in-Text.is (leaf_along _ _ c.string_leaf.result (ap (λ t. Holds (Str t)) c.text.ensures.value) c.string_leaf.ensures)
+returns-in-Text c = rw c.in-Text.is (leaf_along _ _ c.text_leaf.result (ap (λ t. Holds (Str t)) c.text.ensures.value) c.text_leaf.ensures)

@@ -1,5 +1,5 @@
 use Rattle.std.proofs.Common.{arith, ◌≡◌, ◌<◌, ◌-◌, ℕ, suc}
-use Rattle.machine_frames.proofs.RunLemmas.{copy_begins, from_fits, onto_fits, reads, writes, copied}
+use Rattle.machine_frames.proofs.RunLemmas.{copy_begins, from_fits, onto_fits, reads, writes, copied_one}
 use Rattle.machine_frames.proofs.runs.copy_down.Goals as goal
 
 pub loop-left-init : goal.loop-left-init
@@ -14,26 +14,19 @@ overflow_add-from c =
     (last c.loop-left.left c.loop-left-test.true) c.len-len.ensures.count in
     omega (arith, h, c.len-len.type_inv)
 
-pub value-requires : goal.value-requires
-value-requires c = record {
-  value = reads c.args.from c.args.onto c.args.count c.loop-left.left c.args.stack.now c.loop-left.stack (c.loop-left.left - 1) c.loop-left.invariant (last c.loop-left.left c.loop-left-test.true);
-}
-
 pub overflow_add-onto : goal.overflow_add-onto
 overflow_add-onto c =
     let h = onto_fits c.args.from c.args.onto c.args.count c.loop-left.left c.len-len.result (c.loop-left.left - 1) c.args.stack.now c.loop-left.stack c.loop-left.invariant
     (last c.loop-left.left c.loop-left-test.true) c.len-len.ensures.count in
     omega (arith, h, c.len-len.type_inv)
 
-pub put-requires : goal.put-requires
-put-requires c = record {
-  value = writes c.args.from c.args.onto c.args.count c.loop-left.left c.args.stack.now c.loop-left.stack (c.loop-left.left - 1) c.loop-left.invariant (last c.loop-left.left c.loop-left-test.true);
+pub copy_onto-requires : goal.copy_onto-requires
+copy_onto-requires c = record {
+  from = reads c.args.from c.args.onto c.args.count c.loop-left.left c.args.stack.now c.loop-left.stack (c.loop-left.left - 1) c.loop-left.invariant (last c.loop-left.left c.loop-left-test.true);
+  onto = writes c.args.from c.args.onto c.args.count c.loop-left.left c.args.stack.now c.loop-left.stack (c.loop-left.left - 1) c.loop-left.invariant (last c.loop-left.left c.loop-left-test.true);
 }
 
 pub loop-left-preserved : goal.loop-left-preserved
 loop-left-preserved c =
-    let same = c.in_ok-copy.ensures.ok in
-    let read = c.value.ensures.value in
-    rw c.in_ok-put.ensures.put
-    (copied c.args.from c.args.onto c.args.count c.loop-left.left c.args.stack.now c.loop-left.stack (c.loop-left.left - 1) c.in_ok-copy.copy c.loop-left.invariant
-    (last c.loop-left.left c.loop-left-test.true) cc)
+    copied_one c.args.from c.args.onto c.args.count c.loop-left.left c.args.stack.now c.loop-left.stack c.copy_onto.new.stack c.loop-left.invariant
+    c.loop-left-test.true c.in_ok-copy_onto.ensures.cells

@@ -24,6 +24,7 @@ loop-done-init g c = record {
       (answers_typed _ c.answers_have_types.ensures.typed c.keeps-2.ensures.table)
       c.requires.safe c.requires.alone c.requires.caller;
   script = c.script-script.ensures.script;
+  own = c.own-own.ensures.own;
   room = omega arith;
 }
 
@@ -35,23 +36,23 @@ step-requires-clause-well g c =
 pub returns-in-Err-clause-cut : goal.returns-in-Err-clause-cut
 returns-in-Err-clause-cut g c =
     cut_short (scripts_of c.args.scripts.now) _ (tables_of c.args.scripts.now) c.args.limit (state c.args.machine.now c.args.world.now.world)
-    c.loop-done.done c.own-own.result (state c.loop-done.machine c.loop-done.world.world) c.step.new.world.world
-    c.loop-done.invariant.running c.own-own.ensures.own c.in-Err.ensures.cut
+    c.loop-done.done c.loop-done.own (state c.loop-done.machine c.loop-done.world.world) c.step.new.world.world
+    c.loop-done.invariant.running c.loop-done.invariant.own c.in-Err.ensures.cut
 
 pub returns-in-Ends-clause-run : goal.returns-in-Ends-clause-run
 returns-in-Ends-clause-run g c =
     ended_run (scripts_of c.args.scripts.now) _ (tables_of c.args.scripts.now) c.args.limit c.loop-done.machine c.args.machine.now c.args.world.now.world c.loop-done.world.world c.step.new.world.world
-    c.loop-done.done c.own-own.result c.loop-done.invariant.running c.loop-done-test.true
+    c.loop-done.done c.loop-done.own c.loop-done.invariant.running c.loop-done-test.true
     (c.in-Ok.ensures.next ∙ ap (λ n. Some (next_of n (state c.step.new.self c.step.new.world.world))) c.in-Ends.is)
-    c.own-own.ensures.own
+    c.loop-done.invariant.own
     (subst (λ n. Stays n c.loop-done.world.world c.step.new.world.world) c.in-Ends.is c.in-Ok.ensures.stays)
 
 pub returns-in-Divides-clause-run : goal.returns-in-Divides-clause-run
 returns-in-Divides-clause-run g c =
     divided_run (scripts_of c.args.scripts.now) _ (tables_of c.args.scripts.now) c.args.limit c.loop-done.machine c.args.machine.now c.args.world.now.world c.loop-done.world.world c.step.new.world.world
-    c.loop-done.done c.own-own.result c.loop-done.invariant.running c.loop-done-test.true
+    c.loop-done.done c.loop-done.own c.loop-done.invariant.running c.loop-done-test.true
     (c.in-Ok.ensures.next ∙ ap (λ n. Some (next_of n (state c.step.new.self c.step.new.world.world))) c.in-Divides.is)
-    c.own-own.ensures.own
+    c.loop-done.invariant.own
     (subst (λ n. Stays n c.loop-done.world.world c.step.new.world.world) c.in-Divides.is c.in-Ok.ensures.stays)
 
 pub script-script-requires-in-Enters : goal.script-script-requires-in-Enters
@@ -72,6 +73,8 @@ loop-done-preserved g c =
             (c.in-Ok.ensures.next ∙ ap (λ n. Some (next_of n (state c.step.new.self c.step.new.world.world))) w.in-Goes.is);
         script = ap (slice_get c.args.scripts.now) (subst (λ n. Remains n c.loop-done.machine.running.script c.step.new.self.running.script) w.in-Goes.is c.in-Ok.ensures.remains)
             ∙ c.loop-done.invariant.script ∙ sym (ap (λ r. Some r.now) w.script-is);
+        own = w.own-is ∙ c.loop-done.invariant.own
+            ∙ sym (subst (λ n. Remains n c.loop-done.machine.running.self c.step.new.self.running.self) w.in-Goes.is c.in-Ok.ensures.own);
         room = omega (arith, c.loop-done.invariant.room, c.step.ensures.room);
       }
       | in-Enters w ↦ record {
@@ -79,6 +82,7 @@ loop-done-preserved g c =
             c.loop-done.done (state c.loop-done.machine c.loop-done.world.world) (state c.step.new.self c.step.new.world.world) c.loop-done.invariant.running c.loop-done-test.true
             (c.in-Ok.ensures.next ∙ ap (λ n. Some (next_of n (state c.step.new.self c.step.new.world.world))) w.in-Enters.is);
         script = w.script-script-in-Enters.ensures.script ∙ sym (ap (λ r. Some r.now) w.script-is);
+        own = w.own-is ∙ w.own-own-in-Enters.ensures.own;
         room = omega (arith, c.loop-done.invariant.room, c.step.ensures.room);
       }
     ]
@@ -86,4 +90,4 @@ loop-done-preserved g c =
 pub returns-clause-run : goal.returns-clause-run
 returns-clause-run g c =
     stopped_run (scripts_of c.args.scripts.now) _ (tables_of c.args.scripts.now) c.args.limit c.loop-done.machine c.args.machine.now c.args.world.now.world c.loop-done.world.world
-    c.loop-done.done c.own.result c.loop-done.invariant.running (omega (arith, c.loop-done-test.false, c.loop-done.auto)) c.own.ensures.own
+    c.loop-done.done c.loop-done.own c.loop-done.invariant.running (omega (arith, c.loop-done-test.false, c.loop-done.auto)) c.loop-done.invariant.own

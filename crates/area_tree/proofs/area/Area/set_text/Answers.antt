@@ -12,7 +12,7 @@ invariant_of-self c =
 
 pub returns-clause-ok : goal.returns-clause-ok
 returns-clause-ok c =
-    tried_ok (plain_gff c.self.inside.tree) c.self.inside.objects.items (c.args.o - 1) c.index_mut-object.result.now c.set_text.new.self (put (TextVar c.args.name.now c.args.v.now)) c.args.self.now c.set_text.result c.self.view_is
+    tried_ok (plain_gff c.self.inside.tree) c.self.inside.objects.items (c.args.o - 1) c.index_mut-object.result.now c.set_text.new.self (put (TextVar c.args.name.now c.args.v)) c.args.self.now c.set_text.result c.self.view_is
     (place_of c.args.o c.self.inside.objects.items c.args.self.now.objects (ap (λ a. a.objects) c.self.view_is) c.requires.first c.requires.within) c.index_mut-object.ensures.value c.set_text.ensures.ok
 
 pub returns-clause-err : goal.returns-clause-err

@@ -3,6 +3,7 @@ use Rattle.std.specs.String.{string_bytes}
 use Rattle.nwq_value.specs.Limits.{token_limit}
 use Rattle.nss_include.specs.Names.{file_name}
 use Rattle.nss_include.specs.Units.{is_among}
+use Rattle.nss_include.proofs.ReadLemmas.{one_more}
 use Rattle.nss_include.proofs.ProgressLemmas.{halts-mentions, halts-include, advances-again, advances-include, IsUtf8-name}
 use Rattle.nss_include.proofs.gatherer.Gatherer.mention.Goals as goal
 
@@ -40,3 +41,6 @@ returns-clause-halts g c =
     in let room : c.args.self.now.count + 3 ≤ token_limit = omega arith
     in halts-include _ _ c.args.self.now c.args.here c.args.hash c.args.name.now c.args.after c.requires.step room
     c.as_str.result.now (c.as_str.ensures.value ∙ named) alone c.in-Err.fault c.in-Err.ensures.fails
+
+pub returns-in-Ok-clause-once : goal.returns-in-Ok-clause-once
+returns-in-Ok-clause-once g c = one_more c.args.self.now.unit c.include.new.self.unit _ _ _ c.in-Ok.ensures.includes.reads.opens c.in-Ok.ensures.once

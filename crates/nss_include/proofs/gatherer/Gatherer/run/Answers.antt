@@ -18,6 +18,7 @@ loop-here-preserved g c =
           c.in-Ok.ensures.advances.so),
       c.in-Ok.ensures.same ∙ c.loop-here.invariant.1,
       c.in-Ok.ensures.counts ∙ c.loop-here.invariant.2,
+      λ start is. c.in-Ok.ensures.once start (c.loop-here.invariant.3 start is),
     )
 
 pub returns-in-Err-clause-stops : goal.returns-in-Err-clause-stops

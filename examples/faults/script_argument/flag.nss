@@ -1,0 +1,4 @@
+void main()
+{
+    SetLocalInt(OBJECT_SELF, 1, TRUE);
+}

@@ -1,0 +1,5 @@
+void main()
+{
+    object oDoor = GetObjectByTag;
+    SetLocalInt(oDoor, "open", TRUE);
+}

@@ -1,0 +1,7 @@
+void main()
+{
+    if (GetLocalString(OBJECT_SELF, "name"))
+    {
+        SpeakString("Welcome back.");
+    }
+}

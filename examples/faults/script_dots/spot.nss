@@ -1,0 +1,10 @@
+struct Spot
+{
+    int nX;
+};
+
+void main()
+{
+    struct Spot s;
+    PrintInteger(s..nX);
+}

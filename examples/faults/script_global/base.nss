@@ -1,0 +1,11 @@
+int Base()
+{
+    return 10;
+}
+
+int nBase = Base();
+
+void main()
+{
+    PrintInteger(nBase);
+}

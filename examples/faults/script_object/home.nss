@@ -1,0 +1,6 @@
+const object HOME = OBJECT_SELF;
+
+void main()
+{
+    SetLocalInt(HOME, "home", TRUE);
+}

@@ -1,0 +1,8 @@
+void main()
+{
+    if (GetLocalInt(OBJECT_SELF, "skip"))
+    {
+        continue;
+    }
+    SpeakString("Here I am.");
+}

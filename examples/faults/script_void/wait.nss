@@ -1,0 +1,5 @@
+void main()
+{
+    void vDone;
+    PrintString("done");
+}
