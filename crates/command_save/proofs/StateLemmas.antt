@@ -82,10 +82,10 @@ state_for header text file area plan scripts w answer same_text same_area p is s
     state_at header text file area plan scripts w answer s same_text same_area state.play state.come state.world state.code state.form state.accepted p is
 
 pub written_for : {P Q : Parts → Type 0} (f : (s : Parts) → P s → Q s) (v : List ℕ) → IsWrittenState P v → IsWrittenState Q v
-written_for f v found = (found.0, (f found.0 found.1.0, found.1.1))
+written_for f v found = (found.0, f found.0 found.1, found.2)
 
 pub large_for : {P Q : Parts → Type 0} (f : (s : Parts) → P s → Q s) (e : SaveFault) → IsLargeState P e → IsLargeState Q e
-large_for f (unsaved.Large size) found = (found.0, (f found.0 found.1.0, found.1.1))
+large_for f (unsaved.Large size) found = (found.0, f found.0 found.1, found.2)
 large_for f unsaved.NoMemory found = tt
 
 -- ---- the work
@@ -100,13 +100,13 @@ module _ (header : HeaderFile) (file : List ℕ) (plan : Plan) (scripts : List S
   pub at_written : (bytes : List ℕ) (answer : Answer) (w : World Saved) (r : Result Finished Status) (c c' : Contents) (t t' : List ℕ) → IsProgress answer w p
       → IsWrittenState (IsStateAt header file plan scripts p) bytes → Does (state_told name bytes answer.entries) c t r c' t' → Does (saves_at header file plan scripts name p) c t r c' t'
   at_written bytes answer w r c c' t t' is found does =
-      at_does found.0 r c c' t t' found.1.0 (state_put name found.0 bytes answer.entries r c c' t t' found.1.1.0 found.1.1.1 (found.1.0.come.taken ∙ sym is.entries) does)
+      at_does found.0 r c c' t t' found.1 (state_put name found.0 bytes answer.entries r c c' t t' found.2.0 found.2.1 (found.1.come.taken ∙ sym is.entries) does)
 
   -- or they are too many
   pub at_large : (size : ℕ) (answer : Status) (c : Contents) (t t' : List ℕ) → IsLargeState (IsStateAt header file plan scripts p) (unsaved.Large size)
       → Refuses (BadArea name (flaw.Large size)) t answer t' → Does (saves_at header file plan scripts name p) c t (Err answer) c t'
   at_large size answer c t t' found refused =
-      at_does found.0 (Err answer) c c t t' found.1.0 (state_large name found.0 size answer c t t' found.1.1 refused)
+      at_does found.0 (Err answer) c c t t' found.1 (state_large name found.0 size answer c t t' found.2 refused)
 
   pub at_cut : (c : Contents) (t : List ℕ) → Does (saves_at header file plan scripts name p) c t (Err status.Memory) c t
   unfolding saves_at

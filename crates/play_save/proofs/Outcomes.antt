@@ -20,7 +20,7 @@ use Rattle.state_format.specs.declared.fault.SaveFault.{SaveFault}
 use Rattle.state_format.specs.declared.fault.SaveFault.TheVariants as unsaved
 use Rattle.state_format.specs.declared.parts.Parts.{Parts}
 use Rattle.play_save.specs.declared.told.Resting.{Resting}
-use Rattle.play_save.specs.States.{resting, MayLimit, MayList, MayRest, MayCount, IsStateFor, IsLargeState, IsWrittenState}
+use Rattle.play_save.specs.States.{resting, MayLimit, MayList, MayRest, MayCount, IsPlayOf, IsStateFor, IsLargeState, IsWrittenState}
 use Rattle.play_save.specs.Scripts.{script_parts}
 use Rattle.play_save.specs.Keeping.{Tells, IsKept}
 use Rattle.play_save.specs.Telling.{resting_parts, IsTold, IsToldAs}
@@ -69,7 +69,7 @@ pub kept_state : (s : Parts) (header : Option (List ℕ)) (scripts : List Loaded
     → Laws → file ≡ area → IsKept header scripts file limits taken done (put_together objects parts) s → MayLimit limits → MayList header scripts → MayRest scripts area w
     → MayCount limits w taken done → IsArea objects → IsWorld w → put_together objects parts ≡ resting w → IsStateFor header scripts area limits taken done w s
 kept_state s header scripts file area limits taken done w objects parts laws lent kept limited listed rests counted is world same =
-    let play = record {
+    let play : IsPlayOf s header (script_parts scripts) area limits = record {
       header = kept.play.header;
       scripts = kept.play.scripts;
       area = kept.play.area ∙ lent;
@@ -121,25 +121,25 @@ resting_kept p header scripts file limits taken done w lent s alike =
 pub kept_written : {p : Resting} (header : Option (List ℕ)) (scripts : List Loaded) (file : List ℕ) (limits : Limits) (taken done : ℕ) (w : World Saved) (v : List ℕ)
     → IsWrittenState (IsToldAs p) v → AreLent p header scripts file limits taken done w → IsWrittenState (IsKept header scripts file limits taken done w) v
 kept_written header scripts file limits taken done w v found lent =
-    (found.0, (resting_kept _ header scripts file limits taken done w lent found.0 found.1.0, found.1.1))
+    (found.0, resting_kept _ header scripts file limits taken done w lent found.0 found.1, found.2)
 
 pub kept_large : {p : Resting} (header : Option (List ℕ)) (scripts : List Loaded) (file : List ℕ) (limits : Limits) (taken done : ℕ) (w : World Saved) (e : SaveFault)
     → IsLargeState (IsToldAs p) e → AreLent p header scripts file limits taken done w → IsLargeState (IsKept header scripts file limits taken done w) e
 kept_large header scripts file limits taken done w (unsaved.Large size) found lent =
-    (found.0, (resting_kept _ header scripts file limits taken done w lent found.0 found.1.0, found.1.1))
+    (found.0, resting_kept _ header scripts file limits taken done w lent found.0 found.1, found.2)
 kept_large header scripts file limits taken done w unsaved.NoMemory found lent = tt
 
 pub told_written : (p : Resting) (v : List ℕ) (size : ℕ) → IsTold p → v ≡ parts_bytes (resting_parts p) → size ≡ length (parts_bytes (resting_parts p)) → (file_limit < size → ⊥)
     → IsWrittenState (IsToldAs p) v
 told_written p v size told is count few =
-    (resting_parts p, (record { told = told; is = refl }, (record { form = told_form p told; is = is }, (let here = ap (λ (l : List ℕ). length l) is in omega (arith, here, count, few)))))
+    (resting_parts p, record { told = told; is = refl }, (record { form = told_form p told; is = is }, (let here = ap (λ (l : List ℕ). length l) is in omega (arith, here, count, few))))
 
 pub told_large : (p : Resting) (size : ℕ) → IsTold p → size ≡ length (parts_bytes (resting_parts p)) → file_limit < size → IsLargeState (IsToldAs p) (unsaved.Large size)
-told_large p size told count many = (resting_parts p, (record { told = told; is = refl }, (subst (λ (n : ℕ). file_limit < n) count many, count)))
+told_large p size told count many = (resting_parts p, record { told = told; is = refl }, (subst (λ (n : ℕ). file_limit < n) count many, count))
 
 pub written_so : {P Q : Parts → Type 0} (f : (s : Parts) → P s → Q s) (v : List ℕ) → IsWrittenState P v → IsWrittenState Q v
-written_so f v found = (found.0, (f found.0 found.1.0, found.1.1))
+written_so f v found = (found.0, f found.0 found.1, found.2)
 
 pub large_so : {P Q : Parts → Type 0} (f : (s : Parts) → P s → Q s) (e : SaveFault) → IsLargeState P e → IsLargeState Q e
-large_so f (unsaved.Large size) found = (found.0, (f found.0 found.1.0, found.1.1))
+large_so f (unsaved.Large size) found = (found.0, f found.0 found.1, found.2)
 large_so f unsaved.NoMemory found = tt

@@ -26,9 +26,9 @@ use Rattle.play_save.specs.Keeping.{AreObjectsOf}
 use Rattle.play_save.specs.Telling.{number_row, front_fields, back_fields, resting_parts}
 use Rattle.play_save.proofs.Keeping.{none_kept, objects_more, objects_end}
 
-pub both_done : {T E P Q : Type 0} (r : Result T E) → OnOk r P → OnOk r Q → OnOk r (P × Q)
-both_done (Ok x) p q = (p, q)
-both_done (Err e) p q = tt
+pub both_done : {T E : Type 0} (P Q : Type 0) (r : Result T E) → OnOk r P → OnOk r Q → OnOk r (P × Q)
+both_done P Q (Ok x) p q = (p, q)
+both_done P Q (Err e) p q = tt
 
 -- ---- the header, whose bytes are lent
 

@@ -5,8 +5,8 @@ use Rattle.play_save.proofs.Outcomes.{kept_state, written_so, large_so}
 use Rattle.play_save.proofs.Holding.{queues_hold, entries_hold}
 use Rattle.play_save.proofs.play.put_play.Goals as goal
 
-pub returns-in-Ok : goal.returns-in-Ok
-returns-in-Ok c =
+pub returns : goal.returns
+returns c =
     let f = λ s kept.
     kept_state s (option_map (λ text. text.items) c.args.header) c.args.scripts.now c.as_slice-file.result.now c.args.area.items c.args.limits c.args.taken c.args.done c.args.world.world c.in-Ok.objects
     c.in-Ok.saved (record { header = c.one_header.ensures.one; spellings = c.spelling_laws.ensures.spelling; fits = c.fits_too.ensures.fits }) c.as_slice-file.ensures.value kept

@@ -16,4 +16,4 @@ returns-clause-told g c = on_ok_weaker c.put_entries.result
       entries = both.0;
       few_entries = both.1;
     })
-    (both_done c.put_entries.result c.put_entries.ensures.parts c.put_entries.ensures.few)
+    (both_done _ _ c.put_entries.result c.put_entries.ensures.parts c.put_entries.ensures.few)

@@ -9,5 +9,5 @@ returns-in-Err-clause-only c =
     λ s of accepted. memory_only s c.in-Err.fault accepted
     (subst (λ (x : Parts). BreaksFirst x c.in-Err.fault) (c.one_state.ensures.one c.args.bytes.now c.in-Ok.parts s c.in-Ok.ensures.exact of) c.in-Err.ensures.kept)
 
-pub returns-in-Ok-prepared-clause-only : goal.returns-in-Ok-prepared-clause-only
-returns-in-Ok-prepared-clause-only c = λ s of accepted. c.one_state.ensures.one c.args.bytes.now c.in-Ok.parts s c.in-Ok.ensures.exact of
+pub returns-in-Ok-test_parts-clause-only : goal.returns-in-Ok-test_parts-clause-only
+returns-in-Ok-test_parts-clause-only c = λ s of accepted. c.one_state.ensures.one c.args.bytes.now c.in-Ok.parts s c.in-Ok.ensures.exact of
