@@ -44,13 +44,10 @@ state_too header file plan scripts p q t same is = record {
 }
 
 same_states : OneLaws → (header : HeaderFile) (file : List ℕ) (plan : Plan) (scripts : List Script) (p q : Progress Saved) → StandsAs p q → SameStates header file plan scripts p q
-same_states laws header file plan scripts p q same =
-    let there = λ t is. state_too header file plan scripts p q t same is in
-    let back = λ t is. state_too header file plan scripts q p t (stands_back p q same) is in
-    record {
-      alike = λ t. (there t, back t);
-      bytes = λ t u is too. ap parts_bytes (one_saved laws header file plan scripts p t u is (back u too));
-    }
+same_states laws header file plan scripts p q same = record {
+  alike = λ t. (state_too header file plan scripts p q t same, state_too header file plan scripts q p t (stands_back p q same));
+  bytes = λ t u is too. ap parts_bytes (one_saved laws header file plan scripts p t u is (state_too header file plan scripts q p u (stands_back p q same) too));
+}
 
 min_below : (n k : ℕ) → min n k ≤ k
 min_below n k = omega arith
