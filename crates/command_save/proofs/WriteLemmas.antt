@@ -1,5 +1,5 @@
 -- What comes of a state's bytes does the work of writing it.
-use Rattle.std.proofs.Common.{◌≡◌, ◌<◌, ◌≤◌, ℕ, Bool, true, false, inr, List, length, Result, Err, sym, subst, lt-ltb, le-ltb}
+use Rattle.std.proofs.Common.{◌≡◌, ◌<◌, ◌≤◌, ℕ, Bool, inr, List, length, Result, Err, sym, subst, lt-ltb, le-ltb}
 use Rattle.nwq_value.specs.Limits.{file_limit}
 use Rattle.nwq_outside.specs.Outside.{Contents}
 use Rattle.state_format.specs.declared.parts.Parts.{Parts}

@@ -1,6 +1,6 @@
 use Rattle.std.specs.Option.{option_map}
 use Rattle.std.proofs.lemmas.Result.{MatchResult-weaker}
-use Rattle.command_save.proofs.StateLemmas.{may_limit, state_for, written_for, large_for}
+use Rattle.command_save.proofs.StateLemmas.{state_for, written_for, large_for}
 use Rattle.command_save.proofs.saving.play_bytes.Goals as goal
 
 pub returns : goal.returns
