@@ -40,42 +40,49 @@ module _ {X : Type 0} (runner : Runner X) where
 -- ---- from where it was broken off, the rest is the rest of the whole
 
 module _ {X : Type 0} (runner : Runner X) (bounds : Bounds) where
+  -- the play from here on, until so many entries were taken in all
+  abbrev pub upto : ℕ → Progress X → Played X
+  upto total p = plays_from runner bounds (total - p.entries) p
+
   -- the play from here to its end
   abbrev pub on : Progress X → Played X
-  on p = plays_from runner bounds (bounds.entries + 1 - p.entries) p
+  on p = upto (bounds.entries + 1) p
 
-  abbrev Rests : ℕ → Progress X → Type 0
-  Rests k p = (plays_from runner bounds k p).ending ≢ plays.StoppedInside → on p ≡ on (plays_from runner bounds k p).last
+  abbrev Rests : ℕ → ℕ → Progress X → Type 0
+  Rests total k p = (plays_from runner bounds k p).ending ≢ plays.StoppedInside → upto total p ≡ upto total (plays_from runner bounds k p).last
 
   next_is : (k : ℕ) (p : Progress X) → p.entries < bounds.entries → plays_from runner bounds (suc k) p ≡ next_entry runner (begin bounds.until p.world) p (plays_from runner bounds k)
   next_is k p less =
       ap (λ (t : Bool). if t then record { ending = full (begin bounds.until p.world); last = p } else next_entry runner (begin bounds.until p.world) p (plays_from runner bounds k))
       (apart_of p.entries bounds.entries less)
 
-  after_rests : (k left : ℕ) (stopped : Bool) (p : Progress X) → left ≡ bounds.entries + 1 - p.entries → Rests k p
+  after_rests : (total k left : ℕ) (stopped : Bool) (p : Progress X) → left ≡ total - p.entries → Rests total k p
       → (after_entry stopped p (plays_from runner bounds k)).ending ≢ plays.StoppedInside
-      → after_entry stopped p (plays_from runner bounds left) ≡ on (after_entry stopped p (plays_from runner bounds k)).last
-  after_rests k left true p is rests whole = absurd (whole refl)
-  after_rests k left false p is rests whole = ap (λ (n : ℕ). plays_from runner bounds n p) is ∙ rests whole
+      → after_entry stopped p (plays_from runner bounds left) ≡ upto total (after_entry stopped p (plays_from runner bounds k)).last
+  after_rests total k left true p is rests whole = absurd (whole refl)
+  after_rests total k left false p is rests whole = ap (λ (n : ℕ). plays_from runner bounds n p) is ∙ rests whole
 
-  next_rests : (k left : ℕ) (b : Option (Begun X)) (p : Progress X) → on p ≡ next_entry runner b p (plays_from runner bounds left) → left ≡ bounds.entries - p.entries
-      → ((q : Progress X) → q.entries ≡ p.entries + 1 → Rests k q) → (next_entry runner b p (plays_from runner bounds k)).ending ≢ plays.StoppedInside
-      → on p ≡ on (next_entry runner b p (plays_from runner bounds k)).last
-  next_rests k left None p is count rests whole = refl
-  next_rests k left (Some b) p is count rests whole =
-      is ∙ after_rests k left (entry_entered runner b).stopped (further (entry_entered runner b) p) (omega (arith, count)) (rests (further (entry_entered runner b) p) refl) whole
+  next_rests : (total k left : ℕ) (b : Option (Begun X)) (p : Progress X) → upto total p ≡ next_entry runner b p (plays_from runner bounds left) → suc left ≡ total - p.entries
+      → ((q : Progress X) → q.entries ≡ p.entries + 1 → Rests total k q) → (next_entry runner b p (plays_from runner bounds k)).ending ≢ plays.StoppedInside
+      → upto total p ≡ upto total (next_entry runner b p (plays_from runner bounds k)).last
+  next_rests total k left None p is count rests whole = refl
+  next_rests total k left (Some b) p is count rests whole =
+      is ∙ after_rests total k left (entry_entered runner b).stopped (further (entry_entered runner b) p) (omega (arith, count)) (rests (further (entry_entered runner b) p) refl) whole
 
-  pub rests : (k : ℕ) (p : Progress X) → p.entries + k ≤ bounds.entries → Rests k p
-  rests zero p below whole = refl
-  rests (suc k) p below whole =
+  pub rests_upto : (total k : ℕ) (p : Progress X) → p.entries + k ≤ bounds.entries → p.entries + k ≤ total → Rests total k p
+  rests_upto total zero p below within whole = refl
+  rests_upto total (suc k) p below within whole =
       let less : p.entries < bounds.entries = omega (arith, below) in
       let first = next_is k p less in
-      let left : bounds.entries + 1 - p.entries ≡ suc (bounds.entries - p.entries) = omega (arith, less) in
-      let here : on p ≡ next_entry runner (begin bounds.until p.world) p (plays_from runner bounds (bounds.entries - p.entries)) =
-      ap (λ (n : ℕ). plays_from runner bounds n p) left ∙ next_is (bounds.entries - p.entries) p less in
-      next_rests k (bounds.entries - p.entries) (begin bounds.until p.world) p here refl (λ q one. rests k q (omega (arith, one, below)))
+      let left : total - p.entries ≡ suc (total - p.entries - 1) = omega (arith, within) in
+      let here : upto total p ≡ next_entry runner (begin bounds.until p.world) p (plays_from runner bounds (total - p.entries - 1)) =
+      ap (λ (n : ℕ). plays_from runner bounds n p) left ∙ next_is (total - p.entries - 1) p less in
+      next_rests total k (total - p.entries - 1) (begin bounds.until p.world) p here (sym left) (λ q one. rests_upto total k q (omega (arith, one, below)) (omega (arith, one, within)))
       (subst (λ (q : Played X). q.ending ≢ plays.StoppedInside) first whole)
-      ∙ ap (λ (q : Played X). on q.last) (sym first)
+      ∙ ap (λ (q : Played X). upto total q.last) (sym first)
+
+  pub rests : (k : ℕ) (p : Progress X) → p.entries + k ≤ bounds.entries → Rests (bounds.entries + 1) k p
+  rests k p below = rests_upto (bounds.entries + 1) k p below (omega (arith, below))
 
   -- ---- a play to its end isn't broken off
 
@@ -222,12 +229,15 @@ module _ {X : Type 0} (runner : Runner X) (bounds : Bounds) where
     pub user : ℤ
     pub is : whole ≡ played_after front (played_with user rest)
 
-  pub left_goes : (p : Progress X) → p.world.trace ≡ [] → IsRestOf p.trace (on p) (on (left_of p))
-  left_goes p quiet =
-      let left : ℕ = bounds.entries + 1 - p.entries in
+  pub left_upto : (total : ℕ) (p : Progress X) → p.world.trace ≡ [] → IsRestOf p.trace (upto total p) (upto total (left_of p))
+  left_upto total p quiet =
+      let left : ℕ = total - p.entries in
       let same = users p.world.user left (left_of p) in
       record {
         user = same.user;
         is = ap (λ (q : Progress X). plays_from runner bounds left q) (left_again p quiet) ∙ fronts p.trace left (with_user p.world.user (left_of p))
             ∙ ap (played_after p.trace) same.is;
       }
+
+  pub left_goes : (p : Progress X) → p.world.trace ≡ [] → IsRestOf p.trace (on p) (on (left_of p))
+  left_goes p quiet = left_upto (bounds.entries + 1) p quiet

@@ -16,3 +16,4 @@ mod RestLemmas
 mod SavedLemmas
 mod SafeLemmas
 mod FrontLemmas
+mod ComposeLemmas

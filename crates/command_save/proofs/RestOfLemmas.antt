@@ -22,7 +22,7 @@ use Rattle.module_player.specs.declared.played.How.TheVariants.{Done, InstrStop,
 use Rattle.state_format.specs.declared.parts.Parts.{Parts}
 use Rattle.plan_text.specs.Plans.{Limits}
 use Rattle.play_save.specs.declared.state.Opened.{Opened}
-use Rattle.state_parts.specs.Scripts.{script_parts}
+use Rattle.play_save.specs.Scripts.{script_parts}
 use Rattle.play_save.specs.Rules.{IsHeaderOf, IsAccepted}
 use Rattle.play_save.specs.States.{IsPlayOf, HasCome, IsWorldOf}
 use Rattle.command_work.specs.declared.status.Status.{Status}

@@ -92,10 +92,10 @@ state_does name s c t held small fate =
 
 module _ (laws : OneLaws) (cell : CellLookup) (header : HeaderFile) (file : List ℕ) (plan : Plan) (scripts : List Script) (p : Progress Saved) (s : Parts)
     (headed : IsHeaderOf header.text header.table) (is : IsStateAt header file plan scripts p s) where
-  abbrev going : Going
+  abbrev pub going : Going
   going = record { table = header.table; scripts = scripts; world = resting p.world }
 
-  goes_from : GoesFrom s going
+  pub goes_from : GoesFrom s going
   goes_from = record {
     header = subst (λ (text : Option (List ℕ)). IsHeaderOf text header.table) (sym is.play.header) headed;
     scripts = is.play.scripts;
@@ -138,7 +138,7 @@ told_end text w c c' t t' r uncut (inl x) = absurd (uncut x.0)
 told_end text w c c' t t' r uncut (inr does) = does
 
 module _ (laws : OneLaws) (cell : CellLookup) (header : HeaderFile) (area : AreaFile) (plan : Plan) (scripts : List Script) (n : ℕ) (name to : List ℕ)
-    (headed : IsHeaderOf header.text header.table) (c c1 c2 c3 : Contents) (t t0 t1 t2 t3 t4 : List ℕ) (begun : IsPrefix t0 t) (done : Finished) (r2 r3 : Result Finished Status)
+    (headed : IsHeaderOf header.text header.table) (c c1 d c2 c3 : Contents) (same : content d name ≡ content c1 name) (t t0 t1 t2 t3 t4 : List ℕ) (begun : IsPrefix t0 t) (done : Finished) (r2 r3 : Result Finished Status)
     (uncut : IsCut r2 → ⊥) (uncut_too : IsCut r3 → ⊥) where
   abbrev host : Host (World Saved)
   host = host_of cell header.table scripts
@@ -156,7 +156,7 @@ module _ (laws : OneLaws) (cell : CellLookup) (header : HeaderFile) (area : Area
   last = code_play_on host plan.limit plan.entries plan.until (plan.entries + 1) first.last.entries first.last.count (resting first.last.world)
 
   -- what was told and left at the end of both
-  ends_told : first.ending ≢ plays.StoppedInside → Does (tells_end to scripts last) c1 (t2 ++ trace_text last.last.trace) r2 c2 t3
+  ends_told : first.ending ≢ plays.StoppedInside → Does (tells_end to scripts last) d (t2 ++ trace_text last.last.trace) r2 c2 t3
       → Does (tells_end to scripts unbroken) c (t ++ trace_text unbroken.last.trace) r3 c3 t4
       → EndAlike to c2 c3 (t2 ++ trace_text last.last.trace) t3 (t ++ (trace_text first.last.trace ++ trace_text last.last.trace)) t4 r2 r3
   ends_told inside rested played_whole =
@@ -164,7 +164,7 @@ module _ (laws : OneLaws) (cell : CellLookup) (header : HeaderFile) (area : Area
       let text = trace_parts _ _ scripts to first.last.trace unbroken last is in
       let ends : last.ending ≢ plays.Paused =
       λ e. never_paused host plan.limit plan.entries plan.until n w (plan_quiet area.area plan) (same_ending _ _ scripts to first.last.trace unbroken last is ∙ e) in
-      ends_alike to (code_end_text scripts last) c1 c c2 c3 (t2 ++ trace_text last.last.trace) t3 (t ++ (trace_text first.last.trace ++ trace_text last.last.trace)) t4 r2 r3 uncut uncut_too
+      ends_alike to (code_end_text scripts last) d c c2 c3 (t2 ++ trace_text last.last.trace) t3 (t ++ (trace_text first.last.trace ++ trace_text last.last.trace)) t4 r2 r3 uncut uncut_too
       last.ending last.last.world.area ends rested
       (subst (λ (x : List ℕ). Does (tells_end to scripts last) c (t ++ x) r3 c3 t4) text
       (end_does _ _ scripts to first.last.trace unbroken last is r3 c c3 (t ++ trace_text unbroken.last.trace) t4 played_whole))
@@ -176,12 +176,12 @@ module _ (laws : OneLaws) (cell : CellLookup) (header : HeaderFile) (area : Area
   rest_parts x a b put p q = q ∙ ap (λ (l : List ℕ). (l ++ (a ++ b)) ++ put) p ∙ simp append_assoc
 
   told_both : WasSaved header area.bytes plan scripts name first.last c c1 (t ++ trace_text first.last.trace) t1 → first.ending ≢ plays.StoppedInside
-      → Does (resumes cell name to) c1 t2 r2 c2 t3 → Does (tells to scripts unbroken) c t r3 c3 t4 → GoOn name to c2 c3 t0 t1 t2 t3 t4 r2 r3
+      → Does (resumes cell name to) d t2 r2 c2 t3 → Does (tells to scripts unbroken) c t r3 c3 t4 → GoOn name to c2 c3 t0 t1 t2 t3 t4 r2 r3
   told_both saved inside on_from unbroken_does =
       let s = saved.state in
-      let held = held_here c c1 name (parts_bytes s) saved.contents in
-      let rest : Does (tells to scripts last) c1 t2 r2 c2 t3 = resumed laws cell header area.bytes plan scripts first.last s headed saved.is name to c1 c2 t2 t3 r2 held saved.small uncut on_from in
-      let ends = ends_told inside (told_end (trace_text last.last.trace) (tells_end to scripts last) c1 c2 t2 t3 r2 uncut rest)
+      let held = same ∙ held_here c c1 name (parts_bytes s) saved.contents in
+      let rest : Does (tells to scripts last) d t2 r2 c2 t3 = resumed laws cell header area.bytes plan scripts first.last s headed saved.is name to d c2 t2 t3 r2 held saved.small uncut on_from in
+      let ends = ends_told inside (told_end (trace_text last.last.trace) (tells_end to scripts last) d c2 t2 t3 r2 uncut rest)
       (told_end (trace_text unbroken.last.trace) (tells_end to scripts unbroken) c c3 t t4 r3 uncut_too unbroken_does) in
       record {
         front = begun.0 ++ trace_text first.last.trace;
@@ -194,7 +194,7 @@ module _ (laws : OneLaws) (cell : CellLookup) (header : HeaderFile) (area : Area
         area = ends.area;
       }
 
-  pub go_on : Does (saves_plan cell header plan scripts n name area) c t (Ok done) c1 t1 → Does (resumes cell name to) c1 t2 r2 c2 t3
+  pub go_on : Does (saves_plan cell header plan scripts n name area) c t (Ok done) c1 t1 → Does (resumes cell name to) d t2 r2 c2 t3
       → Does (plays_plan cell header.table area.area plan scripts to) c t r3 c3 t4 → GoOn name to c2 c3 t0 t1 t2 t3 t4 r2 r3
   unfolding saves_plan plays_plan
   go_on saves_does resumes_does plays_does =
@@ -208,8 +208,8 @@ prefix_on : (t u v : List ℕ) → IsPrefix t u → IsPrefix u v → IsPrefix t 
 prefix_on t u v a b = (a.0 ++ b.0, b.1 ∙ ap (λ (x : List ℕ). x ++ b.0) a.1 ∙ append_assoc t a.0 b.0)
 
 module _ (laws : OneLaws) (tables : SureTables) (listed : SureListed) (areas : SureAreas) (plans : SurePlans) (cell : CellLookup) (n : ℕ) (name to : List ℕ)
-    (c1 c2 c3 : Contents) (t0 t1 t2 t3 t4 : List ℕ) (done : Finished) (r2 r3 : Result Finished Status) (uncut : IsCut r2 → ⊥) (uncut_too : IsCut r3 → ⊥)
-    (resumes_does : Does (resumes cell name to) c1 t2 r2 c2 t3) where
+    (c1 d c2 c3 : Contents) (same : content d name ≡ content c1 name) (t0 t1 t2 t3 t4 : List ℕ) (done : Finished) (r2 r3 : Result Finished Status) (uncut : IsCut r2 → ⊥) (uncut_too : IsCut r3 → ⊥)
+    (resumes_does : Does (resumes cell name to) d t2 r2 c2 t3) where
   abbrev Told : Type 0
   Told = GoOn name to c2 c3 t0 t1 t2 t3 t4 r2 r3
 
@@ -219,7 +219,7 @@ module _ (laws : OneLaws) (tables : SureTables) (listed : SureListed) (areas : S
   by_area header area plan scripts c t headed begun saves_does plays_does =
       let one = went_on (area_named area) (saves_plan cell header plan scripts n name) done c c1 t t1 saves_does in
       let found = area_found area one.value c one.between t one.taken one.first in
-      go_on laws cell header one.value plan scripts n name to headed one.between c1 c2 c3 one.taken t0 t1 t2 t3 t4
+      go_on laws cell header one.value plan scripts n name to headed one.between c1 d c2 c3 same one.taken t0 t1 t2 t3 t4
       (prefix_on t0 t one.taken begun (grows (area_named area) (Ok one.value) c one.between t one.taken one.first)) done r2 r3 uncut uncut_too one.second resumes_does
       (then_known (inputs.area_named area) (λ a. plays_plan cell header.table a plan scripts to) (areas area) one.value.area c one.between c3 t one.taken t4 r3 uncut_too found plays_does)
 
@@ -252,5 +252,5 @@ module _ (laws : OneLaws) (tables : SureTables) (listed : SureListed) (areas : S
       (then_known (plan_named plan) (plays_under cell header area to) (plans plan) one.value c one.between c3 t0 one.taken t4 r3 uncut_too one.first plays_does)
 
 pub saved_plays : OneLaws → SureTables → SureListed → SureAreas → SurePlans → SavedPlaysGoOn
-saved_plays laws tables listed areas plans cell header area plan name to n c c1 c2 c3 t t1 t2 t3 t4 done r2 r3 saves_does resumes_does uncut plays_does uncut_too =
-    by_plan laws tables listed areas plans cell n name to c1 c2 c3 t t1 t2 t3 t4 done r2 r3 uncut uncut_too resumes_does header area plan c saves_does plays_does
+saved_plays laws tables listed areas plans cell header area plan name to n c c1 d c2 c3 t t1 t2 t3 t4 done r2 r3 saves_does same resumes_does uncut plays_does uncut_too =
+    by_plan laws tables listed areas plans cell n name to c1 d c2 c3 same t t1 t2 t3 t4 done r2 r3 uncut uncut_too resumes_does header area plan c saves_does plays_does

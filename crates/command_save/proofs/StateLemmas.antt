@@ -18,21 +18,26 @@ use Rattle.module_player.specs.EndTexts.{IsEnding}
 use Rattle.module_player.specs.declared.played.How.{How}
 use Rattle.module_player.specs.declared.played.How.TheVariants.{Done, InstrStop, EntryStop, Pause, Fault, NoMemory}
 use Rattle.module_player.specs.declared.played.Played.{Played as Answer}
+use Rattle.state_format.specs.declared.fault.SaveFault.{SaveFault}
+use Rattle.state_format.specs.declared.fault.SaveFault.TheVariants as unsaved
 use Rattle.state_format.specs.declared.parts.Script.{Script as ScriptPart}
 use Rattle.state_format.specs.declared.parts.Parts.{Parts}
 use Rattle.state_format.specs.Parts.{HasForm}
-use Rattle.state_parts.specs.Scripts.{script_parts}
+use Rattle.play_save.specs.Scripts.{script_parts}
 use Rattle.play_save.specs.Rules.{IsAccepted}
-use Rattle.play_save.specs.States.{resting, MayLimit, IsPlayOf, HasCome, IsWorldOf}
+use Rattle.play_save.specs.States.{resting, MayLimit, IsPlayOf, HasCome, IsWorldOf, IsStateFor, IsWrittenState, IsLargeState}
 use Rattle.command_work.specs.declared.status.Status.{Status}
 use Rattle.command_work.specs.declared.status.Status.TheVariants as status
 use Rattle.command_work.specs.Work.{Does, Puts, Ends, Finished}
 use Rattle.command_work.specs.Counts.{Refusing}
-use Rattle.command_work.specs.Parts.{cut_here, finds_one}
+use Rattle.command_work.specs.declared.flaw.AreaFlaw.TheVariants as flaw
+use Rattle.command_work.specs.Refusal.{BadArea}
+use Rattle.command_work.specs.Parts.{Refuses, cut_here, finds_one}
 use Rattle.command_plays.specs.Tellings.{cut_of}
 use Rattle.command_save.specs.declared.inputs.HeaderFile.{HeaderFile}
-use Rattle.command_save.specs.Saves.{file_of, AreSpelled, IsStateAt, state_written, saves_at, saves_by}
+use Rattle.command_save.specs.Saves.{file_of, AreSpelled, IsStateAt, state_told, state_written, saves_at, saves_by}
 use Rattle.command_save.specs.Tellings.{IsProgress, WhereBroken}
+use Rattle.command_save.proofs.WriteLemmas.{state_put, state_large, cut_refuses}
 
 -- ---- scripts
 
@@ -69,6 +74,20 @@ state_at header text file area plan scripts w answer s same_text same_area play 
   world = subst (λ (v : World Saved). IsWorldOf s (resting v)) is.world world;
 }
 
+-- the state of a play is the one in which it stands
+pub state_for : (header : HeaderFile) (text : Option (List ℕ)) (file area : List ℕ) (plan : Plan) (scripts : List Loaded) (w : World Saved) (answer : Answer) → text ≡ header.text → area ≡ file
+    → (p : Progress Saved) → IsProgress answer w p → (s : Parts) → IsStateFor text scripts area (limits_of plan) answer.entries answer.instructions w s
+    → IsStateAt header file plan (scripts_of scripts) p s
+state_for header text file area plan scripts w answer same_text same_area p is s state =
+    state_at header text file area plan scripts w answer s same_text same_area state.play state.come state.world state.code state.form state.accepted p is
+
+pub written_for : {P Q : Parts → Type 0} (f : (s : Parts) → P s → Q s) (v : List ℕ) → IsWrittenState P v → IsWrittenState Q v
+written_for f v found = (found.0, f found.0 found.1, found.2)
+
+pub large_for : {P Q : Parts → Type 0} (f : (s : Parts) → P s → Q s) (e : SaveFault) → IsLargeState P e → IsLargeState Q e
+large_for f (unsaved.Large size) found = (found.0, f found.0 found.1, found.2)
+large_for f unsaved.NoMemory found = tt
+
 -- ---- the work
 
 module _ (header : HeaderFile) (file : List ℕ) (plan : Plan) (scripts : List Script) (name : List ℕ) (p : Progress Saved) where
@@ -77,6 +96,18 @@ module _ (header : HeaderFile) (file : List ℕ) (plan : Plan) (scripts : List S
   unfolding saves_at
   at_does s r c c' t t' is does = finds_one (λ (d : Contents) (x : Parts). IsStateAt header file plan scripts p x) (state_written name) s c c' t t' r is does
 
+  -- its bytes are written
+  pub at_written : (bytes : List ℕ) (answer : Answer) (w : World Saved) (r : Result Finished Status) (c c' : Contents) (t t' : List ℕ) → IsProgress answer w p
+      → IsWrittenState (IsStateAt header file plan scripts p) bytes → Does (state_told name bytes answer.entries) c t r c' t' → Does (saves_at header file plan scripts name p) c t r c' t'
+  at_written bytes answer w r c c' t t' is found does =
+      at_does found.0 r c c' t t' found.1 (state_put name found.0 bytes answer.entries r c c' t t' found.2.0 found.2.1 (found.1.come.taken ∙ sym is.entries) does)
+
+  -- or they are too many
+  pub at_large : (size : ℕ) (answer : Status) (c : Contents) (t t' : List ℕ) → IsLargeState (IsStateAt header file plan scripts p) (unsaved.Large size)
+      → Refuses (BadArea name (flaw.Large size)) t answer t' → Does (saves_at header file plan scripts name p) c t (Err answer) c t'
+  at_large size answer c t t' found refused =
+      at_does found.0 (Err answer) c c t t' found.1 (state_large name found.0 size answer c t t' found.2 refused)
+
   pub at_cut : (c : Contents) (t : List ℕ) → Does (saves_at header file plan scripts name p) c t (Err status.Memory) c t
   unfolding saves_at
   at_cut c t = cut_here (saves_at header file plan scripts name p) status.Memory c c t t tt tt refl refl
@@ -84,7 +115,7 @@ module _ (header : HeaderFile) (file : List ℕ) (plan : Plan) (scripts : List S
 pub memory_refuses : Refusing status.Area status.Memory
 memory_refuses = inr tt
 
-pub ruleset saves = (at_does, at_cut, memory_refuses)
+pub ruleset saves = (at_written, at_large, at_cut, memory_refuses, cut_refuses)
 
 -- ---- by how the play ended
 

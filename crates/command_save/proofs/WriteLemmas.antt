@@ -1,6 +1,5 @@
 -- What comes of a state's bytes does the work of writing it.
-use Rattle.std.proofs.Common.{◌≡◌, ◌<◌, ◌≤◌, ℕ, Bool, true, false, inr, List, length, Result, Err, refl, sym, subst, lt-ltb, le-ltb}
-use Rattle.std.specs.Prelude.{nat_lt}
+use Rattle.std.proofs.Common.{◌≡◌, ◌<◌, ◌≤◌, ℕ, Bool, inr, List, length, Result, Err, sym, subst, lt-ltb, le-ltb}
 use Rattle.nwq_value.specs.Limits.{file_limit}
 use Rattle.nwq_outside.specs.Outside.{Contents}
 use Rattle.state_format.specs.declared.parts.Parts.{Parts}
@@ -8,11 +7,11 @@ use Rattle.state_format.specs.Fields.{parts_bytes}
 use Rattle.state_format.specs.Place.{StateOf}
 use Rattle.command_work.specs.declared.flaw.AreaFlaw.TheVariants as flaw
 use Rattle.command_work.specs.declared.status.Status.{Status}
-use Rattle.command_work.specs.declared.status.Status.TheVariants.{Area, Memory}
+use Rattle.command_work.specs.declared.status.Status.TheVariants.{Area}
 use Rattle.command_work.specs.Refusal.{BadArea}
-use Rattle.command_work.specs.Work.{Does, CutsShort, MayBeCut, Finished, writes as write_work}
+use Rattle.command_work.specs.Work.{Does, CutsShort, Finished}
 use Rattle.command_work.specs.Counts.{Refusing}
-use Rattle.command_work.specs.Parts.{Refuses, cut_here, refused}
+use Rattle.command_work.specs.Parts.{Refuses, refused}
 use Rattle.command_save.specs.Saves.{state_by, state_told, state_written}
 
 module _ (name : List ℕ) (s : Parts) where
@@ -31,18 +30,5 @@ module _ (name : List ℕ) (s : Parts) where
       subst (λ (long : Bool). Does (state_by long name (parts_bytes s) s.taken) c t (Err answer) c t') (sym (lt-ltb file_limit (length (parts_bytes s)) is.0))
       (refused (BadArea name (flaw.Large (length (parts_bytes s)))) answer c t t' (subst (λ (n : ℕ). Refuses (BadArea name (flaw.Large n)) t answer t') is.1 h))
 
-  may_state : (long : Bool) (bytes : List ℕ) (entries : ℕ) → MayBeCut (state_by long name bytes entries)
-  unfolding state_told write_work
-  may_state true bytes entries = tt
-  may_state false bytes entries = tt
-
-  -- its bytes are still to be made
-  pub state_cut : (c : Contents) (t : List ℕ) → Does (state_written name s) c t (Err Memory) c t
-  unfolding state_written
-  state_cut c t =
-      cut_here (state_written name s) Memory c c t t (may_state (nat_lt file_limit (length (parts_bytes s))) (parts_bytes s) s.taken) tt refl refl
-
 pub cut_refuses : (status : Status) → CutsShort status → Refusing Area status
 cut_refuses status cut = inr cut
-
-pub ruleset writes = (state_put, state_large, state_cut, cut_refuses)

@@ -1,5 +1,5 @@
 -- Statements about saved plays. Each stands on the contract of a function of `laws`.
-use Rattle.std.specs.Prelude.{◌≡◌, ℕ, List, ◌++◌, Result, Ok, ◌+◌, ◌-◌, min}
+use Rattle.std.specs.Prelude.{◌≡◌, ◌≢◌, ◌↔◌, ℕ, List, [], ◌++◌, Result, Ok, ◌+◌, ◌-◌, min}
 use Rattle.std.specs.Result.{IsOk}
 use Rattle.nwq_outside.specs.Outside.{Contents, content}
 use Rattle.world_rules.specs.Pure.{CellLookup}
@@ -7,8 +7,9 @@ use Rattle.command_work.specs.declared.status.Status.{Status}
 use Rattle.command_work.specs.Work.{Finished, IsCut, Does}
 use Rattle.command_work.specs.Outcomes.{IsSure}
 use Rattle.command_play.specs.Games.{plays}
-use Rattle.command_save.specs.Saves.{saved_line, saves}
-use Rattle.command_save.specs.Resumes.{resumes, Going, GoesFrom, state_named}
+use Rattle.command_save.specs.declared.inputs.HeaderFile.{HeaderFile}
+use Rattle.command_save.specs.Saves.{IsStateAt, saved_line, saves}
+use Rattle.command_save.specs.Resumes.{resumes, Going, GoesFrom, played_further, state_named}
 use Rattle.nwq_value.specs.Engine.{EngineTable}
 use Rattle.plan_text.specs.declared.plan.Plan.{Plan}
 use Rattle.saved_state.specs.declared.saved.Saved.{Saved}
@@ -16,12 +17,13 @@ use Rattle.machine_rules.specs.Machine.{Script}
 use Rattle.stack_rules.specs.Fits.{Tables}
 use Rattle.stack_rules.specs.Laws.{AllMeet}
 use Rattle.world_rules.specs.World.{World}
-use Rattle.world_rules.specs.Plays.{Runner, Played}
+use Rattle.world_rules.specs.Plays.{Runner, Progress, Played, StoppedInside}
 use Rattle.world_rules.specs.GoingOn.{continued}
 use Rattle.ncs_machine.specs.Stored.{StatesFit}
 use Rattle.module_player.specs.CodePlays.{code_runner}
+use Rattle.state_format.specs.Fields.{parts_bytes}
 use Rattle.state_format.specs.declared.parts.Parts.{Parts}
-use Rattle.play_save.specs.Rules.{IsAccepted}
+use Rattle.play_save.specs.Rules.{IsAccepted, IsHeaderOf}
 use Rattle.command_plays.specs.Plays.{host_of, plan_played, played_first}
 use Rattle.command_save.specs.Inputs.{header_of, area_named}
 
@@ -47,15 +49,32 @@ pub record GoOn (name to : List ℕ) (c2 c3 : Contents) (t t1 t2 t3 t4 : List �
   pub answer : r2 ≡ r3
   pub area : IsOk r3 → content c2 to ≡ content c3 to
 
--- A play was saved after some entries, and resumed from the files as they stood then. Neither it
--- nor the unbroken play from the same files was cut.
+-- A play was saved after some entries, and resumed where the file of the state holds the same bytes,
+-- whatever other files hold by then. Neither it nor the unbroken play was cut, which had the files
+-- of the one that was saved.
 abbrev pub SavedPlaysGoOn : Type 0
-SavedPlaysGoOn = (cell : CellLookup) (header area plan name to : List ℕ) (n : ℕ) (c c1 c2 c3 : Contents) (t t1 t2 t3 t4 : List ℕ)
+SavedPlaysGoOn = (cell : CellLookup) (header area plan name to : List ℕ) (n : ℕ) (c c1 d c2 c3 : Contents) (t t1 t2 t3 t4 : List ℕ)
     (done : Finished) (r2 r3 : Result Finished Status)
     → Does (saves cell header area plan n name) c t (Ok done) c1 t1
-    → Does (resumes cell name to) c1 t2 r2 c2 t3 → (IsCut r2 → ⊥)
+    → content d name ≡ content c1 name → Does (resumes cell name to) d t2 r2 c2 t3 → (IsCut r2 → ⊥)
     → Does (plays cell header area plan to) c t r3 c3 t4 → (IsCut r3 → ⊥)
     → GoOn name to c2 c3 t t1 t2 t3 t4 r2 r3
+
+-- ---- saves compose
+
+-- A state is one of the first play where it stands exactly if it is one of the second; and a state
+-- of the one has the bytes of that of the other.
+pub record SameStates (header : HeaderFile) (file : List ℕ) (plan : Plan) (scripts : List Script) (p q : Progress Saved) : Type 0 where
+  pub alike : (t : Parts) → IsStateAt header file plan scripts p t ↔ IsStateAt header file plan scripts q t
+  pub bytes : (t u : Parts) → IsStateAt header file plan scripts p t → IsStateAt header file plan scripts q u → parts_bytes t ≡ parts_bytes u
+
+-- The state after n and m entries is the state after m more entries of the play that the state after
+-- n tells, byte for byte.
+abbrev pub SavesCompose : Type 0
+SavesCompose = (cell : CellLookup) (header : HeaderFile) (file : List ℕ) (plan : Plan) (scripts : List Script) (n m : ℕ) (w : World Saved)
+    → IsHeaderOf header.text header.table → w.trace ≡ [] → (played_first cell header.table plan scripts n w).ending ≢ StoppedInside
+    → (s : Parts) → IsStateAt header file plan scripts (played_first cell header.table plan scripts n w).last s → (g : Going) → GoesFrom s g
+    → SameStates header file plan scripts (played_first cell header.table plan scripts (n + m) w).last (played_further cell s g (n + m)).last
 
 -- ---- the parts of the work by themselves
 

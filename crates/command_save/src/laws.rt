@@ -2,7 +2,7 @@
 
 ghost use Rattle.command_save.specs.Laws.{FrontsGoOn, OneGoing, SavedPlaysGoOn, StatesGoSafely};
 ghost use Rattle.command_save.specs.Laws.{SureAreaFiles, SureHeaderFiles, SureResumes, SureSaves};
-ghost use Rattle.command_save.specs.Laws.{SureStates};
+ghost use Rattle.command_save.specs.Laws.{SavesCompose, SureStates};
 
 use command_sources::laws::one_source;
 use engine_table::laws::one_header;
@@ -62,6 +62,17 @@ pub fn fronts_go_on()
     ensures fronts { FrontsGoOn }
 {
     plays_go_on::<Saved>();
+}
+
+/// The state after some entries and then some more is that of the play that goes on from the state
+/// after the first ones.
+pub fn saves_compose()
+    ensures compose { SavesCompose }
+{
+    one_header();
+    spelling_laws();
+    one_tree();
+    one_state();
 }
 
 /// A state that keeps all rules goes on from well stacked scripts and a world in which each

@@ -1,5 +1,6 @@
 //! What is saved of a play, and how a play ends that is saved.
-ghost use Rattle.std.specs.Prelude.{◌≡◌, ◌<◌, ◌≤◌, ◌^◌, ℕ, None, map, length, IsTrue, IfOk, IfErr};
+ghost use Rattle.std.specs.Prelude.{◌≡◌, ◌<◌, ◌≤◌, ◌^◌, ℕ, None, map, length, IsTrue, IfErr};
+ghost use Rattle.std.specs.Prelude.{MatchResult};
 ghost use Rattle.std.specs.Option.{option_map};
 ghost use Rattle.plan_text.specs.Plans.{IsPlan, limits_of};
 ghost use Rattle.saved_state.specs.declared.saved.Saved.{Saved as SavedView};
@@ -7,7 +8,7 @@ ghost use Rattle.world_rules.specs.Plays.{Progress, Played as PlayedView};
 ghost use Rattle.ncs_machine.specs.Host.{scripts_of};
 ghost use Rattle.module_player.specs.CodePlays.{code_end_text};
 ghost use Rattle.module_player.specs.EndTexts.{HasText, IsEnding};
-ghost use Rattle.play_save.specs.States.{MayCount, MayList, MayRest};
+ghost use Rattle.play_save.specs.States.{IsLargeState, IsWrittenState, MayCount, MayList, MayRest};
 ghost use Rattle.nwq_outside.specs.Outside.{Contents};
 ghost use Rattle.command_work.specs.Work.{Does, Ends, Puts};
 ghost use Rattle.command_work.specs.Counts.{Refusing, KeepsBut};
@@ -18,15 +19,15 @@ ghost use Rattle.command_save.specs.Saves.{IsStateAt, saves_at, saves_by};
 ghost use Rattle.command_save.specs.Tellings.{IsProgress, WhereBroken, MaySave};
 
 use crate::inputs::HeaderFile;
-use crate::written::write_state;
+use crate::written::write_bytes;
 use command_play::tell_limit;
-use command_work::Status;
+use command_work::{AreaFlaw, Status, refuse_area};
 use module_player::{How, Played, end_text};
 use ncs_machine::Scripts;
 use nwq_outside::{Files, Sink};
-use nwq_value::{Items, NoMemory};
+use nwq_value::Items;
 use plan_text::Plan;
-use play_save::State;
+use play_save::{SaveFault, put_play};
 use saved_state::Saved;
 use std::alloc::Global;
 use world_core::World;
@@ -57,30 +58,32 @@ fn text_of(header: HeaderFile) -> Option<Vec<u8>>
     }
 }
 
-/// The state of a play that isn't inside an entry.
+/// The bytes of the state of a play that isn't inside an entry.
 #[tactic(auto, using(crate::proofs::StateLemmas::states))]
-fn take_state(
+fn play_bytes(
     alloc: Global,
     header: HeaderFile,
     file: Items<u8>,
     listed: &ListedPlan<'_>,
     broken: BrokenPlay,
-) -> Result<State, NoMemory>
+) -> Result<Vec<u8>, SaveFault>
     requires plan { IsPlan listed.now.plan.now }
     requires listed { MayList header.text listed.now.scripts.now }
     requires rests { MayRest listed.now.scripts.now file broken.world.world }
     requires come { MayCount (limits_of listed.now.plan.now) broken.world.world
         broken.played.entries broken.played.instructions }
-    ensures state { (p : Progress SavedView) → IsProgress broken.played broken.world.world p → IfOk
-        result (λ s. IsStateAt header file listed.now.plan.now (scripts_of listed.now.scripts.now) p
-        s) }
-    ensures taken { IfOk result (λ s. s.taken ≡ broken.played.entries) }
+    ensures saved { (p : Progress SavedView) → IsProgress broken.played broken.world.world p →
+        MatchResult result
+        (λ v. IsWrittenState (IsStateAt header file listed.now.plan.now
+        (scripts_of listed.now.scripts.now) p) v.items)
+        (IsLargeState (IsStateAt header file listed.now.plan.now
+        (scripts_of listed.now.scripts.now) p)) }
 {
     let BrokenPlay { world, played } = broken;
     let plan = listed.plan;
     let limits = (plan.limit, plan.entries, plan.until);
     let header = text_of(header);
-    let state = State::of(
+    put_play(
         alloc,
         header,
         listed.scripts,
@@ -89,9 +92,7 @@ fn take_state(
         limits,
         played.entries,
         played.instructions,
-    )?;
-    state.keeps();
-    Ok(state)
+    )
 }
 
 /// Saves a play that isn't inside an entry in the file of this name.
@@ -120,9 +121,12 @@ fn save_state<F: Files, S: Sink>(
     ensures only { IfErr result (Refusing Status.Area) }
 {
     let entries = broken.played.entries;
-    match take_state(alloc, header, file, listed, broken) {
-        Err(NoMemory) => Err(Status::Memory),
-        Ok(state) => write_state(alloc, name, &state, entries, files, out),
+    match play_bytes(alloc, header, file, listed, broken) {
+        Ok(bytes) => write_bytes(alloc, name, bytes.as_slice(), entries, files, out),
+        Err(SaveFault::Large(size)) => {
+            Err(refuse_area(alloc, name.as_bytes(), AreaFlaw::Large(size), out))
+        }
+        Err(SaveFault::NoMemory) => Err(Status::Memory),
     }
 }
 

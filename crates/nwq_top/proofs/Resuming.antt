@@ -124,8 +124,8 @@ module _ (states : SureStates) (sure : SureResumes) (one : OneGoing) (safe : Sta
         let k = safe s g has.accepted from in
         go_on cell g.table g.scripts k.tables s.limit (rest_entries s) (played_before s.taken s.done g.world)
         (state_table reads own has.bytes s s.header g.table has.is refl from.header) k.meet k.fit;
-    unbroken = λ header area plan n first all k told full done s saved played uncut.
-        unbroken cell header area plan name to n first c c' all k told t t' full done r s saved does whole played uncut;
+    unbroken = λ header area plan n first left all k told full done s saved same played uncut.
+        unbroken cell header area plan name to n first left c c' all k told t t' full done r s saved same does whole played uncut;
   }
 
 pub resumes_mean : SureStates → SureResumes → OneGoing → StatesGoSafely → CheckedPlaysGoOn → SavedPlaysGoOn → HeadersHaveTables → BuiltInIsTable → ResumesMean

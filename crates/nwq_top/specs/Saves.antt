@@ -2,7 +2,7 @@
 use Rattle.std.specs.Prelude.{◌≡◌, ◌≢◌, ◌≤◌, ℕ, ◌*◌, ◌⊎◌, min, true, false, List, [], ◌++◌, codes, bytes_eq, length, map, Result, Ok}
 use Rattle.nwq_value.specs.Engine.{EngineTable}
 use Rattle.nwq_value.specs.Limits.{file_limit}
-use Rattle.nwq_outside.specs.Outside.{Contents, with_content}
+use Rattle.nwq_outside.specs.Outside.{Contents, content, with_content}
 use Rattle.command_work.specs.Reading.{IsRead, IsUnread}
 use Rattle.engine_table.specs.Headers.{HasTable}
 use Rattle.gff_tree.specs.Whole.{PlainGff}
@@ -181,8 +181,9 @@ pub record MeansResume (cell : CellLookup) (name to : List ℕ) (c : Contents) (
   -- whoever made the state, the play comes to no stack fault
   pub no_fault : (s : Parts) (g : Going) → ReadsState c name s → GoesFrom s g
       → GoesWithoutFault (host_of cell g.table g.scripts) s.limit (rest_entries s) (played_before s.taken s.done g.world)
-  -- where the state was saved of a play, what is told and left is the rest of that play, as it goes
-  -- unbroken
-  pub unbroken : (header area plan : List ℕ) (n : ℕ) (first all : Contents) (k told whole : List ℕ) (done : Finished) (s : Result Finished Status)
-      → Does (saves cell header area plan n name) first k (Ok done) c told → Does (plays cell header area plan to) first k s all whole → (IsCut s → ⊥)
+  -- where the file of the state holds the bytes that were saved of a play, by the same tables, what
+  -- is told and left is the rest of that play, as it goes unbroken; what other files hold by then
+  -- doesn't matter
+  pub unbroken : (header area plan : List ℕ) (n : ℕ) (first saved all : Contents) (k told whole : List ℕ) (done : Finished) (s : Result Finished Status)
+      → Does (saves cell header area plan n name) first k (Ok done) saved told → content c name ≡ content saved name → Does (plays cell header area plan to) first k s all whole → (IsCut s → ⊥)
       → GoOn name to c' all k told t t' whole r s

@@ -34,7 +34,7 @@ use Rattle.state_format.specs.declared.parts.Script.{Script}
 use Rattle.state_format.specs.declared.parts.Parts.{Parts}
 use Rattle.plan_text.specs.Plans.{Limits}
 use Rattle.state_parts.specs.World.{saved_of, item_of, things_of, variables_of, kind_of, entry_of, entries_of}
-use Rattle.state_parts.specs.Scripts.{script_part, script_parts}
+use Rattle.play_save.specs.Scripts.{script_part, script_parts}
 use Rattle.play_save.specs.Rules.{IsHeaderOf, IsAreaOf, IsSound, HasHeader, HasScripts, HasArea, AreNamed, KeepsLimits, HasAgenda, HasStates, HasTurns, IsCapturedIn, ItemHolds, KindHolds, count_limit}
 use Rattle.play_save.specs.States.{MayLimit, MayList, MayRest, MayCount, IsPlayOf, HasCome}
 use Rattle.play_save.specs.Keeping.{Tells}

@@ -8,6 +8,8 @@ pub mod CapturedLemmas
 pub mod Turning
 pub mod Given
 pub mod Keeping
+pub mod Telling
+pub mod Outcomes
 pub mod Short
 pub mod Opening
 pub mod Accepting

@@ -37,6 +37,7 @@ use Rattle.state_format.specs.declared.parts.Entry.{Entry as EntryPart}
 use Rattle.state_format.specs.Parts.{IsBlob, IsCaptured, IsCell, IsEntry, IsItem, IsKind, IsObject, IsStanding, IsVariable}
 use Rattle.state_format.specs.Fields.{number, tag, effect_fields, cell_fields, captured_fields, variable_fields, standing_fields, item_fields, object_fields, kind_fields, entry_fields}
 use Rattle.play_room.specs.Room.{IsText, CellHasRoom, SavedHasRoom, VariableHasRoom, StoodHasRoom, ItemHasRoom, ThingsHaveRoom, ObjectHasRoom, KindHasRoom, EntryHasRoom}
+use Rattle.state_parts.specs.Told.{effect_part, cell_part, saved_part, variable_part, stood_part, item_part, object_part, object_parts, kind_part, entry_part}
 use Rattle.state_parts.specs.World.{cell_of, saved_of, variable_of, stood_of, item_of, kind_of, entry_of}
 use Rattle.state_parts.specs.ShortTexts.{is_short, is_short_cell, has_short_cells, is_short_item, has_short_items, is_short_kind, is_short_entry}
 use Rattle.state_parts.specs.Keeping.{IsPartOf, ArePartsOf, any_text}
@@ -70,17 +71,6 @@ short_text text few = grind (arith, nat_tests)
 text_blob : (text : List ℕ) → IsText text → IsBlob text
 text_blob text is = (omega (arith, is.0), is.1)
 
-abbrev effect_part : Effect → EffectPart
-effect_part e = record { routine = e.routine; ints = e.ints }
-
-abbrev pub cell_part : Cell → CellPart
-cell_part (Holds (value.Int n)) = cell.Int n
-cell_part (Holds (value.Text text)) = cell.Text text
-cell_part (Holds (value.Object o)) = cell.Object o
-cell_part (Holds (value.Effect e)) = cell.Effect (effect_part e)
-cell_part (Holds (value.Event n)) = cell.Event n
-cell_part (Base bp) = cell.Int (pos 0)
-
 cell_made : (c : Cell) → CellHasRoom c → IsPartOf cell_of (IfSmall cell_fields IsCell) is_short_cell c (cell_part c)
 cell_made (Holds (value.Int n)) room = record { same = refl; form = λ small. room; short = refl }
 cell_made (Holds (value.Text text)) room = record { same = refl; form = λ small. text_blob text room; short = short_text text room.0 }
@@ -92,9 +82,6 @@ cell_made (Holds (value.Effect e)) room = record {
 }
 cell_made (Holds (value.Event n)) room = record { same = refl; form = λ small. room; short = refl }
 cell_made (Base bp) room = absurd room
-
-abbrev pub saved_part : Saved → Captured
-saved_part s = record { script = s.script; place = s.place; globals = map cell_part s.globals; locals = map cell_part s.locals }
 
 saved_made : (s : Saved) → SavedHasRoom s → IsPartOf saved_of (IfSmall captured_fields IsCaptured) has_short_cells s (saved_part s)
 saved_made s room =
@@ -108,24 +95,12 @@ saved_made s room =
 
 -- ---- objects
 
-abbrev variable_part : Variable → VariablePart
-variable_part (IntVar name n) = variable.Int name n
-variable_part (TextVar name text) = variable.Text name text
-
 variable_made : (v : Variable) → VariableHasRoom v → IsPartOf variable_of (IfSmall variable_fields IsVariable) any_text v (variable_part v)
 variable_made (IntVar name n) room = record { same = refl; form = number_form name n room.0 room.1; short = refl }
 variable_made (TextVar name text) room = record { same = refl; form = text_form name text room.0 room.1; short = refl }
 
-abbrev stood_part : Stood → Standing
-stood_part s = record { number = s.number; effect = effect_part s.effect }
-
 stood_made : (s : Stood) → StoodHasRoom s → IsPartOf stood_of (IfSmall standing_fields IsStanding) any_text s (stood_part s)
 stood_made s room = record { same = refl; form = standing_form (stood_part s) room.0 room.1.0 room.1.1; short = refl }
-
-abbrev item_part : Item Saved → ItemPart
-item_part (Do s) = item.Do (saved_part s)
-item_part (Wait ms) = item.Wait ms
-item_part (Speak text) = item.Speak text
 
 item_made : (i : Item Saved) → ItemHasRoom i → IsPartOf item_of (IfSmall item_fields IsItem) is_short_item i (item_part i)
 item_made (Do s) room =
@@ -133,24 +108,6 @@ item_made (Do s) room =
     record { same = ap (λ (x : Saved). Do x) made.same; form = λ small. made.form (small_rest (tag 0) (captured_fields (saved_part s)) small); short = made.short }
 item_made (Wait ms) room = record { same = refl; form = λ small. room; short = refl }
 item_made (Speak text) room = record { same = refl; form = λ small. text_blob text room; short = short_text text room.0 }
-
-abbrev object_part : AreaObject → Things Saved → Object
-object_part o t = record {
-  busy = t.queue.busy;
-  variables = map variable_part o.vars;
-  effects = map stood_part t.effects;
-  items = map item_part t.queue.actions;
-}
-
-abbrev pub object_parts : List AreaObject → List (Things Saved) → List Object
-object_parts [] ts = []
-object_parts (o ∷ os) [] = []
-object_parts (o ∷ os) (t ∷ ts) = object_part o t ∷ object_parts os ts
-
-pub parts_count : (os : List AreaObject) (ts : List (Things Saved)) → length ts ≡ length os → length (object_parts os ts) ≡ length os
-parts_count [] ts same = refl
-parts_count (o ∷ os) [] same = absurd (omega (arith, same))
-parts_count (o ∷ os) (t ∷ ts) same = let rest = parts_count os ts (omega (arith, same)) in omega (arith, rest)
 
 -- parts tell objects, and can be written where they are small
 pub record AreMade (os : List AreaObject) (ts : List (Things Saved)) (parts : List Object) : Type 0 where
@@ -195,12 +152,6 @@ all_ready next objects (e ∷ es) number due placed room = (
   all_ready next objects es number.1 due.1 placed.1 room.1,
 )
 
-abbrev kind_part : Kind Saved → KindPart
-kind_part (Event o script user) = kind.Event o script user
-kind_part (Stored o s) = kind.Stored o (saved_part s)
-kind_part (Turn o) = kind.Turn o
-kind_part (Unapply o) = kind.Unapply o
-
 -- an entry can be written where it is small, and where each object has a number that fits
 abbrev IfFew : {B : Type 0} → ℕ → (B → Type 0) → B → Type 0
 IfFew objects Is p = objects < 4294967296 → Is p
@@ -221,9 +172,6 @@ kind_made objects (Stored o s) placed room =
     }
 kind_made objects (Turn o) placed room = record { same = refl; form = λ few small. omega (arith, placed.1, few); short = refl }
 kind_made objects (Unapply o) placed room = record { same = refl; form = λ few small. omega (arith, placed.1, few); short = refl }
-
-abbrev pub entry_part : Entry Saved → EntryPart
-entry_part e = record { due = e.due; number = e.number; kind = kind_part e.kind }
 
 entry_made : (next objects : ℕ) → next < count_limit → (e : Entry Saved) → IsReady next objects e
     → IsPartOf entry_of (IfFew objects (IfSmall entry_fields IsEntry)) is_short_entry e (entry_part e)

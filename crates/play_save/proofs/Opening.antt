@@ -30,7 +30,7 @@ use Rattle.state_parts.specs.World.{saved_of, item_of, things_of, entry_of, worl
 use Rattle.play_save.specs.Rules.{ItemHolds, KindHolds, Rule, rules, KeepsAll, IsFirstBroken, IsAccepted}
 use Rattle.play_save.specs.declared.fault.StateFault.{StateFault}
 use Rattle.play_save.specs.declared.fault.StateFault.TheVariants as fault
-use Rattle.state_parts.specs.Scripts.{script_parts}
+use Rattle.play_save.specs.Scripts.{script_parts}
 use Rattle.play_save.specs.Breaking.{AreScriptsOf, IsFitting, BreaksFirst}
 use Rattle.play_save.proofs.Lists.{take_whole}
 

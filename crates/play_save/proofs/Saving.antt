@@ -17,7 +17,7 @@ use Rattle.state_format.specs.declared.parts.Object.{Object}
 use Rattle.state_format.specs.declared.parts.Parts.{Parts}
 use Rattle.plan_text.specs.Plans.{Limits}
 use Rattle.state_parts.specs.World.{variables_of, with_variables, things_of, entries_of, area_from, world_of}
-use Rattle.state_parts.specs.Scripts.{script_parts}
+use Rattle.play_save.specs.Scripts.{script_parts}
 use Rattle.play_save.specs.Rules.{IsAreaOf, IsAccepted}
 use Rattle.play_save.specs.States.{resting, MayLimit, MayList, MayRest, MayCount, IsPlayOf, HasCome, IsWorldOf}
 use Rattle.play_save.specs.Keeping.{Tells}

@@ -49,7 +49,9 @@ use Rattle.play_save.proofs.Accepting.{all_back, length_map, map_map, same_count
 use Rattle.play_save.proofs.Saving.{world_saved, world_too}
 use Rattle.play_save.proofs.FileBytes.{name_blob, file_blob}
 use Rattle.play_save.proofs.Sizes.{objects_form, agenda_form}
-use Rattle.play_save.proofs.Making.{AreMade, AreEntries, object_parts, objects_made, parts_count, entry_part, entries_made, all_ready}
+use Rattle.state_parts.specs.Told.{object_parts, entry_part}
+use Rattle.play_save.proofs.Telling.{parts_count}
+use Rattle.play_save.proofs.Making.{AreMade, AreEntries, objects_made, entries_made, all_ready}
 
 -- ---- tables of shapes, by the numbers of scripts
 

@@ -1,16 +1,21 @@
--- How parts are made of a world. No public clause speaks of it.
-use Rattle.std.specs.Prelude.{◌≡◌, List, map, IsTrue}
+-- How parts tell a world. No public clause speaks of it.
+use Rattle.std.specs.Prelude.{◌≡◌, ℕ, List, map, Option, IsTrue}
 use Rattle.std.specs.List.{AllByRecursion, list_all}
+use Rattle.ncs_code.specs.File.{IsCode}
+use Rattle.plan_text.specs.Plans.{Limits}
+use Rattle.ncs_machine.specs.declared.scripts.Loaded.{Loaded}
 use Rattle.saved_state.specs.declared.saved.Saved.{Saved}
 use Rattle.area_rules.specs.Objects.{AreaObject}
 use Rattle.world_rules.specs.declared.data.Things.{Things}
 use Rattle.world_rules.specs.World.{World}
-use Rattle.state_format.specs.Parts.{IsObject}
+use Rattle.state_format.specs.Parts.{HasForm, IsObject}
 use Rattle.state_format.specs.declared.parts.Object.{Object}
 use Rattle.state_format.specs.declared.parts.Parts.{Parts}
 use Rattle.state_parts.specs.World.{things_of, variables_of, entries_of}
 use Rattle.state_parts.specs.ShortTexts.{has_short_items, is_short_entry}
 use Rattle.state_parts.specs.Keeping.{HasValues}
+use Rattle.play_save.specs.Scripts.{script_parts}
+use Rattle.play_save.specs.States.{IsPlayOf, HasCome}
 
 -- no captured state of an action in a world has base cells
 abbrev pub QueuesHaveValues : List (Things Saved) → Type 0
@@ -36,3 +41,11 @@ pub record Tells (s : Parts) (w : World Saved) : Type 0 where
   pub entries : entries_of s ≡ w.agenda.entries
   pub short : IsTrue (list_all is_short_entry s.agenda)
   pub objects : TellObjects w.area.objects w.things s.objects
+
+-- parts of a play that tell its world, and can be written
+pub record IsKept (header : Option (List ℕ)) (scripts : List Loaded) (file : List ℕ) (limits : Limits) (taken done : ℕ) (w : World Saved) (s : Parts) : Type 0 where
+  pub form : HasForm s
+  pub play : IsPlayOf s header (script_parts scripts) file limits
+  pub come : HasCome s taken done
+  pub tells : Tells s w
+  pub code : AllByRecursion (λ (l : Loaded). IsCode l.code.code) scripts

@@ -3,3 +3,5 @@ pub mod States
 pub mod Breaking
 pub mod Keeping
 pub mod Written
+pub mod Scripts
+pub mod Telling

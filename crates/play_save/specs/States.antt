@@ -3,7 +3,7 @@ use Rattle.std.specs.Prelude.{◌≡◌, ◌<◌, ◌≤◌, ◌⊎◌, ℕ, pos
 use Rattle.std.specs.List.{AllByRecursion, IsDistinct}
 use Rattle.std.specs.Str.{bytes_eq}
 use Rattle.nwq_value.specs.Engine.{EngineTable}
-use Rattle.nwq_value.specs.Limits.{instruction_limit, entry_limit, time_limit, script_limit, random_limit}
+use Rattle.nwq_value.specs.Limits.{file_limit, instruction_limit, entry_limit, time_limit, script_limit, random_limit}
 use Rattle.nwq_text.specs.Names.{is_script_name}
 use Rattle.plan_text.specs.Plans.{Limits}
 use Rattle.gff_tree.specs.Whole.{PlainGff}
@@ -19,11 +19,17 @@ use Rattle.ncs_machine.specs.Host.{scripts_of, tables_of}
 use Rattle.ncs_machine.specs.Stored.{StatesFit}
 use Rattle.state_format.specs.declared.parts.Script.{Script}
 use Rattle.state_format.specs.declared.parts.Parts.{Parts}
+use Rattle.ncs_code.specs.File.{IsCode}
+use Rattle.state_format.specs.Parts.{HasForm}
+use Rattle.state_format.specs.Fields.{parts_bytes}
+use Rattle.state_format.specs.declared.fault.SaveFault.{SaveFault}
+use Rattle.state_format.specs.declared.fault.SaveFault.TheVariants as unsaved
 use Rattle.state_format.specs.Place.{StateOf, StateStopsAt}
 use Rattle.play_save.specs.declared.fault.StateFault.{StateFault}
 use Rattle.play_save.specs.declared.fault.StateFault.TheVariants as fault
 use Rattle.state_parts.specs.World.{world_of}
-use Rattle.play_save.specs.Rules.{IsHeaderOf, IsAreaOf, IsUnfit, count_limit}
+use Rattle.play_save.specs.Scripts.{script_parts}
+use Rattle.play_save.specs.Rules.{IsHeaderOf, IsAreaOf, IsAccepted, IsUnfit, count_limit}
 
 -- ---- the world
 
@@ -88,6 +94,26 @@ pub record IsPlayOf (s : Parts) (text : Option (List ℕ)) (listed : List Script
 pub record HasCome (s : Parts) (entries instructions : ℕ) : Type 0 where
   pub taken : s.taken ≡ entries
   pub done : s.done ≡ instructions
+
+-- a state of a play of these scripts that rests in this world: it can be written, a play can go on
+-- from it, and it tells the very world, without the lines that it keeps
+pub record IsStateFor (header : Option (List ℕ)) (scripts : List Loaded) (file : List ℕ) (limits : Limits) (taken done : ℕ) (w : World Saved) (s : Parts) : Type 0 where
+  pub form : HasForm s
+  pub accepted : IsAccepted s
+  pub play : IsPlayOf s header (script_parts scripts) file limits
+  pub come : HasCome s taken done
+  pub world : IsWorldOf s (resting w)
+  -- the scripts' files, which it has, are those of their instructions
+  pub code : AllByRecursion (λ (l : Loaded). IsCode l.code.code) scripts
+
+-- the bytes are those of a state that is so, and no more than a file may have
+abbrev pub IsWrittenState : (Parts → Type 0) → List ℕ → Type 0
+IsWrittenState Is bytes = (s : Parts) × Is s × (StateOf bytes s × (length bytes ≤ file_limit))
+
+-- a state that is so has this many bytes, more than a file may have; or memory ran out
+abbrev pub IsLargeState : (Parts → Type 0) → SaveFault → Type 0
+IsLargeState Is (unsaved.Large size) = (s : Parts) × Is s × ((file_limit < length (parts_bytes s)) × (size ≡ length (parts_bytes s)))
+IsLargeState Is unsaved.NoMemory = Unit {0}
 
 -- ---- refusals
 

@@ -98,16 +98,19 @@ fn test_rest(alloc: Global, parts: &Parts, prepared: &Prepared) -> Result<(), St
     }
 }
 
-/// Whether a state keeps all rules, or the first that it breaks.
-pub(crate) fn test_parts(alloc: Global, parts: &Parts) -> Result<(), StateFault>
+/// What a state's bytes are of, where it keeps all rules; or the first that it breaks.
+pub(crate) fn test_parts(alloc: Global, parts: &Parts) -> Result<Prepared, StateFault>
     ensures kept { MatchResult result (λ _. IsAccepted parts.now) (BreaksFirst parts.now) }
+    ensures prepared { IfOk result (IsPreparedFor parts.now) }
 {
     match prepare(alloc, parts) {
         Err(fault) => Err(fault),
-        Ok(prepared) => {
-            let tested = test_rest(alloc, parts, &prepared);
-            drop(prepared);
-            tested
-        }
+        Ok(prepared) => match test_rest(alloc, parts, &prepared) {
+            Err(fault) => {
+                drop(prepared);
+                Err(fault)
+            }
+            Ok(()) => Ok(prepared),
+        },
     }
 }

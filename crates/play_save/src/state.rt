@@ -1,7 +1,6 @@
 //! The state of a play.
 ghost use Rattle.std.specs.Prelude.{◌≡◌, ◌≤◌, ◌<◌, ◌^◌, length, IfOk, IfErr, MatchResult};
 ghost use Rattle.std.specs.List.{AllByRecursion};
-ghost use Rattle.std.specs.Option.{option_map};
 ghost use Rattle.nwq_value.specs.Limits.{file_limit};
 ghost use Rattle.ncs_code.specs.File.{IsCode};
 ghost use Rattle.stack_rules.specs.Laws.{AllMeet};
@@ -13,50 +12,50 @@ ghost use Rattle.state_format.specs.Parts.{HasForm};
 ghost use Rattle.state_format.specs.Place.{StateOf, IsTooLarge};
 ghost use Rattle.state_format.specs.declared.parts.Parts.{Parts as PlainParts};
 ghost use Rattle.state_parts.specs.World.{world_of};
-ghost use Rattle.state_parts.specs.Scripts.{script_parts};
+ghost use Rattle.play_save.specs.Scripts.{script_parts};
 ghost use Rattle.play_save.specs.Rules.{IsHeaderOf, IsAccepted};
-ghost use Rattle.play_save.specs.States.{HasCome, IsPlayOf, IsWorldOf, MayCount, MayLimit, MayList};
-ghost use Rattle.play_save.specs.States.{MayRest, Refuses, resting};
+ghost use Rattle.play_save.specs.Breaking.{IsPreparedFor};
+ghost use Rattle.play_save.specs.States.{HasCome, IsPlayOf, IsWorldOf, Refuses};
 ghost use Rattle.play_save.specs.declared.fault.StateFault.TheVariants.{NoMemory as NoRoom};
 
 use crate::fault::StateFault;
-use crate::keep::{PlayCounts, keep};
-use crate::prepare::{Prepared, prepare};
+use crate::prepare::Prepared;
 use crate::rules::test_parts;
 use crate::world::world;
-use engine_table::laws::one_header;
-use ncs_code::spelling_laws;
 use ncs_machine::Scripts;
 use nwq_value::{NoMemory, Table};
 use saved_state::Saved;
-use stack_check::fits_too;
-use stack_rules::states_hold_values;
 use state_format::{Parts, ReadFault, SaveFault, one_state, put_parts, read_parts};
 use std::alloc::Global;
 use std::marker::Model;
 use world_core::World;
 
-/// The state of a play between two of its entries. Contracts see its parts.
+/// The state of a play between two of its entries. Contracts see its parts. What they are of is kept
+/// as it was read, so that each script is prepared once.
 pub struct State {
     parts: Parts,
+    prepared: Prepared,
 }
 
 impl Model for State {
     ghost use Rattle.state_format.specs.declared.parts.Parts.{Parts};
     ghost use Rattle.state_format.specs.Parts.{HasForm};
     ghost use Rattle.play_save.specs.Rules.{IsAccepted};
+    ghost use Rattle.play_save.specs.Breaking.{IsPreparedFor};
 
     ghost Value = { Parts };
 
     ghost view = { λ s. s.parts };
 
-    ghost invariant = { λ s. HasForm s.parts × IsAccepted s.parts };
+    ghost invariant = { λ s. HasForm s.parts
+        × (IsAccepted s.parts × IsPreparedFor s.parts s.prepared) };
 }
 
 impl Drop for State {
     fn drop(self) {
-        let State { parts } = self;
+        let State { parts, prepared } = self;
         drop(parts);
+        drop(prepared);
     }
 }
 
@@ -74,52 +73,6 @@ pub struct Opened {
 }
 
 impl State {
-    /// The state of a play that isn't inside an entry. `header` is nothing for the built-in one,
-    /// and `area` the bytes of the area's file as they were first read. What was handed over is
-    /// dropped where memory runs out. So it is answered too where a list has more than
-    /// 4,294,967,295 members, which no field counts.
-    pub fn of(
-        alloc: Global,
-        header: Option<Vec<u8>>,
-        scripts: &Scripts,
-        area: Vec<u8>,
-        world: World<Saved>,
-        limits: (u64, u64, u64),
-        taken: u64,
-        done: u64,
-    ) -> Result<State, NoMemory>
-        requires limits { MayLimit limits }
-        requires listed { MayList (option_map (λ text. text.items) header) scripts.now }
-        requires rests { MayRest scripts.now area.items world.world }
-        requires come { MayCount limits world.world taken done }
-        // What the play is of, and how far it has come.
-        ensures play { IfOk result (λ s. IsPlayOf s (option_map (λ text. text.items) header)
-            (script_parts scripts.now) area.items limits) }
-        ensures come { IfOk result (λ s. HasCome s taken done) }
-        // The state tells the very world, without the lines that it keeps.
-        ensures world { IfOk result (λ s. IsWorldOf s (resting world.world)) }
-        // The scripts' files, which it has, are those of their instructions.
-        ensures code { IfOk result (λ s. AllByRecursion (λ l. IsCode l.code.code) scripts.now) }
-    {
-        spelling_laws();
-        fits_too();
-        one_header();
-        states_hold_values::<()>();
-        world.keeps();
-        match world.into_parts() {
-            Err(NoMemory) => Err(NoMemory),
-            Ok((objects, saved)) => {
-                objects.keeps();
-                let file = area.as_slice();
-                let counts = PlayCounts { taken, done };
-                let parts = keep(
-                    alloc, &header, scripts, file, &objects, saved, limits, counts,
-                )?;
-                Ok(State { parts })
-            }
-        }
-    }
-
     /// What the play goes on from. The state is dropped where memory runs out.
     pub fn restore(self, alloc: Global) -> Result<Opened, NoMemory>
         // What the play is of, and how far it has come.
@@ -140,8 +93,8 @@ impl State {
         ensures fit { IfOk result (λ o.
             StatesFit (scripts_of o.scripts) (tables_of o.scripts) o.world.world) }
     {
-        let State { parts } = self;
-        match open(alloc, &parts) {
+        let State { parts, prepared } = self;
+        match open(alloc, &parts, prepared) {
             Err(NoMemory) => {
                 drop(parts);
                 Err(NoMemory)
@@ -162,19 +115,10 @@ impl State {
     }
 }
 
-/// The one fault that is left where a state keeps all rules.
-fn want_of_memory(fault: StateFault) -> NoMemory
-    requires { fault ≡ NoRoom }
-{
-    match fault {
-        StateFault::NoMemory => NoMemory,
-        _ => unreachable!(),
-    }
-}
-
 /// What the play of a state goes on from.
-pub(crate) fn open(alloc: Global, parts: &Parts) -> Result<Opened, NoMemory>
+pub(crate) fn open(alloc: Global, parts: &Parts, prepared: Prepared) -> Result<Opened, NoMemory>
     requires accepted { IsAccepted parts.now }
+    requires prepared { IsPreparedFor parts.now prepared }
     ensures header { IfOk result (λ o. IsHeaderOf parts.now.header o.table) }
     ensures play { IfOk result (λ o. IsPlayOf parts.now parts.now.header
         (script_parts o.scripts) parts.now.area o.limits) }
@@ -189,30 +133,25 @@ pub(crate) fn open(alloc: Global, parts: &Parts) -> Result<Opened, NoMemory>
     ensures fit { IfOk result (λ o.
         StatesFit (scripts_of o.scripts) (tables_of o.scripts) o.world.world) }
 {
-    match prepare(alloc, parts) {
-        Err(fault) => Err(want_of_memory(fault)),
-        Ok(prepared) => {
-            let Prepared {
-                table,
-                scripts,
-                area,
-            } = prepared;
-            match world(alloc, area, parts) {
-                Err(NoMemory) => {
-                    drop(table);
-                    drop(scripts);
-                    Err(NoMemory)
-                }
-                Ok(world) => Ok(Opened {
-                    table,
-                    scripts,
-                    world,
-                    limits: (parts.limit, parts.entries, parts.until),
-                    taken: parts.taken,
-                    done: parts.done,
-                }),
-            }
+    let Prepared {
+        table,
+        scripts,
+        area,
+    } = prepared;
+    match world(alloc, area, parts) {
+        Err(NoMemory) => {
+            drop(table);
+            drop(scripts);
+            Err(NoMemory)
         }
+        Ok(world) => Ok(Opened {
+            table,
+            scripts,
+            world,
+            limits: (parts.limit, parts.entries, parts.until),
+            taken: parts.taken,
+            done: parts.done,
+        }),
     }
 }
 
@@ -245,7 +184,7 @@ pub fn read_state(alloc: Global, bytes: &[u8]) -> Result<State, StateFault>
                 drop(parts);
                 Err(fault)
             }
-            Ok(()) => Ok(State { parts }),
+            Ok(prepared) => Ok(State { parts, prepared }),
         },
     }
 }

@@ -8,12 +8,6 @@ use Rattle.state_format.specs.Parts.{IsNumber}
 use Rattle.state_parts.specs.Keeping.{IsPartOf}
 use Rattle.state_parts.specs.KeepingLemmas.{IsKeeping, keep_more}
 
--- the same where the member is asked for
-got_next : {A : Type 0} (xs : List A) (i : ℕ) (x : A) → slice_get xs i ≡ Some x → drop i xs ≡ x ∷ drop (suc i) xs
-got_next [] i x at = absurd cc
-got_next (y ∷ xs) zero x at = (let e = at in cc)
-got_next (y ∷ xs) (suc i) x at = got_next xs i x at
-
 pub got_none : {A : Type 0} (xs : List A) (i : ℕ) → slice_get xs i ≡ None → drop i xs ≡ []
 got_none [] zero at = refl
 got_none [] (suc i) at = refl
@@ -24,25 +18,6 @@ pub got_within : {A : Type 0} (xs : List A) (i : ℕ) → slice_get xs i ≡ Non
 got_within [] i at = omega arith
 got_within (x ∷ xs) zero at = absurd cc
 got_within (x ∷ xs) (suc i) at = let rest = got_within xs i at in omega arith
-
-pub all_left : {A : Type 0} (P : A → Type 0) (xs : List A) → AllByRecursion P xs → AllByRecursion P (drop 1 xs)
-all_left P [] all = tt
-all_left P (x ∷ xs) all = all.1
-
-pub keep_got : {A B : Type 0} (tells : B → A) (Is : B → Type 0) (is_short : B → Bool) (xs : List A) (i : ℕ) (x : A) (ps new : List B) (p : B)
-    → IsKeeping tells Is is_short xs (drop i xs) i ps → new ≡ ps ++ p ∷ [] → IsPartOf tells Is is_short x p → slice_get xs i ≡ Some x
-    → IsKeeping tells Is is_short xs (drop (i + 1) xs) (i + 1) new
-keep_got tells Is is_short xs i x ps new p before grown is at =
-    subst (λ (k : ℕ). IsKeeping tells Is is_short xs (drop k xs) (i + 1) new) (sym (add-one i))
-    (keep_more tells Is is_short xs x (drop (suc i) xs) i ps new p (subst (λ (l : List _). IsKeeping tells Is is_short xs l i ps) (got_next xs i x at) before) grown is)
-
--- and where it is taken off the rest
-pub keep_taken : {A B : Type 0} (tells : B → A) (Is : B → Type 0) (is_short : B → Bool) (xs rest left : List A) (i : ℕ) (x : A) (ps new : List B) (p : B)
-    → IsKeeping tells Is is_short xs rest i ps → new ≡ ps ++ p ∷ [] → IsPartOf tells Is is_short x p → slice_get rest 0 ≡ Some x → left ≡ drop 1 rest
-    → IsKeeping tells Is is_short xs left (i + 1) new
-keep_taken tells Is is_short xs rest left i x ps new p before grown is at now =
-    subst (λ (l : List _). IsKeeping tells Is is_short xs l (i + 1) new) (sym now)
-    (keep_more tells Is is_short xs x (drop 1 rest) i ps new p (subst (λ (l : List _). IsKeeping tells Is is_short xs l i ps) (got_next rest 0 x at) before) grown is)
 
 -- ---- what is lent
 
@@ -72,23 +47,3 @@ left_one (x ∷ xs) (suc i) = left_one xs i
 
 pub left_more : {A : Type 0} (xs : List A) (i : ℕ) → drop 1 (drop i xs) ≡ drop (i + 1) xs
 left_more xs i = left_one xs i ∙ ap (λ (k : ℕ). drop k xs) (sym (add-one i))
-
--- ---- one list for one
-
-mapped_count : {A B : Type 0} (f : A → B) (xs : List A) → length (map f xs) ≡ length xs
-mapped_count f [] = refl
-mapped_count f (x ∷ xs) = ap suc (mapped_count f xs)
-
-pub mapped_few : {A B : Type 0} (f : A → B) (xs : List A) (ps : List B) → ps ≡ map f xs → length xs ≤ 4294967295 → IsNumber 4 (length ps)
-mapped_few f xs ps same few = subst (IsNumber 4) (sym (ap (λ (l : List _). length l) same ∙ mapped_count f xs)) (omega arith)
-
-all_taken : {A : Type 0} (P : A → Type 0) (xs : List A) (i : ℕ) (x : A) → AllByRecursion P (take i xs) → P x → i < length xs → x ≡ get_or xs i x
-    → AllByRecursion P (take (suc i) xs)
-all_taken P [] i x all is h e = absurd (omega arith)
-all_taken P (y ∷ ys) zero x all is h e = (subst P e is, tt)
-all_taken P (y ∷ ys) (suc i) x all is h e = (all.0, all_taken P ys i x all.1 is (omega arith) e)
-
--- what holds of those before and of one more holds of all so far
-pub all_more : {A : Type 0} (P : A → Type 0) (xs : List A) (i : ℕ) (x : A) → AllByRecursion P (take i xs) → P x → i < length xs → x ≡ get_or xs i x
-    → AllByRecursion P (take (i + 1) xs)
-all_more P xs i x all is h e = subst (λ k. AllByRecursion P (take k xs)) (sym (add-one i)) (all_taken P xs i x all is h e)

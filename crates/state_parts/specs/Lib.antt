@@ -1,5 +1,6 @@
 pub mod World
+pub mod Told
 pub mod ShortTexts
-pub mod Scripts
 pub mod Keeping
 pub mod KeepingLemmas
+pub mod PuttingLemmas

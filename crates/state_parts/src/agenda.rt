@@ -1,25 +1,26 @@
-//! The entries of an agenda, and scripts, as parts of a state.
-ghost use Rattle.std.specs.Prelude.{◌≡◌, length, IfOk};
-ghost use Rattle.std.specs.List.{AllByRecursion};
-ghost use Rattle.ncs_code.specs.File.{IsCode};
-ghost use Rattle.state_format.specs.Parts.{IsEntry, IsKind, IsList, IsNumber, IsScript};
+//! The entries of an agenda, put as the fields of their parts.
+ghost use Rattle.std.specs.Prelude.{◌≡◌, ◌++◌, length, map, IfOk, OnOk};
+ghost use Rattle.std.specs.List.{flat_map, AllByRecursion};
+ghost use Rattle.state_format.specs.Fields.{entry_fields, joined, kind_fields, list_of};
+ghost use Rattle.state_format.specs.Parts.{IsEntry, IsKind, IsNumber};
 ghost use Rattle.state_parts.specs.World.{entry_of, kind_of};
+ghost use Rattle.state_parts.specs.Told.{entry_part, kind_part};
 ghost use Rattle.state_parts.specs.ShortTexts.{is_short_entry, is_short_kind};
-ghost use Rattle.state_parts.specs.Scripts.{script_part, script_parts};
 ghost use Rattle.state_parts.specs.Keeping.{ArePartsOf, IsPartOf, KindHasValues};
 
-use crate::values::{MOST, bytes, int, long, saved, text, word};
+use crate::values::{MOST, fits_int, fits_long, fits_word, put_saved, put_text};
 use delay_agenda::{Agenda, Entry, Kind};
-use ncs_file::store;
-use ncs_machine::{Loaded, Scripts};
 use nwq_value::{Items, NoMemory};
 use saved_state::Saved;
-use state_format::{Entry as EntryPart, KindPart, Script};
+use state_format::{Writer, put_count, put_signed, put_tag, put_wide, put_word};
 use std::alloc::Global;
 
-fn kind(alloc: Global, kind: &Kind<Saved>) -> Result<KindPart, NoMemory>
+fn put_kind<W: Writer>(out: &mut W, kind: &Kind<Saved>) -> Result<(), NoMemory>
     requires values { KindHasValues kind.now }
-    ensures part { IfOk result (IsPartOf kind_of IsKind is_short_kind kind.now) }
+    ensures put { OnOk result
+        (W.taken out.new ≡ W.taken out.old ++ joined (kind_fields (kind_part kind.now))) }
+    ensures part { OnOk result
+        (IsPartOf kind_of IsKind is_short_kind kind.now (kind_part kind.now)) }
 {
     match kind {
         Kind::Event {
@@ -27,55 +28,57 @@ fn kind(alloc: Global, kind: &Kind<Saved>) -> Result<KindPart, NoMemory>
             script,
             user,
         } => {
-            let script = text(alloc, script)?;
-            Ok(KindPart::Event {
-                object: word(*object),
-                script,
-                user: int(*user),
-            })
+            fits_word(*object);
+            fits_int(*user);
+            put_tag(out, 0)?;
+            put_word(out, *object)?;
+            put_text(out, script)?;
+            put_signed(out, *user)
         }
         Kind::Stored { object, action } => {
-            let state = saved(alloc, action)?;
-            Ok(KindPart::Stored {
-                object: word(*object),
-                state,
-            })
+            fits_word(*object);
+            put_tag(out, 1)?;
+            put_word(out, *object)?;
+            put_saved(out, action)
         }
-        Kind::Turn { object } => Ok(KindPart::Turn {
-            object: word(*object),
-        }),
-        Kind::Unapply { object } => Ok(KindPart::Unapply {
-            object: word(*object),
-        }),
+        Kind::Turn { object } => {
+            fits_word(*object);
+            put_tag(out, 2)?;
+            put_word(out, *object)
+        }
+        Kind::Unapply { object } => {
+            fits_word(*object);
+            put_tag(out, 3)?;
+            put_word(out, *object)
+        }
     }
 }
 
-fn entry(alloc: Global, entry: &Entry<Saved>) -> Result<EntryPart, NoMemory>
+fn put_entry<W: Writer>(out: &mut W, entry: &Entry<Saved>) -> Result<(), NoMemory>
     requires values { KindHasValues entry.now.kind }
-    ensures part { IfOk result (IsPartOf entry_of IsEntry is_short_entry entry.now) }
+    ensures put { OnOk result
+        (W.taken out.new ≡ W.taken out.old ++ joined (entry_fields (entry_part entry.now))) }
+    ensures part { OnOk result
+        (IsPartOf entry_of IsEntry is_short_entry entry.now (entry_part entry.now)) }
 {
-    let kind = kind(alloc, &entry.kind)?;
-    Ok(EntryPart {
-        due: long(entry.due),
-        number: long(entry.number),
-        kind,
-    })
+    fits_long(entry.due);
+    fits_long(entry.number);
+    put_wide(out, entry.due)?;
+    put_wide(out, entry.number)?;
+    put_kind(out, &entry.kind)
 }
 
-/// The parts that tell all entries of an agenda, in the order in which they are taken; their texts
-/// are short. `NoMemory` comes also where they, or a list of one, are more than 4,294,967,295.
-pub fn entries(alloc: Global, agenda: Agenda<Saved>) -> Result<Items<EntryPart>, NoMemory>
-    requires values { AllByRecursion (λ e. KindHasValues e.kind) agenda.waiting.entries }
-    ensures parts { IfOk result
-        (ArePartsOf entry_of IsEntry is_short_entry agenda.waiting.entries) }
-    ensures few { IfOk result (λ parts. IsNumber 4 (length parts)) }
+/// All entries of an agenda, in the order in which they are taken. None is copied.
+pub fn entries(alloc: Global, agenda: Agenda<Saved>) -> Result<Items<Entry<Saved>>, NoMemory>
+    ensures entries { IfOk result (λ all. all ≡ agenda.waiting.entries) }
+    ensures few { IfOk result (λ all. IsNumber 4 (length all)) }
 {
     let mut agenda = agenda;
     let mut all = Items::new(alloc);
     for _done in 0..MOST {
         match agenda.take() {
             None => return Ok(all),
-            Some(next) => all.push(entry(alloc, &next)?)?,
+            Some(next) => all.push(next)?,
         }
     }
     drop(agenda);
@@ -83,30 +86,33 @@ pub fn entries(alloc: Global, agenda: Agenda<Saved>) -> Result<Items<EntryPart>,
     Err(NoMemory)
 }
 
-fn script(alloc: Global, loaded: &Loaded) -> Result<Script, NoMemory>
-    ensures part { IfOk result (λ part. part ≡ script_part loaded.now) }
-    ensures form { IfOk result (λ part. IsScript part) }
-    ensures code { IsCode loaded.now.code.code }
+/// Puts entries in a row.
+fn put_row<W: Writer>(out: &mut W, entries: &[Entry<Saved>]) -> Result<(), NoMemory>
+    requires values { AllByRecursion (λ e. KindHasValues e.kind) entries.now }
+    ensures put { OnOk result (W.taken out.new
+        ≡ W.taken out.old ++ joined (flat_map entry_fields (map entry_part entries.now))) }
+    ensures parts { OnOk result
+        (ArePartsOf entry_of IsEntry is_short_entry entries.now (map entry_part entries.now)) }
 {
-    loaded.code.checked().code().sound();
-    let name = bytes(alloc, loaded.name.bytes())?;
-    let code = bytes(alloc, store(loaded.code.checked().code()))?;
-    Ok(Script { name, code })
+    for entry in entries {
+        put_entry(out, entry)?;
+    }
+    Ok(())
 }
 
-/// The names and the files of scripts, in their order, whose code can be written. `NoMemory` comes
-/// also for more than 4,294,967,295 scripts, or bytes of one.
-pub fn scripts(alloc: Global, scripts: &Scripts) -> Result<Items<Script>, NoMemory>
-    ensures parts { IfOk result (λ parts. parts ≡ script_parts scripts.now) }
-    ensures form { IfOk result (IsList IsScript) }
-    ensures code { IfOk result (λ parts. AllByRecursion (λ l. IsCode l.code.code) scripts.now) }
+/// Puts entries of an agenda behind their count; their texts are short. `NoMemory` comes also where
+/// they, or a list of one, are more than 4,294,967,295.
+pub fn put_entries<W: Writer>(out: &mut W, entries: &[Entry<Saved>]) -> Result<(), NoMemory>
+    requires values { AllByRecursion (λ e. KindHasValues e.kind) entries.now }
+    ensures put { OnOk result (W.taken out.new
+        ≡ W.taken out.old ++ joined (list_of entry_fields (map entry_part entries.now))) }
+    ensures parts { OnOk result
+        (ArePartsOf entry_of IsEntry is_short_entry entries.now (map entry_part entries.now)) }
+    ensures few { OnOk result (IsNumber 4 (length (map entry_part entries.now))) }
 {
-    if scripts.len() > MOST {
+    if entries.len() > MOST {
         return Err(NoMemory);
     }
-    let mut all = Items::new(alloc);
-    for loaded in scripts.as_slice() {
-        all.push(script(alloc, loaded)?)?;
-    }
-    Ok(all)
+    put_count(out, entries.len())?;
+    put_row(out, entries)
 }

@@ -6,14 +6,14 @@ use Rattle.ncs_machine.specs.Host.{scripts_of, tables_of}
 use Rattle.ncs_machine.specs.Stored.{StatesFit}
 use Rattle.play_save.specs.Rules.{IsAreaOf}
 use Rattle.play_save.proofs.CapturedLemmas.{items_if, entries_if}
-use Rattle.play_save.proofs.Opening.{all_code, all_meet, all_stand, same_parts, small_names, few_scripts, states_fit, memory_only}
+use Rattle.play_save.proofs.Opening.{all_code, all_meet, all_stand, same_parts, small_names, few_scripts, states_fit}
 use Rattle.play_save.proofs.state.open.Goals as goal
 
-pub returns-in-Ok-world : goal.returns-in-Ok-world
-returns-in-Ok-world c =
+pub returns-in-Ok : goal.returns-in-Ok
+returns-in-Ok c =
     let s = c.args.parts.now in
-    let p = c.in-Ok.prepared in
-    let is = c.in-Ok.ensures.prepared in
+    let p = c.args.prepared in
+    let is = c.requires.prepared in
     let limits = c.requires.accepted.1.1.1.0 in
     let states = c.requires.accepted.1.1.1.1.1.0 in
     record {
@@ -30,15 +30,12 @@ returns-in-Ok-world c =
       world = record {
         tree = p.area.tree;
         area = subst (λ (a : PlainArea). IsAreaOf a.tree s.area) (sym is.area.area) is.area.of;
-        world = c.in-Ok-world.ensures.world;
+        world = c.in-Ok.ensures.world;
       };
       few = few_scripts p.table s.scripts p.scripts limits.bounds.scripts is.scripts;
       code = all_code p.table s.scripts p.scripts is.scripts;
       meets = all_meet p.table s.scripts p.scripts is.scripts;
       stand = all_stand p.table s.scripts p.scripts is.scripts;
-      fit = subst (λ (w : World Saved). StatesFit (scripts_of p.scripts) (tables_of p.scripts) w) (sym c.in-Ok-world.ensures.world)
+      fit = subst (λ (w : World Saved). StatesFit (scripts_of p.scripts) (tables_of p.scripts) w) (sym c.in-Ok.ensures.world)
           (states_fit p.scripts p.area.tree s (items_if s p is states) (entries_if s p is states));
     }
-
-pub want_of_memory-requires : goal.want_of_memory-requires
-want_of_memory-requires c = memory_only c.args.parts.now c.in-Err.fault c.requires.accepted c.in-Err.ensures.broken

@@ -6,6 +6,6 @@ use Rattle.play_save.proofs.state.State.keeps.Goals as goal
 
 pub returns : goal.returns
 returns c = record {
-  accepted = subst (λ (s : Parts). IsAccepted s) c.self.view_is c.self.invariant.1;
+  accepted = subst (λ (s : Parts). IsAccepted s) c.self.view_is c.self.invariant.1.0;
   form = subst (λ (s : Parts). HasForm s) c.self.view_is c.self.invariant.0;
 }

@@ -1,12 +1,12 @@
 use Rattle.std.proofs.Common.{subst}
 use Rattle.state_format.specs.declared.parts.Parts.{Parts}
-use Rattle.state_parts.specs.Scripts.{script_parts}
+use Rattle.play_save.specs.Scripts.{script_parts}
 use Rattle.play_save.specs.Rules.{IsHeaderOf}
 use Rattle.play_save.specs.States.{IsPlayOf, HasCome, IsWorldOf}
 use Rattle.play_save.proofs.state.State.restore.Goals as goal
 
 pub open-requires : goal.open-requires
-open-requires c = record { accepted = c.self.invariant.1 }
+open-requires c = record { accepted = c.self.invariant.1.0; prepared = c.self.invariant.1.1 }
 
 pub returns-in-Ok : goal.returns-in-Ok
 returns-in-Ok c =
