@@ -1,5 +1,5 @@
 ghost use Rattle.std.specs.Prelude.{◌≡◌, ◌<◌, ◌≤◌, ◌^◌, ℕ, length, string_bytes};
-ghost use Rattle.std.specs.Prelude.{IsTrue, IfErr, IfOk};
+ghost use Rattle.std.specs.Prelude.{IsTrue, IfErr, IfOk, OnOk};
 ghost use Rattle.nwq_value.specs.Limits.{file_limit};
 ghost use Rattle.nss_tree.specs.Reading.{plain_tree};
 ghost use Rattle.typing_rules.specs.UnitReading.{typed_unit};
@@ -8,6 +8,7 @@ ghost use Rattle.typing_laws.specs.Laws.{HasCode};
 ghost use Rattle.command_work.specs.Work.{CutsShort};
 ghost use Rattle.command_work.specs.Counts.{Refusing, StopsSource, KeepsBut};
 ghost use Rattle.command_work.specs.Calls.{DoesOn, TalliesOn, TalliesPuts, IsName, DoesPuts};
+ghost use Rattle.command_sources.specs.Reads.{ReadsUnit, header_read};
 ghost use Rattle.command_sources.specs.Scripts.{plain_script};
 ghost use Rattle.command_compile.specs.Files.{IsTooLarge, file_in, compiled_in, compiled_named};
 ghost use Rattle.command_compile.specs.Files.{code_name, writes_code, compiles_under, compiles};
@@ -79,7 +80,7 @@ pub fn compile_script<S: Sink>(
 }
 
 /// The file of the script of this name under a header.
-#[tactic(auto, using(crate::proofs::Steps::steps, crate::proofs::FileLemmas::stacks), unfolding(crate::specs::Files::compiled_named))]
+#[tactic(auto, using(crate::proofs::Steps::steps, crate::proofs::FileLemmas::stacks, command_sources::specs::Reads::on_ok), unfolding(crate::specs::Files::compiled_named))]
 pub fn read_compiled<F: Files, S: Sink>(
     alloc: Global,
     table: &Table,
@@ -93,6 +94,8 @@ pub fn read_compiled<F: Files, S: Sink>(
     ensures stacked { IfOk result (IsStackedFile table.now) }
     ensures counts { TalliesOn F.counts S.faults result files.old out.old files.new out.new }
     ensures same { F.contents files.new ≡ F.contents files.old }
+    ensures once { IsTrue F.tells → OnOk result (ReadsUnit (F.contents files.old) script.now
+        (F.reads files.old) (F.reads files.new)) }
     ensures small { IfOk result (λ bytes. length bytes ≤ file_limit) }
     ensures only { IfErr result StopsSource }
 {
@@ -128,6 +131,7 @@ fn write_code<F: Files, S: Sink>(
     ensures counts { TalliesOn F.counts S.faults result files.old out.old files.new out.new }
     ensures names { KeepsBut (IsName (code_name script.now)) (F.contents files.old) (F.contents
         files.new) }
+    ensures unread { F.reads files.new ≡ F.reads files.old }
     ensures only { IfErr result CutsShort }
 {
     match code_name(alloc, script) {
@@ -153,6 +157,8 @@ fn compile_under<F: Files, S: Sink>(
     ensures counts { TalliesOn F.counts S.faults result files.old out.old files.new out.new }
     ensures names { KeepsBut (IsName (code_name script.now)) (F.contents files.old) (F.contents
         files.new) }
+    ensures once { IsTrue F.tells → OnOk result (ReadsUnit (F.contents files.old) script.now
+        (F.reads files.old) (F.reads files.new)) }
     ensures only { IfErr result StopsSource }
 {
     match read_compiled(alloc, table, script, files, out) {
@@ -175,6 +181,9 @@ pub fn compile_file<F: Files, S: Sink>(
     ensures counts { TalliesOn F.counts S.faults result files.old out.old files.new out.new }
     ensures names { KeepsBut (IsName (code_name script.now)) (F.contents files.old) (F.contents
         files.new) }
+    // The header is read, unless it is the built-in one, and each file of the script's unit, once.
+    ensures once { IsTrue F.tells → OnOk result (ReadsUnit (F.contents files.old) script.now
+        (header_read header.now (F.reads files.old)) (F.reads files.new)) }
     ensures only { IfErr result StopsSource }
 {
     match read_table(alloc, header, files, out) {
