@@ -29,9 +29,9 @@ use play_save::code_is_bytes;
 use play_states::first_entries_have_states;
 use typing_rules::laws::verdicts_are_right;
 
-/// A command that isn't cut has one outcome, which is all that its work amounts to: writes in order,
-/// and a text. One that is cut has put a prefix of that text, and left the files as after a front of
-/// those writes. So is the whole program, which reads tables first.
+/// A command that isn't cut has one outcome, which is all that its work amounts to: writes in
+/// order, and a text. One that is cut has put a prefix of that text, and left the files as after a
+/// front of those writes. So is the whole program, which reads tables first.
 pub fn one_outcome()
     ensures one { OneOutcome }
     ensures prefixes { Prefixes }
