@@ -99,7 +99,7 @@ module _ (cell : CellLookup) (table : EngineTable) (plan : Plan) (scripts : List
         world = ap (λ (p : Played Saved). resting p.last.world) whole ∙ ap (λ (p : Played Saved). resting p.last.world) same;
       }
 
-  pub stands_on : first.ending ≢ plays.StoppedInside → StandsAs (played_first cell table plan scripts (n + m) w).last (more first.last).last
+  stands_on : first.ending ≢ plays.StoppedInside → StandsAs (played_first cell table plan scripts (n + m) w).last (more first.last).last
   stands_on inside =
       subst (λ (p : Played Saved). StandsAs (played_first cell table plan scripts (n + m) w).last (more p.last).last) (sym front_is)
       (stands (subst (λ (p : Played Saved). p.ending ≢ plays.StoppedInside) front_is inside))
