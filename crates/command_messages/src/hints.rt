@@ -60,7 +60,7 @@ fn put_open(out: &mut Vec<u8>, bytes: &[u8], at: usize) -> Result<(), NoMemory> 
     put_count(out, line_number(bytes, at))?;
     put_words(out, ", column ")?;
     put_count(out, column(bytes, at))?;
-    put_words(out, " isn't closed")
+    put_words(out, ", isn't closed")
 }
 
 /// Appends the sentence for a place of a text, and at its end which bracket isn't closed.

@@ -227,8 +227,8 @@ const SCRIPTS: &[Refused] = &[
     Refused {
         bytes: b"void main() { int Random; int Random; }",
         line: b"refused p.nss 1 30 redeclared\n",
-        said: "p.nss:1:31: error: `Random` stands here a second time, or has other types than where \
-            it was declared [redeclared]\nvoid main() { int Random; int Random; \
+        said: "p.nss:1:31: error: `Random` stands here a second time, or has other types than \
+            where it was declared [redeclared]\nvoid main() { int Random; int Random; \
             }\n                              ^\n",
     },
     Refused {
