@@ -102,8 +102,8 @@ impl Stack {
         self.cells.down(depth)
     }
 
-    /// The int over which so many others lie, where it can be read at once. `None` says nothing: the
-    /// cell may hold an int all the same.
+    /// The int over which so many others lie, where it can be read at once. `None` says nothing:
+    /// the cell may hold an int all the same.
     #[inline(always)]
     pub fn int_near(&self, depth: usize) -> Option<i32>
         ensures int { IfSome result (λ n. slice_get self.now.cells depth
