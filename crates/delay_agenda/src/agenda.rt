@@ -77,8 +77,8 @@ impl<X: Drop> Agenda<X> {
         }
     }
 
-    /// Sorts in what was posted, and makes room for `n` posts. After `NoMemory` there is at least the
-    /// room that there was.
+    /// Sorts in what was posted, and makes room for `n` posts. After `NoMemory` there is at least
+    /// the room that there was.
     pub fn reserve(&mut self, n: u32) -> Result<(), NoMemory>
         ensures ok { OnOk result (n ≤ self.new.room) }
         ensures sorted { OnOk result (self.new.inbox ≡ 0) }

@@ -1,5 +1,6 @@
 ghost use Rattle.std.specs.Prelude.{◌≡◌, ◌==◌, if◌then◌else◌, ◌<◌, ◌≤◌, ◌+◌, [], ◌∷◌, ◌++◌};
-ghost use Rattle.std.specs.Prelude.{false, length, is_some, Some, None, IfOk, IfErr, IfSome, OnErr, OnOk};
+ghost use Rattle.std.specs.Prelude.{false, length, is_some, Some, None};
+ghost use Rattle.std.specs.Prelude.{IfOk, IfErr, IfSome, OnErr, OnOk};
 ghost use Rattle.nwq_value.specs.Engine.{IsConstant, constant_named, routine_named};
 ghost use Rattle.nwq_value.specs.Limits.{parameter_limit};
 ghost use Rattle.engine_table.specs.declared.symbol.Symbol.TheVariants as symbol;

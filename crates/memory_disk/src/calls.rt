@@ -210,7 +210,8 @@ impl MemoryDisk {
     /// Removes a regular file.
     #[tactic(auto, using(crate::proofs::DriveLemmas::removes))]
     fn remove_at(&mut self, name: &[u8]) -> Result<(), Failure>
-        ensures ok { IfOk result (λ done. Removes (names_of self.old) (names_of self.new) name.now) }
+        ensures ok { IfOk result (λ done.
+            Removes (names_of self.old) (names_of self.new) name.now) }
         ensures err { OnErr result (self.new ≡ self.old) }
     {
         if self.is_fixed(name) {

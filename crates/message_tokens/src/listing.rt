@@ -14,8 +14,8 @@ use nss_parser::{ParseFault, parse};
 use nwq_value::NoMemory;
 use std::alloc::Global;
 
-/// What is tried at a place: each kind of token of a unit once, what is told first at the front, and
-/// what the profile leaves out at the end.
+/// What is tried at a place: each kind of token of a unit once, what is told first at the front,
+/// and what the profile leaves out at the end.
 const TRIED: [&[u8]; 74] = [
     b";",
     b")",

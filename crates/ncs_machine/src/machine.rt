@@ -167,8 +167,8 @@ impl Machine {
             .take_arguments(alloc, routine, number, count, size, args)
     }
 
-    /// The running script is over: the newest of those that wait goes on. Rare, and so a call of its
-    /// own.
+    /// The running script is over: the newest of those that wait goes on. Rare, and so a call of
+    /// its own.
     #[inline(never)]
     #[tactic(auto, using(crate::proofs::Frames::pushed_last))]
     fn end_script(&mut self) -> StepOutcome

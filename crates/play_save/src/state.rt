@@ -30,8 +30,8 @@ use std::alloc::Global;
 use std::marker::Model;
 use world_core::World;
 
-/// The state of a play between two of its entries. Contracts see its parts. What they are of is kept
-/// as it was read, so that each script is prepared once.
+/// The state of a play between two of its entries. Contracts see its parts. What they are of is
+/// kept as it was read, so that each script is prepared once.
 pub struct State {
     parts: Parts,
     prepared: Prepared,

@@ -100,8 +100,8 @@ pub trait Disk {
             (names self.old).writable name.now ≡ true) }
         ensures same { names self.new ≡ names self.old };
 
-    /// Makes a new file beside a name, of this mode if there is one, and gives it these bytes. Where
-    /// they are to last, it waits until the disk has them.
+    /// Makes a new file beside a name, of this mode if there is one, and gives it these bytes.
+    /// Where they are to last, it waits until the disk has them.
     fn make(
         &mut self,
         new: &str,

@@ -1,6 +1,6 @@
 //! Calls on the slots.
-ghost use Rattle.std.specs.Prelude.{◌≡◌, ◌≢◌, ◌≤◌, ◌<◌, ◌+◌, [], None, Some, false, true, filter, length};
-ghost use Rattle.std.specs.Prelude.{OnOk, OnErr, IfErr};
+ghost use Rattle.std.specs.Prelude.{◌≡◌, ◌≢◌, ◌≤◌, ◌<◌, ◌+◌, [], None, Some, false, true};
+ghost use Rattle.std.specs.Prelude.{filter, length, OnOk, OnErr, IfErr};
 ghost use Rattle.std.specs.VecDeque.{deque_capacity};
 ghost use Rattle.stamped_slots.specs.Stamps.{at, put};
 ghost use Rattle.stamped_slots.specs.Kept.{seen, Ascend, below, has_stamp, item_at, written};

@@ -8,8 +8,8 @@
 //! list has more members than a field can count, which is [`MOST`].
 //!
 //! `specs/World.antt` says what each part tells, up to the world of a whole state,
-//! `specs/ShortTexts.antt` which texts are short, and `specs/Keeping.antt` what the parts of a value
-//! are. docs/SAVES.md tells the format, and docs/STATE.md captured states.
+//! `specs/ShortTexts.antt` which texts are short, and `specs/Keeping.antt` what the parts of a
+//! value are. docs/SAVES.md tells the format, and docs/STATE.md captured states.
 #![tactic(auto)]
 
 mod agenda;
