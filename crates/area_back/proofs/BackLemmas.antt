@@ -30,7 +30,9 @@ first_int name [] there = absurd cc
 first_int name (TextVar own text ∷ vars) there = first_int name vars there
 first_int name (IntVar own m ∷ vars) there = by_test (bytes_eq name own) there (first_int name vars)
   where
-    by_test : (b : Bool) → (b || list_any (is_int name) vars) ≡ true → (list_any (is_int name) vars ≡ true → option_map value_of (first (is_int name) vars) ≡ Some (Holds (Int (int_of (first (is_int name) vars))))) →
+    by_test : (b : Bool) → (b || list_any (is_int name) vars) ≡ true
+        → (list_any (is_int name) vars ≡ true
+        → option_map value_of (first (is_int name) vars) ≡ Some (Holds (Int (int_of (first (is_int name) vars))))) →
         option_map value_of (cond b (Some (IntVar own m)) (first (is_int name) vars)) ≡ Some (Holds (Int (int_of (cond b (Some (IntVar own m)) (first (is_int name) vars)))))
     by_test true h more = refl
     by_test false h more = more h
@@ -40,7 +42,9 @@ first_text name [] there = absurd cc
 first_text name (IntVar own n ∷ vars) there = first_text name vars there
 first_text name (TextVar own text ∷ vars) there = by_test (bytes_eq name own) there (first_text name vars)
   where
-    by_test : (b : Bool) → (b || list_any (is_text name) vars) ≡ true → (list_any (is_text name) vars ≡ true → option_map value_of (first (is_text name) vars) ≡ Some (Holds (Str (text_of (first (is_text name) vars))))) →
+    by_test : (b : Bool) → (b || list_any (is_text name) vars) ≡ true
+        → (list_any (is_text name) vars ≡ true
+        → option_map value_of (first (is_text name) vars) ≡ Some (Holds (Str (text_of (first (is_text name) vars))))) →
         option_map value_of (cond b (Some (TextVar own text)) (first (is_text name) vars)) ≡ Some (Holds (Str (text_of (cond b (Some (TextVar own text)) (first (is_text name) vars)))))
     by_test true h more = refl
     by_test false h more = more h
@@ -67,12 +71,14 @@ kept_plain test [] = refl
 kept_plain test (n ∷ nodes) = by_test (test (plain_node n)) (kept_plain test nodes)
   where
     by_test : (b : Bool) → map plain_node (filter (λ m. test (plain_node m)) nodes) ≡ filter test (map plain_node nodes) →
-        map plain_node (cond b (n ∷ filter (λ m. test (plain_node m)) nodes) (filter (λ m. test (plain_node m)) nodes)) ≡ cond b (plain_node n ∷ filter test (map plain_node nodes)) (filter test (map plain_node nodes))
+        map plain_node (cond b (n ∷ filter (λ m. test (plain_node m)) nodes) (filter (λ m. test (plain_node m)) nodes))
+        ≡ cond b (plain_node n ∷ filter test (map plain_node nodes)) (filter test (map plain_node nodes))
     by_test true h = ap (λ (ns : List PlainNode). plain_node n ∷ ns) h
     by_test false h = h
 
 -- a struct at a place is changed
-pub changed_plain : (change : PlainNode → PlainNode) (first now : List Node) (i : ℕ) (old new : Node) → i < length first → map plain_node now ≡ map change (take i (map plain_node first)) ++ drop i (map plain_node first) →
+pub changed_plain : (change : PlainNode → PlainNode) (first now : List Node) (i : ℕ) (old new : Node) → i < length first
+    → map plain_node now ≡ map change (take i (map plain_node first)) ++ drop i (map plain_node first) →
     old ≡ get_or now i old → i < length now → plain_node new ≡ change (plain_node old) →
     map plain_node (set now i new) ≡ map change (take (i + 1) (map plain_node first)) ++ drop (i + 1) (map plain_node first)
 changed_plain change first now i old new lt at is within made =
@@ -83,7 +89,9 @@ changed_plain change first now i old new lt at is within made =
 
 -- ---- the variables that entries tell
 
-told_step : PutIsThere → (v : Variable) (told now : List Variable) (entry : Entry) (rest : List Variable) (whole : Bool) → (list_any (same_variable v) told || list_any (same_variable v) (with_entry entry rest)) ≡ whole → now ≡ with_told told entry →
+told_step : PutIsThere → (v : Variable) (told now : List Variable) (entry : Entry) (rest : List Variable) (whole : Bool)
+    → (list_any (same_variable v) told || list_any (same_variable v) (with_entry entry rest)) ≡ whole
+    → now ≡ with_told told entry →
     (list_any (same_variable v) now || list_any (same_variable v) rest) ≡ whole
 told_step law v told now Broken rest whole at is = ap (λ (vs : List Variable). list_any (same_variable v) vs || list_any (same_variable v) rest) is ∙ at
 told_step law v told now Unread rest whole at is = ap (λ (vs : List Variable). list_any (same_variable v) vs || list_any (same_variable v) rest) is ∙ at
@@ -101,11 +109,18 @@ next_node : (entries : List Node) (i : ℕ) (entry : Node) → i < length entrie
 next_node entries i entry lt is = rw (add-one, drop-cons entries i entry) (ap (λ (n : Node). n ∷ drop (suc i) entries) (sym is))
 
 pub told_next : PutIsThere → (told now : List Variable) (entries : List Node) (i : ℕ) (entry : Node) → i < length entries → entry ≡ get_or entries i entry →
-    ((v : Variable) → (list_any (same_variable v) told || list_any (same_variable v) (variables_in (map plain_node (drop i entries)))) ≡ list_any (same_variable v) (variables_in (map plain_node entries))) →
+    ((v : Variable) → (list_any (same_variable v) told
+    || list_any (same_variable v) (variables_in (map plain_node (drop i entries))))
+    ≡ list_any (same_variable v) (variables_in (map plain_node entries))) →
     now ≡ with_told told (entry_of (plain_node entry)) →
-    (v : Variable) → (list_any (same_variable v) now || list_any (same_variable v) (variables_in (map plain_node (drop (i + 1) entries)))) ≡ list_any (same_variable v) (variables_in (map plain_node entries))
+    (v : Variable) → (list_any (same_variable v) now
+    || list_any (same_variable v) (variables_in (map plain_node (drop (i + 1) entries))))
+    ≡ list_any (same_variable v) (variables_in (map plain_node entries))
 told_next law told now entries i entry lt is at grown v =
-    let open_at = subst (λ (ns : List Node). (list_any (same_variable v) told || list_any (same_variable v) (variables_in (map plain_node ns))) ≡ list_any (same_variable v) (variables_in (map plain_node entries))) (next_node entries i entry lt is) (at v) in
+    let open_at = subst (λ (ns : List Node).
+    (list_any (same_variable v) told || list_any (same_variable v) (variables_in (map plain_node ns)))
+    ≡ list_any (same_variable v) (variables_in (map plain_node entries))) (next_node entries i entry lt is)
+    (at v) in
     told_step law v told now (entry_of (plain_node entry)) (variables_in (map plain_node (drop (i + 1) entries))) (list_any (same_variable v) (variables_in (map plain_node entries))) open_at grown
 
 told_end_or : (a : Bool) → (a || false) ≡ a
@@ -113,12 +128,16 @@ told_end_or true = refl
 told_end_or false = refl
 
 pub told_end : (told : List Variable) (entries : List Node) (i : ℕ) → length entries ≤ i →
-    ((v : Variable) → (list_any (same_variable v) told || list_any (same_variable v) (variables_in (map plain_node (drop i entries)))) ≡ list_any (same_variable v) (variables_in (map plain_node entries))) →
+    ((v : Variable) → (list_any (same_variable v) told
+    || list_any (same_variable v) (variables_in (map plain_node (drop i entries))))
+    ≡ list_any (same_variable v) (variables_in (map plain_node entries))) →
     (v : Variable) → list_any (same_variable v) told ≡ list_any (same_variable v) (variables_in (map plain_node entries))
 told_end told entries i past at v =
     let none : drop i entries ≡ [] = drop_all i entries past in
     sym (told_end_or (list_any (same_variable v) told))
-    ∙ subst (λ (ns : List Node). (list_any (same_variable v) told || list_any (same_variable v) (variables_in (map plain_node ns))) ≡ list_any (same_variable v) (variables_in (map plain_node entries))) none (at v)
+    ∙ subst (λ (ns : List Node).
+    (list_any (same_variable v) told || list_any (same_variable v) (variables_in (map plain_node ns)))
+    ≡ list_any (same_variable v) (variables_in (map plain_node entries))) none (at v)
 
 -- ---- the first of a list
 
@@ -165,7 +184,8 @@ members_turn objects first now i o old new in_objects in_first is at in_now held
     one_more : (n : ℕ) → suc n ≡ n + 1
     one_more n = omega arith
 
-pub members_done : (objects : List AreaObject) (nodes : List Node) (i : ℕ) → min (length nodes) (length objects) ≤ i → members_back (take i objects) (map plain_node nodes) ≡ members_back objects (map plain_node nodes)
+pub members_done : (objects : List AreaObject) (nodes : List Node) (i : ℕ) → min (length nodes) (length objects) ≤ i
+    → members_back (take i objects) (map plain_node nodes) ≡ members_back objects (map plain_node nodes)
 members_done objects nodes i le = by_end (cases_lt i (length objects))
   where
     by_end : (i < length objects) ⊎ (length objects ≤ i) → members_back (take i objects) (map plain_node nodes) ≡ members_back objects (map plain_node nodes)
@@ -174,7 +194,8 @@ members_done objects nodes i le = by_end (cases_lt i (length objects))
 
 -- ---- a field that is replaced twice
 
-replaced_twice_at : (b : Bool) (label : List ℕ) (x y : PlainLeaf) (field : PlainField) (fields : List PlainField) → bytes_eq label field.label ≡ b → replaced label y (replaced label x fields) ≡ replaced label y fields →
+replaced_twice_at : (b : Bool) (label : List ℕ) (x y : PlainLeaf) (field : PlainField) (fields : List PlainField)
+    → bytes_eq label field.label ≡ b → replaced label y (replaced label x fields) ≡ replaced label y fields →
     replaced label y (cond b (record field { leaf = x } ∷ fields) (field ∷ replaced label x fields)) ≡ cond b (record field { leaf = y } ∷ fields) (field ∷ replaced label y fields)
 replaced_twice_at true label x y field fields is more = rw is refl
 replaced_twice_at false label x y field fields is more = rw is (ap (λ (fs : List PlainField). field ∷ fs) more)
@@ -193,7 +214,9 @@ replaced_none label x (field ∷ fields) none = by_test (bytes_eq label field.la
     by_test false h more = ap (λ (fs : List PlainField). field ∷ fs) (more h)
 
 -- a struct whose field is taken out, where there is none
-pub taken_none : FieldsAreTheNodes → NodeIsItsFields → (node now : PlainNode) (label : List ℕ) (x : PlainLeaf) → found label (fields_of node) ≡ None → now ≡ node_from (kind_of node) (replaced label x (fields_of node)) → now ≡ node
+pub taken_none : FieldsAreTheNodes → NodeIsItsFields → (node now : PlainNode) (label : List ℕ) (x : PlainLeaf)
+    → found label (fields_of node) ≡ None → now ≡ node_from (kind_of node) (replaced label x (fields_of node))
+    → now ≡ node
 taken_none fields whole node now label x none is = is ∙ (ap (node_from (kind_of node)) (replaced_none label x (fields_of node) none) ∙ whole node)
 
 -- a struct whose field is taken out and put back as another
@@ -225,9 +248,12 @@ lists_turn law labels later label rest next n leaf top now whole is at looked co
     let count : n ≡ k = counted ∙ ap (λ (o : Option PlainLeaf). length (structs_in o)) looked in
     let opened : node_from (kind_of top) (lists_back later (drop k rest) (list_back label (take k rest) (found label fs) fs)) ≡ whole =
     subst (λ (ls : List (List ℕ)). node_from (kind_of top) (lists_back ls rest fs) ≡ whole) is at in
-    let same : now ≡ node_from (kind_of top) (list_back label (take k rest) (found label fs) fs) = made ∙ ap (λ (m : ℕ). node_from (kind_of top) (list_back label (take m rest) (found label fs) fs)) count in
+    let same : now ≡ node_from (kind_of top) (list_back label (take k rest) (found label fs) fs) = made
+    ∙ ap (λ (m : ℕ). node_from (kind_of top) (list_back label (take m rest) (found label fs) fs)) count in
     ap (λ (p : PlainNode). node_from (kind_of p) (lists_back later next (fields_of p))) same
-    ∙ (ap (λ (os : List AreaObject). node_from (kind_of top) (lists_back later os (fields_of (node_from (kind_of top) (list_back label (take k rest) (found label fs) fs))))) (left ∙ ap (λ (m : ℕ). drop m rest) count)
+    ∙ (ap (λ (os : List AreaObject). node_from (kind_of top)
+    (lists_back later os (fields_of (node_from (kind_of top) (list_back label (take k rest) (found label fs) fs)))))
+    (left ∙ ap (λ (m : ℕ). drop m rest) count)
     ∙ (ap (λ (gs : List PlainField). node_from (kind_of top) (lists_back later (drop k rest) gs)) (law (kind_of top) (list_back label (take k rest) (found label fs) fs)) ∙ opened))
 
 -- ---- a table and the fields that hold it
@@ -255,7 +281,8 @@ pub leaf_back_list : NodesAreTheLists → (vars : List Variable) (leaf : PlainLe
 leaf_back_list law vars leaf nodes is =
     ap (leaf_back vars) is ∙ ap (λ (ns : List PlainNode). list_from (table_back vars ns)) (some_same (nodes_in (nodes_from nodes)) nodes (law nodes))
 
-pub objects_back_list : NodesAreTheLists → (objects : List AreaObject) (leaf : PlainLeaf) (nodes : List PlainNode) → leaf ≡ list_from nodes → objects_back objects leaf ≡ list_from (members_back objects nodes)
+pub objects_back_list : NodesAreTheLists → (objects : List AreaObject) (leaf : PlainLeaf) (nodes : List PlainNode)
+    → leaf ≡ list_from nodes → objects_back objects leaf ≡ list_from (members_back objects nodes)
 objects_back_list law objects leaf nodes is =
     ap (objects_back objects) is ∙ ap (λ (ns : List PlainNode). list_from (members_back objects ns)) (some_same (nodes_in (nodes_from nodes)) nodes (law nodes))
 

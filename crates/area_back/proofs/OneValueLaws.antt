@@ -56,7 +56,10 @@ entry_changed law v vars entry entries (Tells u) is all d any more = by_test (sa
     by_test true same h = (
       record { place = zero; entry = entry; told = u; at = refl; tells = is; same = same },
       here v (law.found v u vars ∙ rw (law.same.symm u v ∙ same) refl)
-          ∙ ap (λ (ns : List PlainNode). with_new_value v entry ∷ ns) (entries_same law (put v vars) entries (all_after law v vars (variables_in entries) (like_apart_all law v u (variables_in entries) same d.0) all.1)),
+          ∙ ap (λ (ns : List PlainNode). with_new_value v entry ∷ ns)
+          (entries_same law (put v vars) entries
+          (all_after law v vars (variables_in entries)
+          (like_apart_all law v u (variables_in entries) same d.0) all.1)),
     )
     by_test false same h =
         later_change v entry entries rest _ (one_same law (put v vars) entry rest (Tells u) [] is (found_after law v u vars all.0 (law.same.symm u v ∙ same), tt)) (more d.1 h)
@@ -108,7 +111,9 @@ fields_changed law n m v (Some (Children entries)) fields is none any =
     let c = table_changed law v (nodes_in entries) (law.tables n m (Some (Children entries)) none) any in
     (c.0, some_back (put v (variables_in (nodes_in entries))) (Children entries) fields ∙ ap (λ (ns : List PlainNode). replaced (codes "VarTable") (list_from ns) fields) c.1)
 
-member_changed : Laws → (n m : ℕ) (v : Variable) (node : PlainNode) → member_places n m node ≡ [] → list_any (same_variable v) (object_of node).vars ≡ true → MemberChanged v node (member_back (put v (object_of node).vars) node)
+member_changed : Laws → (n m : ℕ) (v : Variable) (node : PlainNode) → member_places n m node ≡ []
+    → list_any (same_variable v) (object_of node).vars ≡ true
+    → MemberChanged v node (member_back (put v (object_of node).vars) node)
 member_changed law n m v node none any =
     let table = found (codes "VarTable") (fields_of node) in
     let c = fields_changed law n m v table (fields_of node) refl (none_parts (tag_places n m (found (codes "Tag") (fields_of node))) (table_places n m table) none).1 any in
@@ -122,7 +127,8 @@ record NodesChanged (i : ℕ) (v : Variable) (before after : List PlainNode) : T
   entry : EntryFor v (variable_table node)
   is : after ≡ changed_node i (changed_in (codes "VarTable") entry.place (with_new_value v)) before
 
-members_changed : Laws → (n m : ℕ) (i : ℕ) (v : Variable) (nodes : List PlainNode) → members_places n m nodes ≡ [] → i < length nodes → list_any (same_variable v) (object_at (map object_of nodes) i).vars ≡ true →
+members_changed : Laws → (n m : ℕ) (i : ℕ) (v : Variable) (nodes : List PlainNode) → members_places n m nodes ≡ []
+    → i < length nodes → list_any (same_variable v) (object_at (map object_of nodes) i).vars ≡ true →
     NodesChanged i v nodes (members_back (variables_changed_at i (put v) (map object_of nodes)) nodes)
 members_changed law n m i v [] none lt any = absurd (omega (arith, lt))
 members_changed law n m zero v (node ∷ nodes) none lt any =
@@ -174,7 +180,9 @@ list_changed law n label i v (Some (Children nodes)) fields none lt any =
 -- ---- lists
 
 taken_changed : (i : ℕ) (change : List Variable → List Variable) (nodes : List PlainNode) (rest : List AreaObject) → i < length nodes →
-    (take (length nodes) (variables_changed_at i change (map object_of nodes ++ rest)) ≡ variables_changed_at i change (map object_of nodes)) × (drop (length nodes) (variables_changed_at i change (map object_of nodes ++ rest)) ≡ rest)
+    (take (length nodes) (variables_changed_at i change (map object_of nodes ++ rest))
+    ≡ variables_changed_at i change (map object_of nodes))
+    × (drop (length nodes) (variables_changed_at i change (map object_of nodes ++ rest)) ≡ rest)
 taken_changed i change [] rest lt = absurd (omega (arith, lt))
 taken_changed zero change (node ∷ nodes) rest lt = (rw (taken nodes rest) refl, dropped nodes rest)
 taken_changed (suc i) change (node ∷ nodes) rest lt =
@@ -221,7 +229,9 @@ pub record FieldsChanged (i : ℕ) (v : Variable) (objects : List AreaObject) (b
 abbrev pub ListsChanged : ℕ → Variable → List (List ℕ) → List PlainField → Type 0
 ListsChanged i v labels fields = FieldsChanged i v (objects_under labels fields) fields (lists_back labels (variables_changed_at i (put v) (objects_under labels fields)) fields)
 
-first_changed : Laws → (n : ℕ) (label : List ℕ) (labels : List (List ℕ)) (i : ℕ) (v : Variable) (fields : List PlainField) → AllOther label labels → list_places n (found label fields) ≡ [] → lists_places (n + 1) labels fields ≡ [] →
+first_changed : Laws → (n : ℕ) (label : List ℕ) (labels : List (List ℕ)) (i : ℕ) (v : Variable)
+    (fields : List PlainField) → AllOther label labels → list_places n (found label fields) ≡ []
+    → lists_places (n + 1) labels fields ≡ [] →
     i < length (structs_in (found label fields)) → list_any (same_variable v) (object_at (objects_under (label ∷ labels) fields) i).vars ≡ true → ListsChanged i v (label ∷ labels) fields
 first_changed law n label labels i v fields apart none later lt any =
     let leaf = found label fields in
@@ -245,7 +255,9 @@ first_changed law n label labels i v fields apart none later lt any =
       is = rw (taken_here.0, taken_here.1, same) c.is;
     }
 
-later_changed : Laws → (n : ℕ) (label : List ℕ) (labels : List (List ℕ)) (i k : ℕ) (v : Variable) (fields : List PlainField) → list_places n (found label fields) ≡ [] → i ≡ behind (structs_in (found label fields)) k →
+later_changed : Laws → (n : ℕ) (label : List ℕ) (labels : List (List ℕ)) (i k : ℕ) (v : Variable)
+    (fields : List PlainField) → list_places n (found label fields) ≡ []
+    → i ≡ behind (structs_in (found label fields)) k →
     ListsChanged k v labels fields → ListsChanged i v (label ∷ labels) fields
 later_changed law n label labels i k v fields none is more =
     let nodes = structs_in (found label fields) in
@@ -257,10 +269,19 @@ later_changed law n label labels i k v fields none is more =
       at = more.at;
       object = ap (object_at (map object_of nodes ++ rest)) is ∙ (object_behind k nodes rest ∙ more.object);
       entry = more.entry;
-      is = rw (is, behind_changed k (put v) nodes rest, taken nodes (variables_changed_at k (put v) rest), dropped nodes (variables_changed_at k (put v) rest), list_same law n label (found label fields) fields refl none) more.is;
+      is = rw (
+        is,
+        behind_changed k (put v) nodes rest,
+        taken nodes (variables_changed_at k (put v) rest),
+        dropped nodes
+            (variables_changed_at k (put v) rest),
+        list_same law n label (found label fields) fields refl none,
+      ) more.is;
     }
 
-either_changed : Laws → (n : ℕ) (label : List ℕ) (labels : List (List ℕ)) (i : ℕ) (v : Variable) (fields : List PlainField) → AllOther label labels → list_places n (found label fields) ≡ [] → lists_places (n + 1) labels fields ≡ [] →
+either_changed : Laws → (n : ℕ) (label : List ℕ) (labels : List (List ℕ)) (i : ℕ) (v : Variable)
+    (fields : List PlainField) → AllOther label labels → list_places n (found label fields) ≡ []
+    → lists_places (n + 1) labels fields ≡ [] →
     i < length (objects_under (label ∷ labels) fields) → list_any (same_variable v) (object_at (objects_under (label ∷ labels) fields) i).vars ≡ true →
     ((k : ℕ) → k < length (objects_under labels fields) → list_any (same_variable v) (object_at (objects_under labels fields) k).vars ≡ true → ListsChanged k v labels fields) →
     (i < length (structs_in (found label fields))) ⊎ (length (structs_in (found label fields)) ≤ i) → ListsChanged i v (label ∷ labels) fields
@@ -274,7 +295,9 @@ either_changed law n label labels i v fields apart none later lt any more (inr n
     sym (ap (λ (o : AreaObject). list_any (same_variable v) o.vars) (ap (object_at (map object_of nodes ++ rest)) is ∙ object_behind k nodes rest)) ∙ any in
     later_changed law n label labels i k v fields none is (more k (omega (arith, no_less, lt, long_both nodes rest)) there)
 
-lists_changed : Laws → (n : ℕ) (labels : List (List ℕ)) (v : Variable) (fields : List PlainField) → IsDistinct bytes_eq labels → lists_places n labels fields ≡ [] → (i : ℕ) → i < length (objects_under labels fields) →
+lists_changed : Laws → (n : ℕ) (labels : List (List ℕ)) (v : Variable) (fields : List PlainField)
+    → IsDistinct bytes_eq labels → lists_places n labels fields ≡ [] → (i : ℕ)
+    → i < length (objects_under labels fields) →
     list_any (same_variable v) (object_at (objects_under labels fields) i).vars ≡ true → ListsChanged i v labels fields
 unfolding IsDistinct
 lists_changed law n [] v fields apart none i lt any = absurd (omega (arith, lt))

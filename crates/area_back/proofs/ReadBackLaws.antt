@@ -19,8 +19,10 @@ use Rattle.area_back.proofs.UnchangedLaws.{Laws, none_parts, entry_value, found_
 
 -- ---- what is found after a change
 
-found_put_at : (b : Bool) (label : List ℕ) (old leaf : PlainLeaf) (field : PlainField) (fields : List PlainField) → bytes_eq label field.label ≡ b → cond b (Some field.leaf) (found label fields) ≡ Some old →
-    (found label fields ≡ Some old → found label (replaced label leaf fields) ≡ Some leaf) → found label (cond b (record field { leaf = leaf } ∷ fields) (field ∷ replaced label leaf fields)) ≡ Some leaf
+found_put_at : (b : Bool) (label : List ℕ) (old leaf : PlainLeaf) (field : PlainField) (fields : List PlainField)
+    → bytes_eq label field.label ≡ b → cond b (Some field.leaf) (found label fields) ≡ Some old →
+    (found label fields ≡ Some old → found label (replaced label leaf fields) ≡ Some leaf)
+    → found label (cond b (record field { leaf = leaf } ∷ fields) (field ∷ replaced label leaf fields)) ≡ Some leaf
 found_put_at true label old leaf field fields at is more = rw at refl
 found_put_at false label old leaf field fields at is more = rw at (more is)
 
@@ -28,7 +30,8 @@ pub found_put : (label : List ℕ) (old leaf : PlainLeaf) (fields : List PlainFi
 found_put label old leaf [] is = absurd cc
 found_put label old leaf (field ∷ fields) is = found_put_at (bytes_eq label field.label) label old leaf field fields refl is (found_put label old leaf fields)
 
-found_other_at : (b c : Bool) (other label : List ℕ) (leaf : PlainLeaf) (field : PlainField) (fields : List PlainField) → bytes_eq other label ≡ false → bytes_eq label field.label ≡ b → bytes_eq other field.label ≡ c →
+found_other_at : (b c : Bool) (other label : List ℕ) (leaf : PlainLeaf) (field : PlainField) (fields : List PlainField)
+    → bytes_eq other label ≡ false → bytes_eq label field.label ≡ b → bytes_eq other field.label ≡ c →
     found other (replaced label leaf fields) ≡ found other fields →
     found other (cond b (record field { leaf = leaf } ∷ fields) (field ∷ replaced label leaf fields)) ≡ cond c (Some field.leaf) (found other fields)
 found_other_at true true other label leaf field fields apart here there more =
@@ -65,7 +68,8 @@ scripts_put_at : (b : Bool) (label : List ℕ) (old new : List PlainNode) (field
 scripts_put_at true label old new field fields is more = let held : list_from old ≡ field.leaf = cc in ap (λ (l : PlainLeaf). with_script field.label l (scripts_in fields)) held
 scripts_put_at false label old new field fields is more = ap (with_script field.label field.leaf) (more is)
 
-scripts_put : (label : List ℕ) (old new : List PlainNode) (fields : List PlainField) → found label fields ≡ Some (list_from old) → scripts_in (replaced label (list_from new) fields) ≡ scripts_in fields
+scripts_put : (label : List ℕ) (old new : List PlainNode) (fields : List PlainField)
+    → found label fields ≡ Some (list_from old) → scripts_in (replaced label (list_from new) fields) ≡ scripts_in fields
 scripts_put label old new [] is = refl
 scripts_put label old new (field ∷ fields) is = scripts_put_at (bytes_eq label field.label) label old new field fields is (scripts_put label old new fields)
 
@@ -99,13 +103,16 @@ text_again (Some name) (Some t) v (IntVar other n) e same =
     let apart : false ≡ true = sym (ap (λ (x : Variable). same_variable x (IntVar other n)) told) ∙ same in
     absurd cc
 
-again_by_type : (b d : Bool) (name value : Option PlainLeaf) (v w : Variable) → cond b (int_entry (string_in name) (int_in value)) (cond d (text_entry (string_in name) (string_in value)) Unread) ≡ Tells v → same_variable v w ≡ true →
+again_by_type : (b d : Bool) (name value : Option PlainLeaf) (v w : Variable)
+    → cond b (int_entry (string_in name) (int_in value)) (cond d (text_entry (string_in name) (string_in value)) Unread)
+    ≡ Tells v → same_variable v w ≡ true →
     cond b (int_entry (string_in name) (int_in (Some (value_of w)))) (cond d (text_entry (string_in name) (string_in (Some (value_of w)))) Unread) ≡ Tells w
 again_by_type true d name value v w e same = int_again (string_in name) (int_in value) v w e same
 again_by_type false true name value v w e same = text_again (string_in name) (string_in value) v w e same
 again_by_type false false name value v w e same = absurd cc
 
-tells_again : (type : Option ℕ) (name value : Option PlainLeaf) (v w : Variable) → typed_entry type name value ≡ Tells v → same_variable v w ≡ true → typed_entry type name (Some (value_of w)) ≡ Tells w
+tells_again : (type : Option ℕ) (name value : Option PlainLeaf) (v w : Variable) → typed_entry type name value ≡ Tells v
+    → same_variable v w ≡ true → typed_entry type name (Some (value_of w)) ≡ Tells w
 tells_again None name value v w e same = absurd cc
 tells_again (Some t) name value v w e same = again_by_type (t == 1) (t == 3) name value v w e same
 
@@ -114,7 +121,13 @@ entry_again law entry v w is same =
     let fields = fields_of entry in
     let new = replaced (codes "Value") (value_of w) fields in
     ap (λ (fs : List PlainField). typed_entry (dword_in (found (codes "Type") fs)) (found (codes "Name") fs) (found (codes "Value") fs)) (law.tree.fields (kind_of entry) new)
-    ∙ (rw (found_other (codes "Type") (codes "Value") (value_of w) fields refl, found_other (codes "Name") (codes "Value") (value_of w) fields refl, found_put (codes "Value") (value_of v) (value_of w) fields (entry_value entry v is))
+    ∙ (rw (
+      found_other (codes "Type") (codes "Value") (value_of w) fields refl,
+      found_other (codes "Name")
+          (codes "Value") (value_of w) fields refl,
+      found_put (codes "Value") (value_of v) (value_of w) fields
+          (entry_value entry v is),
+    )
     (tells_again (dword_in (found (codes "Type") fields)) (found (codes "Name") fields) (found (codes "Value") fields) v w is same))
 
 -- ---- what a table tells on the way back
@@ -204,7 +217,9 @@ matching_told law x vars (v ∷ some) = by_match (matching v vars) refl (same_va
     by_match (Some w) at false same any more =
         rw (law.same.symm x w ∙ (sym (law.same.congr v w x (matching_same v w vars at)) ∙ (law.same.symm v x ∙ same))) more
 
-matching_others : Laws → (x : Variable) (some vars : List Variable) → matching x (filter (λ v. not (list_any (same_variable v) some)) vars) ≡ cond (list_any (same_variable x) some) None (matching x vars)
+matching_others : Laws → (x : Variable) (some vars : List Variable)
+    → matching x (filter (λ v. not (list_any (same_variable v) some)) vars)
+    ≡ cond (list_any (same_variable x) some) None (matching x vars)
 matching_others law x some [] = by_test (list_any (same_variable x) some)
   where
     nothing : Option Variable
@@ -218,7 +233,9 @@ matching_others law x some (w ∷ vars) =
   where
     by_test : (b : Bool) → list_any (same_variable w) some ≡ b → (c : Bool) → same_variable x w ≡ c → (any : Bool) → list_any (same_variable x) some ≡ any →
         matching x (filter (λ v. not (list_any (same_variable v) some)) vars) ≡ cond any None (matching x vars) →
-        matching x (cond (not b) (w ∷ filter (λ v. not (list_any (same_variable v) some)) vars) (filter (λ v. not (list_any (same_variable v) some)) vars)) ≡ cond any None (cond c (Some w) (matching x vars))
+        matching x (cond (not b) (w ∷ filter (λ v. not (list_any (same_variable v) some)) vars)
+        (filter (λ v. not (list_any (same_variable v) some)) vars))
+        ≡ cond any None (cond c (Some w) (matching x vars))
     by_test true here true same true is more = more
     by_test true here true same false is more = let e : false ≡ true = sym is ∙ (any_like law x w some same ∙ here) in absurd cc
     by_test true here false same any is more = more
@@ -234,7 +251,8 @@ matching_joined : (x : Variable) (first rest : List Variable) → matching x (fi
 matching_joined x [] rest = refl
 matching_joined x (v ∷ first) rest = by_test (same_variable x v) (matching_joined x first rest)
   where
-    by_test : (b : Bool) → matching x (first ++ rest) ≡ either (matching x first) (matching x rest) → cond b (Some v) (matching x (first ++ rest)) ≡ either (cond b (Some v) (matching x first)) (matching x rest)
+    by_test : (b : Bool) → matching x (first ++ rest) ≡ either (matching x first) (matching x rest)
+        → cond b (Some v) (matching x (first ++ rest)) ≡ either (cond b (Some v) (matching x first)) (matching x rest)
     by_test true more = refl
     by_test false more = more
 
@@ -290,11 +308,13 @@ distinct_joined (v ∷ first) rest d e apart = (both first d.0, distinct_joined 
     both (x ∷ xs) all = (all.0, both xs all.1)
 
 -- the others are apart from each variable of the table
-others_apart : Laws → (v : Variable) (some vars : List Variable) → list_any (same_variable v) some ≡ true → AllByRecursion (λ y. same_variable v y ≡ false) (filter (λ x. not (list_any (same_variable x) some)) vars)
+others_apart : Laws → (v : Variable) (some vars : List Variable) → list_any (same_variable v) some ≡ true
+    → AllByRecursion (λ y. same_variable v y ≡ false) (filter (λ x. not (list_any (same_variable x) some)) vars)
 others_apart law v some [] in_some = tt
 others_apart law v some (w ∷ vars) in_some = by_test (list_any (same_variable w) some) refl (same_variable v w) refl (others_apart law v some vars in_some)
   where
-    by_test : (b : Bool) → list_any (same_variable w) some ≡ b → (c : Bool) → same_variable v w ≡ c → AllByRecursion (λ y. same_variable v y ≡ false) (filter (λ x. not (list_any (same_variable x) some)) vars) →
+    by_test : (b : Bool) → list_any (same_variable w) some ≡ b → (c : Bool) → same_variable v w ≡ c
+        → AllByRecursion (λ y. same_variable v y ≡ false) (filter (λ x. not (list_any (same_variable x) some)) vars) →
         AllByRecursion (λ y. same_variable v y ≡ false) (cond (not b) (w ∷ filter (λ x. not (list_any (same_variable x) some)) vars) (filter (λ x. not (list_any (same_variable x) some)) vars))
     by_test true is c same more = more
     by_test false is true same more = let e : false ≡ true = sym is ∙ (sym (any_like law v w some same) ∙ in_some) in absurd cc
@@ -307,7 +327,11 @@ all_others_apart law some vars (v ∷ few) all = (others_apart law v some vars a
 
 all_any : Laws → (first rest : List Variable) → AllByRecursion (λ v. list_any (same_variable v) (first ++ rest) ≡ true) rest
 all_any law first [] = tt
-all_any law first (v ∷ rest) = (here first, subst (λ (xs : List Variable). AllByRecursion (λ w. list_any (same_variable w) xs ≡ true) rest) (append_assoc first (v ∷ []) rest) (all_any law (first ++ v ∷ []) rest))
+all_any law first (v ∷ rest) = (
+  here first,
+  subst (λ (xs : List Variable). AllByRecursion (λ w. list_any (same_variable w) xs ≡ true) rest)
+      (append_assoc first (v ∷ []) rest) (all_any law (first ++ v ∷ []) rest),
+)
   where
     one : (b : Bool) → (b || true) ≡ true
     one true = refl
@@ -320,7 +344,8 @@ all_any law first (v ∷ rest) = (here first, subst (λ (xs : List Variable). Al
 told_any : Laws → (vars some all : List Variable) → AllByRecursion (λ v. list_any (same_variable v) all ≡ true) some → AllByRecursion (λ v. list_any (same_variable v) all ≡ true) (told vars some)
 told_any law vars some all are = all_told (λ v. list_any (same_variable v) all ≡ true) vars some (λ v w same is. sym (any_like law v w all same) ∙ is) are
 
-table_told_distinct : Laws → (vars : List Variable) (entries : List PlainNode) → IsDistinct same_variable vars → IsDistinct same_variable (variables_in entries) → IsDistinct same_variable (table_told vars entries)
+table_told_distinct : Laws → (vars : List Variable) (entries : List PlainNode) → IsDistinct same_variable vars
+    → IsDistinct same_variable (variables_in entries) → IsDistinct same_variable (table_told vars entries)
 table_told_distinct law vars entries d e =
     let some = variables_in entries in
     distinct_joined (told vars some) (others vars entries) (told_distinct law vars some e) (law.filter (λ v. not (list_any (same_variable v) some)) vars d)
@@ -389,7 +414,8 @@ later_is earlier more Broken = refl
 later_is earlier more Unread = refl
 later_is earlier more (Tells v) = append_assoc earlier (v ∷ []) more
 
-entries_whole : Laws → (n m e : ℕ) (earlier : List Variable) (entries : List PlainNode) → HaveForm entries → IsDistinct same_variable (earlier ++ variables_in entries) → entries_places n m e earlier entries ≡ []
+entries_whole : Laws → (n m e : ℕ) (earlier : List Variable) (entries : List PlainNode) → HaveForm entries
+    → IsDistinct same_variable (earlier ++ variables_in entries) → entries_places n m e earlier entries ≡ []
 entries_whole law n m e earlier [] all d = refl
 entries_whole law n m e earlier (entry ∷ entries) all d =
     rw (entry_whole law (record { list = n; member = m; entry = e }) earlier (variables_in entries) (entry_of entry) all.0 d)
@@ -442,7 +468,8 @@ appended_read law n m vars fields is d =
       told = λ v. ap (λ (o : Option PlainLeaf). matching v (variables_in (structs_in o))) there ∙ table_matches law vars [] v;
     }
 
-replaced_read : Laws → (n m : ℕ) (vars : List Variable) (entries : List PlainNode) (fields : List PlainField) → found (codes "VarTable") fields ≡ Some (list_from entries) → IsDistinct same_variable vars →
+replaced_read : Laws → (n m : ℕ) (vars : List Variable) (entries : List PlainNode) (fields : List PlainField)
+    → found (codes "VarTable") fields ≡ Some (list_from entries) → IsDistinct same_variable vars →
     IsDistinct same_variable (variables_in entries) → HaveForm entries → FieldsRead n m vars fields (replaced (codes "VarTable") (list_from (table_back vars entries)) fields)
 replaced_read law n m vars entries fields is d e forms =
     let there = found_put (codes "VarTable") (list_from entries) (list_from (table_back vars entries)) fields is in
@@ -453,7 +480,8 @@ replaced_read law n m vars entries fields is d e forms =
       told = λ v. ap (λ (o : Option PlainLeaf). matching v (variables_in (structs_in o))) there ∙ table_matches law vars entries v;
     }
 
-fields_read : Laws → (n m : ℕ) (vars : List Variable) (table : Option PlainLeaf) (fields : List PlainField) → found (codes "VarTable") fields ≡ table → table_places n m table ≡ [] → IsDistinct same_variable vars →
+fields_read : Laws → (n m : ℕ) (vars : List Variable) (table : Option PlainLeaf) (fields : List PlainField)
+    → found (codes "VarTable") fields ≡ table → table_places n m table ≡ [] → IsDistinct same_variable vars →
     FieldsRead n m vars fields (fields_back vars table fields)
 fields_read law n m [] None fields is none d = nothing_read n m fields is
 fields_read law n m (v ∷ vars) None fields is none d = appended_read law n m (v ∷ vars) fields is d
@@ -496,7 +524,9 @@ members_read law n m (o ∷ objects) (node ∷ nodes) same d none =
 
 -- ---- lists
 
-list_read : Laws → (n : ℕ) (label : List ℕ) (objects : List AreaObject) (leaf : Option PlainLeaf) (fields : List PlainField) → found label fields ≡ leaf → map bare objects ≡ map bare (map object_of (structs_in leaf)) →
+list_read : Laws → (n : ℕ) (label : List ℕ) (objects : List AreaObject) (leaf : Option PlainLeaf)
+    (fields : List PlainField) → found label fields ≡ leaf
+    → map bare objects ≡ map bare (map object_of (structs_in leaf)) →
     HaveDistinct objects → list_places n leaf ≡ [] →
     (list_places n (found label (list_back label objects leaf fields)) ≡ []) × AllAlike (map object_of (structs_in (found label (list_back label objects leaf fields)))) objects
 list_read law n label [] None fields is same d none = rw is (refl, tt)
@@ -509,7 +539,8 @@ list_read law n label objects (Some (Children nodes)) fields is same d none =
     let there : found label (replaced label (list_from new) fields) ≡ Some (list_from new) = found_put label (Children nodes) (list_from new) fields is in
     rw there (ap (members_places n 1) (nodes_there law new) ∙ read.0, subst (λ (ns : List PlainNode). AllAlike (map object_of ns) objects) (sym (nodes_there law new)) read.1)
 
-list_other : (other label : List ℕ) (objects : List AreaObject) (leaf : Option PlainLeaf) (fields : List PlainField) → bytes_eq other label ≡ false → found other (list_back label objects leaf fields) ≡ found other fields
+list_other : (other label : List ℕ) (objects : List AreaObject) (leaf : Option PlainLeaf) (fields : List PlainField)
+    → bytes_eq other label ≡ false → found other (list_back label objects leaf fields) ≡ found other fields
 list_other other label objects None fields apart = refl
 list_other other label objects (Some leaf) fields apart = found_other other label (objects_back objects leaf) fields apart
 
@@ -517,7 +548,8 @@ list_other other label objects (Some leaf) fields apart = found_other other labe
 abbrev pub AllOther : List ℕ → List (List ℕ) → Type 0
 AllOther label labels = AllByRecursion (λ l. bytes_eq label l ≡ false) labels
 
-lists_other : (other : List ℕ) (labels : List (List ℕ)) (objects : List AreaObject) (fields : List PlainField) → AllOther other labels → found other (lists_back labels objects fields) ≡ found other fields
+lists_other : (other : List ℕ) (labels : List (List ℕ)) (objects : List AreaObject) (fields : List PlainField)
+    → AllOther other labels → found other (lists_back labels objects fields) ≡ found other fields
 lists_other other [] objects fields apart = refl
 lists_other other (label ∷ labels) objects fields apart =
     let k = length (structs_in (found label fields)) in
@@ -562,7 +594,8 @@ alike_joined [] rest (x ∷ xs) ys p q = absurd p
 alike_joined (o ∷ first) rest [] ys p q = absurd p
 alike_joined (o ∷ first) rest (x ∷ xs) ys p q = (p.0, alike_joined first rest xs ys p.1 q)
 
-lists_read : Laws → (n : ℕ) (labels : List (List ℕ)) (objects : List AreaObject) (fields : List PlainField) → IsDistinct bytes_eq labels → map bare objects ≡ map bare (objects_under labels fields) → HaveDistinct objects →
+lists_read : Laws → (n : ℕ) (labels : List (List ℕ)) (objects : List AreaObject) (fields : List PlainField)
+    → IsDistinct bytes_eq labels → map bare objects ≡ map bare (objects_under labels fields) → HaveDistinct objects →
     lists_places n labels fields ≡ [] →
     (lists_places n labels (lists_back labels objects fields) ≡ []) × AllAlike (objects_under labels (lists_back labels objects fields)) objects
 unfolding IsDistinct

@@ -52,7 +52,9 @@ kept_sound test all (n ∷ nodes) sound = let parts = both (all n) (list_all all
     by_test true here more = and_true _ _ here more
     by_test false here more = more
 
-valued_sound : TreeLaws → (depth : ℕ) (vars : List Variable) (entries : List PlainNode) → list_all (is_sound_node (suc depth)) entries ≡ true → list_all (is_sound_node (suc depth)) (map (valued vars) entries) ≡ true
+valued_sound : TreeLaws → (depth : ℕ) (vars : List Variable) (entries : List PlainNode)
+    → list_all (is_sound_node (suc depth)) entries ≡ true
+    → list_all (is_sound_node (suc depth)) (map (valued vars) entries) ≡ true
 valued_sound law depth vars [] sound = refl
 valued_sound law depth vars (entry ∷ entries) sound =
     let parts = both (is_sound_node (suc depth) entry) (list_all (is_sound_node (suc depth)) entries) sound in
@@ -66,7 +68,9 @@ joined_sound : (all : PlainNode → Bool) (first rest : List PlainNode) → list
 joined_sound all [] rest p q = q
 joined_sound all (n ∷ first) rest p q = let parts = both (all n) (list_all all first) p in and_true _ _ parts.0 (joined_sound all first rest parts.1 q)
 
-table_sound : TreeLaws → (depth : ℕ) (vars : List Variable) (entries : List PlainNode) → list_all (is_sound_node (suc depth)) entries ≡ true → is_sound_leaf (suc depth) (list_from (table_back vars entries)) ≡ true
+table_sound : TreeLaws → (depth : ℕ) (vars : List Variable) (entries : List PlainNode)
+    → list_all (is_sound_node (suc depth)) entries ≡ true
+    → is_sound_leaf (suc depth) (list_from (table_back vars entries)) ≡ true
 table_sound law depth vars entries sound =
     law.list_sound (suc depth) (table_back vars entries)
     ∙ joined_sound (is_sound_node (suc depth)) (entries_back vars entries) (map new_entry (others vars entries))
@@ -83,21 +87,28 @@ leaf_sound law depth vars (Child node) sound = sound
 leaf_sound law depth vars (Children entries) sound =
     table_sound law depth vars (nodes_in entries) (list_parts law (suc depth) (Children entries) (nodes_in entries) (sym (law.list (Children entries) (nodes_in entries) refl)) sound)
 
-fields_sound : TreeLaws → (depth kind : ℕ) (vars : List Variable) (table : Option PlainLeaf) (fields : List PlainField) → table ≡ found (codes "VarTable") fields → is_sound_node (suc (suc depth)) (node_from kind fields) ≡ true →
+fields_sound : TreeLaws → (depth kind : ℕ) (vars : List Variable) (table : Option PlainLeaf) (fields : List PlainField)
+    → table ≡ found (codes "VarTable") fields → is_sound_node (suc (suc depth)) (node_from kind fields) ≡ true →
     is_sound_node (suc (suc depth)) (node_from kind (fields_back vars table fields)) ≡ true
 fields_sound law depth kind [] None fields is sound = sound
 fields_sound law depth kind (v ∷ vars) None fields is sound =
     law.appended_sound (suc depth) kind (codes "VarTable") (list_from (table_back (v ∷ vars) [])) fields sound (table_sound law depth (v ∷ vars) [] refl) (sym is)
 fields_sound law depth kind [] (Some table) fields is sound =
-    law.replaced_sound (suc depth) kind (codes "VarTable") (leaf_back [] table) fields sound (leaf_sound law depth [] table (law.found_sound (suc depth) kind (codes "VarTable") table fields sound (sym is)))
+    law.replaced_sound (suc depth) kind (codes "VarTable") (leaf_back [] table) fields sound
+    (leaf_sound law depth [] table
+    (law.found_sound (suc depth) kind (codes "VarTable") table fields sound (sym is)))
 fields_sound law depth kind (v ∷ vars) (Some table) fields is sound =
-    law.replaced_sound (suc depth) kind (codes "VarTable") (leaf_back (v ∷ vars) table) fields sound (leaf_sound law depth (v ∷ vars) table (law.found_sound (suc depth) kind (codes "VarTable") table fields sound (sym is)))
+    law.replaced_sound (suc depth) kind (codes "VarTable") (leaf_back (v ∷ vars) table) fields sound
+    (leaf_sound law depth (v ∷ vars) table
+    (law.found_sound (suc depth) kind (codes "VarTable") table fields sound (sym is)))
 
 member_sound : TreeLaws → (depth : ℕ) (vars : List Variable) (node : PlainNode) → is_sound_node (suc (suc depth)) node ≡ true → is_sound_node (suc (suc depth)) (member_back vars node) ≡ true
 member_sound law depth vars node sound =
     fields_sound law depth (kind_of node) vars (found (codes "VarTable") (fields_of node)) (fields_of node) refl (node_sound_as law (suc (suc depth)) node sound)
 
-members_sound : TreeLaws → (depth : ℕ) (objects : List AreaObject) (nodes : List PlainNode) → list_all (is_sound_node (suc (suc depth))) nodes ≡ true → list_all (is_sound_node (suc (suc depth))) (members_back objects nodes) ≡ true
+members_sound : TreeLaws → (depth : ℕ) (objects : List AreaObject) (nodes : List PlainNode)
+    → list_all (is_sound_node (suc (suc depth))) nodes ≡ true
+    → list_all (is_sound_node (suc (suc depth))) (members_back objects nodes) ≡ true
 members_sound law depth [] nodes sound = sound
 members_sound law depth (o ∷ objects) [] sound = refl
 members_sound law depth (o ∷ objects) (node ∷ nodes) sound =
@@ -111,18 +122,22 @@ objects_sound law depth objects (Children nodes) sound =
     let parts = list_parts law (suc (suc depth)) (Children nodes) (nodes_in nodes) (sym (law.list (Children nodes) (nodes_in nodes) refl)) sound in
     law.list_sound (suc (suc depth)) (members_back objects (nodes_in nodes)) ∙ members_sound law depth objects (nodes_in nodes) parts
 
-list_sound : TreeLaws → (depth kind : ℕ) (label : List ℕ) (objects : List AreaObject) (leaf : Option PlainLeaf) (fields : List PlainField) → leaf ≡ found label fields → is_sound_node (suc (suc (suc depth))) (node_from kind fields) ≡ true →
+list_sound : TreeLaws → (depth kind : ℕ) (label : List ℕ) (objects : List AreaObject) (leaf : Option PlainLeaf)
+    (fields : List PlainField) → leaf ≡ found label fields
+    → is_sound_node (suc (suc (suc depth))) (node_from kind fields) ≡ true →
     is_sound_node (suc (suc (suc depth))) (node_from kind (list_back label objects leaf fields)) ≡ true
 list_sound law depth kind label objects None fields is sound = sound
 list_sound law depth kind label objects (Some leaf) fields is sound =
-    law.replaced_sound (suc (suc depth)) kind label (objects_back objects leaf) fields sound (objects_sound law depth objects leaf (law.found_sound (suc (suc depth)) kind label leaf fields sound (sym is)))
+    law.replaced_sound (suc (suc depth)) kind label (objects_back objects leaf) fields sound
+    (objects_sound law depth objects leaf (law.found_sound (suc (suc depth)) kind label leaf fields sound (sym is)))
 
 lists_sound : TreeLaws → (depth kind : ℕ) (labels : List (List ℕ)) (objects : List AreaObject) (fields : List PlainField) → is_sound_node (suc (suc (suc depth))) (node_from kind fields) ≡ true →
     is_sound_node (suc (suc (suc depth))) (node_from kind (lists_back labels objects fields)) ≡ true
 lists_sound law depth kind [] objects fields sound = sound
 lists_sound law depth kind (label ∷ labels) objects fields sound =
     let n = length (structs_in (found label fields)) in
-    lists_sound law depth kind labels (drop n objects) (list_back label (take n objects) (found label fields) fields) (list_sound law depth kind label (take n objects) (found label fields) fields refl sound)
+    lists_sound law depth kind labels (drop n objects) (list_back label (take n objects) (found label fields) fields)
+    (list_sound law depth kind label (take n objects) (found label fields) fields refl sound)
 
 pub back_sound : TreeLaws → (objects : List AreaObject) (top : PlainNode) → is_sound top ≡ true → is_sound (node_from (kind_of top) (lists_back list_labels objects (fields_of top))) ≡ true
 unfolding is_sound

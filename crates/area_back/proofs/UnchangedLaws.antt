@@ -93,7 +93,9 @@ text_tells None t value v is e = absurd cc
 text_tells (Some name) None value v is e = absurd cc
 text_tells (Some name) (Some t) value v is e = let told : TextVar name t ≡ v = cc in text_value value t is ∙ ap (λ (w : Variable). Some (value_of w)) told
 
-tells_by_type : (b d : Bool) (name value : Option PlainLeaf) (v : Variable) → cond b (int_entry (string_in name) (int_in value)) (cond d (text_entry (string_in name) (string_in value)) Unread) ≡ Tells v → value ≡ Some (value_of v)
+tells_by_type : (b d : Bool) (name value : Option PlainLeaf) (v : Variable)
+    → cond b (int_entry (string_in name) (int_in value)) (cond d (text_entry (string_in name) (string_in value)) Unread)
+    ≡ Tells v → value ≡ Some (value_of v)
 tells_by_type true d name value v e = int_tells (string_in name) (int_in value) value v refl e
 tells_by_type false true name value v e = text_tells (string_in name) (string_in value) value v refl e
 tells_by_type false false name value v e = absurd cc
@@ -136,11 +138,15 @@ one_back vars e entry rest = cond (stays vars e) (with_value (variable_for vars 
 pub entries_one : (vars : List Variable) (entry : PlainNode) (entries : List PlainNode) → entries_back vars (entry ∷ entries) ≡ one_back vars (entry_of entry) entry (entries_back vars entries)
 entries_one vars entry entries = by_test (is_kept vars entry)
   where
-    by_test : (b : Bool) → map (valued vars) (cond b (entry ∷ filter (is_kept vars) entries) (filter (is_kept vars) entries)) ≡ cond b (valued vars entry ∷ entries_back vars entries) (entries_back vars entries)
+    by_test : (b : Bool) → map (valued vars)
+        (cond b (entry ∷ filter (is_kept vars) entries) (filter (is_kept vars) entries))
+        ≡ cond b (valued vars entry ∷ entries_back vars entries) (entries_back vars entries)
     by_test true = refl
     by_test false = refl
 
-pub one_same : Laws → (vars : List Variable) (entry : PlainNode) (rest : List PlainNode) (e : Entry) (more : List Variable) → entry_of entry ≡ e → AllFound vars (with_entry e more) → one_back vars e entry rest ≡ entry ∷ rest
+pub one_same : Laws → (vars : List Variable) (entry : PlainNode) (rest : List PlainNode) (e : Entry)
+    (more : List Variable) → entry_of entry ≡ e → AllFound vars (with_entry e more)
+    → one_back vars e entry rest ≡ entry ∷ rest
 one_same law vars entry rest Broken more is all = refl
 one_same law vars entry rest Unread more is all = refl
 one_same law vars entry rest (Tells v) more is all =
@@ -199,7 +205,9 @@ members_same law n m (node ∷ nodes) none =
 
 -- ---- lists
 
-pub list_same : Laws → (n : ℕ) (label : List ℕ) (leaf : Option PlainLeaf) (fields : List PlainField) → found label fields ≡ leaf → list_places n leaf ≡ [] → list_back label (map object_of (structs_in leaf)) leaf fields ≡ fields
+pub list_same : Laws → (n : ℕ) (label : List ℕ) (leaf : Option PlainLeaf) (fields : List PlainField)
+    → found label fields ≡ leaf → list_places n leaf ≡ []
+    → list_back label (map object_of (structs_in leaf)) leaf fields ≡ fields
 list_same law n label None fields is none = refl
 list_same law n label (Some (Holds scalar)) fields is none = absurd cc
 list_same law n label (Some (Child node)) fields is none = absurd cc
@@ -221,7 +229,12 @@ lists_same law n [] fields none = refl
 lists_same law n (label ∷ labels) fields none =
     let parts = none_parts (list_places n (found label fields)) (lists_places (n + 1) labels fields) none in
     let nodes = structs_in (found label fields) in
-    rw (taken nodes (objects_under labels fields), dropped nodes (objects_under labels fields), list_same law n label (found label fields) fields refl parts.0) (lists_same law (n + 1) labels fields parts.1)
+    rw (
+      taken nodes (objects_under labels fields),
+      dropped nodes (objects_under labels fields),
+      list_same law n label
+          (found label fields) fields refl parts.0,
+    ) (lists_same law (n + 1) labels fields parts.1)
 
 pub unchanged_goes_back : Laws → UnchangedGoesBack
 unchanged_goes_back law tree none =

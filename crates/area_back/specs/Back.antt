@@ -46,7 +46,8 @@ variable_for vars (Tells v) = matching v vars
 
 abbrev pub with_value : Option Variable → PlainNode → PlainNode
 with_value None entry = entry
-with_value (Some v) entry = node_from (kind_of entry) (replaced (codes "Value") (value_of v) (fields_of entry))
+with_value (Some v) entry = node_from (kind_of entry)
+    (replaced (codes "Value") (value_of v) (fields_of entry))
 
 -- an entry with the value that its variable has now
 abbrev pub valued : List Variable → PlainNode → PlainNode
@@ -71,17 +72,20 @@ leaf_back vars (Children entries) = list_from (table_back vars (nodes_in entries
 -- an object without a table gets one as its last field exactly where it has variables
 abbrev pub fields_back : List Variable → Option PlainLeaf → List PlainField → List PlainField
 fields_back [] None fields = fields
-fields_back (v ∷ vars) None fields = appended (codes "VarTable") (list_from (table_back (v ∷ vars) [])) fields
+fields_back (v ∷ vars) None fields = appended (codes "VarTable")
+    (list_from (table_back (v ∷ vars) [])) fields
 fields_back vars (Some table) fields = replaced (codes "VarTable") (leaf_back vars table) fields
 
 abbrev pub member_back : List Variable → PlainNode → PlainNode
-member_back vars node = node_from (kind_of node) (fields_back vars (found (codes "VarTable") (fields_of node)) (fields_of node))
+member_back vars node = node_from (kind_of node)
+    (fields_back vars (found (codes "VarTable") (fields_of node)) (fields_of node))
 
 -- each member with the variables of its object
 abbrev pub members_back : List AreaObject → List PlainNode → List PlainNode
 members_back [] nodes = nodes
 members_back (object ∷ objects) [] = []
-members_back (object ∷ objects) (node ∷ nodes) = member_back object.vars node ∷ members_back objects nodes
+members_back (object ∷ objects)
+    (node ∷ nodes) = member_back object.vars node ∷ members_back objects nodes
 
 -- a list of objects on the way back; what is no list stays
 abbrev pub objects_back : List AreaObject → PlainLeaf → PlainLeaf
@@ -89,7 +93,8 @@ objects_back objects (Holds scalar) = Holds scalar
 objects_back objects (Child node) = Child node
 objects_back objects (Children nodes) = list_from (members_back objects (nodes_in nodes))
 
-abbrev pub list_back : List ℕ → List AreaObject → Option PlainLeaf → List PlainField → List PlainField
+abbrev pub list_back : List ℕ → List AreaObject → Option PlainLeaf → List PlainField
+    → List PlainField
 list_back label objects None fields = fields
 list_back label objects (Some leaf) fields = replaced label (objects_back objects leaf) fields
 
@@ -98,10 +103,14 @@ abbrev pub lists_back : List (List ℕ) → List AreaObject → List PlainField 
 lists_back [] objects fields = fields
 lists_back (label ∷ labels) objects fields =
     let members = length (structs_in (found label fields)) in
-    lists_back labels (drop members objects) (list_back label (take members objects) (found label fields) fields)
+    lists_back labels (drop members objects)
+    (list_back label (take members objects) (found label fields) fields)
 
 abbrev pub back : PlainGff → List AreaObject → PlainGff
-back tree objects = record tree { top = node_from (kind_of tree.top) (lists_back list_labels objects (fields_of tree.top)) }
+back tree objects = record tree {
+  top = node_from (kind_of tree.top)
+      (lists_back list_labels objects (fields_of tree.top));
+}
 
 abbrev pub tree_back : PlainArea → PlainGff
 tree_back area = back area.tree area.objects

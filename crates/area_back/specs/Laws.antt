@@ -12,7 +12,8 @@ use Rattle.area_rules.specs.Area.{PlainArea, object_at, variables_changed_at, Is
 
 -- The area that nobody changed goes back as the tree it was read from.
 abbrev pub UnchangedGoesBack : Type 0
-UnchangedGoesBack = (tree : PlainGff) → broken_places tree.top ≡ [] → back tree (objects_of tree.top) ≡ tree
+UnchangedGoesBack = (tree : PlainGff) → broken_places tree.top ≡ []
+    → back tree (objects_of tree.top) ≡ tree
 
 -- Objects are alike that have one tag, the same names of resources, and of each type and name the
 -- same variable.
@@ -48,16 +49,19 @@ changed_leaf i change (Holds scalar) = Holds scalar
 changed_leaf i change (Child node) = Child node
 changed_leaf i change (Children nodes) = list_from (changed_node i change (nodes_in nodes))
 
-abbrev pub changed_list : List ℕ → ℕ → (PlainNode → PlainNode) → Option PlainLeaf → List PlainField → List PlainField
+abbrev pub changed_list : List ℕ → ℕ → (PlainNode → PlainNode) → Option PlainLeaf → List PlainField
+    → List PlainField
 changed_list label i change None fields = fields
 changed_list label i change (Some leaf) fields = replaced label (changed_leaf i change leaf) fields
 
 abbrev pub changed_in : List ℕ → ℕ → (PlainNode → PlainNode) → PlainNode → PlainNode
-changed_in label i change node = node_from (kind_of node) (changed_list label i change (found label (fields_of node)) (fields_of node))
+changed_in label i change node = node_from (kind_of node)
+    (changed_list label i change (found label (fields_of node)) (fields_of node))
 
 -- A struct with another value in its field Value.
 abbrev pub with_new_value : Variable → PlainNode → PlainNode
-with_new_value v node = node_from (kind_of node) (replaced (codes "Value") (value_of v) (fields_of node))
+with_new_value v node = node_from (kind_of node)
+    (replaced (codes "Value") (value_of v) (fields_of node))
 
 -- A table's entry that tells the variable of one type and name, and where it stands.
 pub record EntryFor (v : Variable) (table : List PlainNode) : Type 0 where
@@ -85,8 +89,13 @@ pub record OneValueDiffers (tree : PlainGff) (i : ℕ) (v : Variable) : Type 0 w
   pub entry : EntryFor v (variable_table member.member)
   pub is :
       back tree (variables_changed_at i (put v) (objects_of tree.top))
-      ≡ record tree { top = changed_in member.label member.place (changed_in (codes "VarTable") entry.place (with_new_value v)) tree.top }
+      ≡ record tree {
+        top = changed_in member.label member.place
+            (changed_in (codes "VarTable") entry.place (with_new_value v)) tree.top;
+      }
 
 abbrev pub PutChangesOneValue : Type 0
-PutChangesOneValue = (tree : PlainGff) (i : ℕ) (v : Variable) → broken_places tree.top ≡ [] → i < length (objects_of tree.top) →
-    list_any (same_variable v) (object_at (objects_of tree.top) i).vars ≡ true → OneValueDiffers tree i v
+PutChangesOneValue = (tree : PlainGff) (i : ℕ) (v : Variable) → broken_places tree.top ≡ []
+    → i < length (objects_of tree.top) →
+    list_any (same_variable v) (object_at (objects_of tree.top) i).vars ≡ true
+    → OneValueDiffers tree i v

@@ -33,12 +33,15 @@ all_both P [] ys p q = q
 all_both P (x ∷ xs) ys p q = (p.0, all_both P xs ys p.1 q)
 
 module _ (same : IsEquivalence same_variable) where
-  later_distinct : (place : Place) (earlier : List Variable) (entry : Entry) → entry_places place earlier entry ≡ [] → IsDistinct same_variable earlier → IsDistinct same_variable (with_later earlier entry)
+  later_distinct : (place : Place) (earlier : List Variable) (entry : Entry) → entry_places place earlier entry ≡ []
+      → IsDistinct same_variable earlier → IsDistinct same_variable (with_later earlier entry)
   later_distinct place earlier Broken e d = absurd cc
   later_distinct place earlier Unread e d = d
   later_distinct place earlier (Tells v) e d = IsDistinct-push same earlier v d (entry_apart place earlier v e)
 
-  entries_distinct : (n m e : ℕ) (earlier : List Variable) (entries : List PlainNode) → entries_places n m e earlier entries ≡ [] → IsDistinct same_variable earlier → IsDistinct same_variable (earlier ++ variables_in entries)
+  entries_distinct : (n m e : ℕ) (earlier : List Variable) (entries : List PlainNode)
+      → entries_places n m e earlier entries ≡ [] → IsDistinct same_variable earlier
+      → IsDistinct same_variable (earlier ++ variables_in entries)
   entries_distinct n m e earlier [] none d = subst (IsDistinct same_variable) (sym (append-nil earlier)) d
   entries_distinct n m e earlier (entry ∷ entries) none d =
       let place = at_entry n m e in
@@ -55,7 +58,9 @@ module _ (same : IsEquivalence same_variable) where
 
   member_distinct : (n m : ℕ) (node : PlainNode) → member_places n m node ≡ [] → IsDistinct same_variable (object_of node).vars
   member_distinct n m node none =
-      table_distinct n m (found (codes "VarTable") (fields_of node)) (none_parts (tag_places n m (found (codes "Tag") (fields_of node))) (table_places n m (found (codes "VarTable") (fields_of node))) none).1
+      table_distinct n m (found (codes "VarTable") (fields_of node))
+      (none_parts (tag_places n m (found (codes "Tag") (fields_of node)))
+      (table_places n m (found (codes "VarTable") (fields_of node))) none).1
 
   members_distinct : (n m : ℕ) (nodes : List PlainNode) → members_places n m nodes ≡ [] → HaveDistinct (map object_of nodes)
   members_distinct n m [] none = tt
@@ -73,7 +78,9 @@ module _ (same : IsEquivalence same_variable) where
   lists_distinct n [] fields none = tt
   lists_distinct n (label ∷ labels) fields none =
       let parts = none_parts (list_places n (found label fields)) (lists_places (n + 1) labels fields) none in
-      all_both (λ object. IsDistinct same_variable object.vars) (map object_of (structs_in (found label fields))) (objects_under labels fields) (list_distinct n (found label fields) parts.0) (lists_distinct (n + 1) labels fields parts.1)
+      all_both (λ object. IsDistinct same_variable object.vars) (map object_of (structs_in (found label fields)))
+      (objects_under labels fields) (list_distinct n (found label fields) parts.0)
+      (lists_distinct (n + 1) labels fields parts.1)
 
   pub objects_distinct : (top : PlainNode) → broken_places top ≡ [] → HaveDistinct (objects_of top)
   objects_distinct top none = lists_distinct 0 list_labels (fields_of top) none

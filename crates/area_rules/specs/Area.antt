@@ -39,7 +39,8 @@ object area o = object_at area.objects (o - 1)
 -- the numbers of the objects with a tag, where the first object has number n
 abbrev pub tagged : List ℕ → ℕ → List AreaObject → List ℕ
 tagged tag n [] = []
-tagged tag n (object ∷ objects) = if bytes_eq tag object.tag then n ∷ tagged tag (suc n) objects else tagged tag (suc n) objects
+tagged tag n (object ∷ objects) = if bytes_eq tag object.tag then n ∷ tagged tag
+    (suc n) objects else tagged tag (suc n) objects
 
 -- the object with a tag before which so many others with it stand, or 0
 abbrev pub by_tag : PlainArea → List ℕ → ℤ → ℕ
@@ -56,10 +57,12 @@ abbrev pub with_vars : (List Variable → List Variable) → AreaObject → Area
 with_vars change object = record object { vars = change object.vars }
 
 -- the area where the variables of one object alone are others
-abbrev pub variables_changed_at : ℕ → (List Variable → List Variable) → List AreaObject → List AreaObject
+abbrev pub variables_changed_at : ℕ → (List Variable → List Variable) → List AreaObject
+    → List AreaObject
 variables_changed_at i change [] = []
 variables_changed_at zero change (object ∷ objects) = with_vars change object ∷ objects
-variables_changed_at (suc i) change (object ∷ objects) = object ∷ variables_changed_at i change objects
+variables_changed_at (suc i) change
+    (object ∷ objects) = object ∷ variables_changed_at i change objects
 
 abbrev pub changed : PlainArea → ℕ → (List Variable → List Variable) → PlainArea
 changed area o change = record area { objects = variables_changed_at (o - 1) change area.objects }

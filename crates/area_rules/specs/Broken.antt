@@ -60,7 +60,8 @@ table_places n m (Some (Children entries)) = entries_places n m 1 [] (nodes_in e
 
 abbrev pub member_places : ℕ → ℕ → PlainNode → List Place
 member_places n m node =
-    tag_places n m (found (codes "Tag") (fields_of node)) ++ table_places n m (found (codes "VarTable") (fields_of node))
+    tag_places n m (found (codes "Tag") (fields_of node))
+    ++ table_places n m (found (codes "VarTable") (fields_of node))
 
 -- the members of a list from number m on
 abbrev pub members_places : ℕ → ℕ → List PlainNode → List Place
@@ -77,7 +78,8 @@ list_places n (Some (Children nodes)) = members_places n 1 (nodes_in nodes)
 -- the lists of these labels from number n on
 abbrev pub lists_places : ℕ → List (List ℕ) → List PlainField → List Place
 lists_places n [] fields = []
-lists_places n (label ∷ labels) fields = list_places n (found label fields) ++ lists_places (n + 1) labels fields
+lists_places n (label ∷ labels) fields = list_places n (found label fields)
+    ++ lists_places (n + 1) labels fields
 
 abbrev pub broken_places : PlainNode → List Place
 broken_places top = lists_places 0 list_labels (fields_of top)

@@ -9,7 +9,8 @@ use Rattle.area_rules.specs.Area.{HaveDistinct}
 
 -- A table that breaks no rule tells no two variables of one type and name.
 abbrev pub TablesAreDistinct : Type 0
-TablesAreDistinct = (n m : ℕ) (table : Option PlainLeaf) → table_places n m table ≡ [] → IsDistinct same_variable (variables_in (structs_in table))
+TablesAreDistinct = (n m : ℕ) (table : Option PlainLeaf) → table_places n m table ≡ []
+    → IsDistinct same_variable (variables_in (structs_in table))
 
 -- Nor has an object of a tree that breaks none.
 abbrev pub ObjectsAreDistinct : Type 0

@@ -66,7 +66,8 @@ typed_entry (Some type) name value =
 
 abbrev pub entry_of : PlainNode → Entry
 entry_of node =
-    typed_entry (dword_in (found (codes "Type") (fields_of node))) (found (codes "Name") (fields_of node)) (found (codes "Value") (fields_of node))
+    typed_entry (dword_in (found (codes "Type") (fields_of node)))
+    (found (codes "Name") (fields_of node)) (found (codes "Value") (fields_of node))
 
 -- the variables of a table's entries, in order
 abbrev pub with_entry : Entry → List Variable → List Variable
@@ -103,7 +104,8 @@ object_of node = record {
 -- the objects of the lists of these labels, one list after the other
 abbrev pub objects_under : List (List ℕ) → List PlainField → List AreaObject
 objects_under [] fields = []
-objects_under (label ∷ labels) fields = map object_of (structs_in (found label fields)) ++ objects_under labels fields
+objects_under (label ∷ labels) fields = map object_of (structs_in (found label fields))
+    ++ objects_under labels fields
 
 abbrev pub objects_of : PlainNode → List AreaObject
 objects_of top = objects_under list_labels (fields_of top)

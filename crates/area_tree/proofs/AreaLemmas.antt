@@ -20,7 +20,8 @@ object_read [] i object lt is = absurd (omega (arith, lt))
 object_read (o ∷ objects) zero object lt is = sym is
 object_read (o ∷ objects) (suc i) object lt is = object_read objects i object (omega (arith, lt)) is
 
-pub object_changed : (objects : List AreaObject) (i : ℕ) (old new : AreaObject) (change : List Variable → List Variable) → i < length objects → old ≡ get_or objects i old → new ≡ with_vars change old →
+pub object_changed : (objects : List AreaObject) (i : ℕ) (old new : AreaObject) (change : List Variable → List Variable)
+    → i < length objects → old ≡ get_or objects i old → new ≡ with_vars change old →
     set objects i new ≡ variables_changed_at i change objects
 object_changed [] i old new change lt is made = absurd (omega (arith, lt))
 object_changed (o ∷ objects) zero old new change lt is made = ap (λ (x : AreaObject). x ∷ objects) (made ∙ ap (λ (x : AreaObject). with_vars change x) is)
@@ -51,7 +52,8 @@ distinct_changed (o ∷ objects) (suc i) change keeps all = (all.0, distinct_cha
 abbrev pub Facts : PlainGff → List AreaObject → Type 0
 Facts tree objects = IsArea (record { tree = tree; objects = objects })
 
-pub facts_changed : (tree : PlainGff) (objects : List AreaObject) (i : ℕ) (change : List Variable → List Variable) → ((vars : List Variable) → IsDistinct same_variable vars → IsDistinct same_variable (change vars)) →
+pub facts_changed : (tree : PlainGff) (objects : List AreaObject) (i : ℕ) (change : List Variable → List Variable)
+    → ((vars : List Variable) → IsDistinct same_variable vars → IsDistinct same_variable (change vars)) →
     Facts tree objects → Facts tree (variables_changed_at i change objects)
 facts_changed tree objects i change keeps area = record {
   sound = area.sound;
@@ -65,15 +67,19 @@ facts_changed tree objects i change keeps area = record {
 abbrev pub Leaves : PlainGff → List AreaObject → List AreaObject → Type 0
 Leaves tree before after = Facts tree after × ((tag : List ℕ) → tagged tag 1 after ≡ tagged tag 1 before)
 
-pub index_left : (places : Places) (lists : Lists) (before after : List AreaObject) → Indexes places lists before → ((tag : List ℕ) → tagged tag 1 after ≡ tagged tag 1 before) → Indexes places lists after
+pub index_left : (places : Places) (lists : Lists) (before after : List AreaObject) → Indexes places lists before
+    → ((tag : List ℕ) → tagged tag 1 after ≡ tagged tag 1 before) → Indexes places lists after
 index_left places lists before after indexes same = λ tag. indexes tag ∙ sym (same tag)
 
-pub object_left : (tree : PlainGff) (objects : List AreaObject) (i : ℕ) (old new : AreaObject) (change : List Variable → List Variable) → ((vars : List Variable) → IsDistinct same_variable vars → IsDistinct same_variable (change vars)) →
+pub object_left : (tree : PlainGff) (objects : List AreaObject) (i : ℕ) (old new : AreaObject)
+    (change : List Variable → List Variable)
+    → ((vars : List Variable) → IsDistinct same_variable vars → IsDistinct same_variable (change vars)) →
     Facts tree objects → i < length objects → old ≡ get_or objects i old → new ≡ with_vars change old → Leaves tree objects (set objects i new)
 object_left tree objects i old new change keeps area lt is made =
     subst (Leaves tree objects) (sym (object_changed objects i old new change lt is made)) (facts_changed tree objects i change keeps area, λ tag. tagged_changed tag 1 objects i change)
 
-same_left : (tree : PlainGff) (objects : List AreaObject) (i : ℕ) (old new : AreaObject) → Facts tree objects → i < length objects → old ≡ get_or objects i old → new ≡ old → Leaves tree objects (set objects i new)
+same_left : (tree : PlainGff) (objects : List AreaObject) (i : ℕ) (old new : AreaObject) → Facts tree objects
+    → i < length objects → old ≡ get_or objects i old → new ≡ old → Leaves tree objects (set objects i new)
 same_left tree objects i old new area lt is made = object_left tree objects i old new (λ vars. vars) (λ vars d. d) area lt is made
 
 -- a change that may have found no memory
@@ -87,7 +93,9 @@ pub tried_ok : (tree : PlainGff) (objects : List AreaObject) (i : ℕ) (old new 
     record { tree = tree; objects = objects } ≡ area → i < length objects → old ≡ get_or objects i old → OnOk r (new ≡ with_vars change old) →
     OnOk r (record { tree = tree; objects = set objects i new } ≡ record area { objects = variables_changed_at i change area.objects })
 tried_ok tree objects i old new change area (Ok u) view lt is made =
-    ap (λ (os : List AreaObject). record { tree = tree; objects = os }) (object_changed objects i old new change lt is made) ∙ ap (λ (a : PlainArea). record a { objects = variables_changed_at i change a.objects }) view
+    ap (λ (os : List AreaObject). record { tree = tree; objects = os })
+    (object_changed objects i old new change lt is made)
+    ∙ ap (λ (a : PlainArea). record a { objects = variables_changed_at i change a.objects }) view
 tried_ok tree objects i old new change area (Err e) view lt is made = tt
 
 pub tried_err : (tree : PlainGff) (objects : List AreaObject) (i : ℕ) (old new : AreaObject) (area : PlainArea) (r : Result (Unit {0}) NoMemory) →
@@ -110,11 +118,14 @@ made_view tree objects i old new change area view lt is made = tried_ok tree obj
 pub place_of : (o : ℕ) (objects seen : List AreaObject) → objects ≡ seen → 1 ≤ o → o ≤ length seen → o - 1 < length objects
 place_of o objects seen is first within = let same : length objects ≡ length seen = ap length is in omega (arith, first, within, same)
 
-pub object_seen : (o : ℕ) (tree : PlainGff) (objects : List AreaObject) (area : PlainArea) (object : AreaObject) → record { tree = tree; objects = objects } ≡ area → o - 1 < length objects → object ≡ get_or objects (o - 1) object →
+pub object_seen : (o : ℕ) (tree : PlainGff) (objects : List AreaObject) (area : PlainArea) (object : AreaObject)
+    → record { tree = tree; objects = objects } ≡ area → o - 1 < length objects
+    → object ≡ get_or objects (o - 1) object →
     object ≡ object_at area.objects (o - 1)
 object_seen o tree objects area object view lt is = sym (object_read objects (o - 1) object lt is) ∙ ap (λ (a : PlainArea). object_at a.objects (o - 1)) view
 
 -- a number that was passed on is the one that was given
-pub ok_number : (name : List ℕ) (new old : AreaObject) (m n : ℤ) (r : Result (Unit {0}) NoMemory) → m ≡ n → OnOk r (new ≡ with_vars (put (IntVar name m)) old) → OnOk r (new ≡ with_vars (put (IntVar name n)) old)
+pub ok_number : (name : List ℕ) (new old : AreaObject) (m n : ℤ) (r : Result (Unit {0}) NoMemory) → m ≡ n
+    → OnOk r (new ≡ with_vars (put (IntVar name m)) old) → OnOk r (new ≡ with_vars (put (IntVar name n)) old)
 ok_number name new old m n (Ok u) is made = made ∙ ap (λ (k : ℤ). with_vars (put (IntVar name k)) old) is
 ok_number name new old m n (Err e) is made = tt

@@ -64,7 +64,9 @@ list_count (Children of_list) nodes e = ap (λ (ns : List PlainNode). nodes_coun
 pub next_item : {A : Type 0} → (xs : List A) (i : ℕ) (x : A) → i < length xs → x ≡ get_or xs i x → drop i xs ≡ x ∷ drop (i + 1) xs
 next_item {A = A} xs i x lt is = rw (add-one, drop-cons xs i x) (ap (λ (y : A). y ∷ drop (suc i) xs) (sym is))
 
-pub next_count : (nodes : List Node) (i : ℕ) (node : Node) → i < length nodes → node ≡ get_or nodes i node → nodes_count (nodes_list (drop i nodes)) ≡ node_count (plain_node node) + nodes_count (nodes_list (drop (i + 1) nodes))
+pub next_count : (nodes : List Node) (i : ℕ) (node : Node) → i < length nodes → node ≡ get_or nodes i node
+    → nodes_count (nodes_list (drop i nodes))
+    ≡ node_count (plain_node node) + nodes_count (nodes_list (drop (i + 1) nodes))
 next_count nodes i node lt is = ap (λ (ns : List Node). nodes_count (nodes_list ns)) (next_item nodes i node lt is)
 
 -- the first of some places is the first of these and of more behind them
@@ -89,7 +91,9 @@ members_next list m nodes i node whole lt is at none =
 pub members_first : (e : AreaFault) (list m : ℕ) (nodes : List Node) (i : ℕ) (node : Node) (whole : List Place) → i < length nodes → node ≡ get_or nodes i node →
     members_places list m (map plain_node (drop i nodes)) ≡ whole → IsFirst e (member_places list m (plain_node node)) → IsFirst e whole
 members_first e list m nodes i node whole lt is at f =
-    first_along e _ whole (places_open list m nodes i node whole lt is at) (first_of_more e (member_places list m (plain_node node)) (members_places list (m + 1) (map plain_node (drop (i + 1) nodes))) f)
+    first_along e _ whole (places_open list m nodes i node whole lt is at)
+    (first_of_more e (member_places list m (plain_node node))
+    (members_places list (m + 1) (map plain_node (drop (i + 1) nodes))) f)
 
 pub objects_next : (objects now whole : List AreaObject) (object : AreaObject) (nodes : List Node) (i : ℕ) (node : Node) → i < length nodes → node ≡ get_or nodes i node →
     objects ++ map object_of (map plain_node (drop i nodes)) ≡ whole → now ≡ objects ++ object ∷ [] → object ≡ object_of (plain_node node) →
@@ -105,7 +109,9 @@ pub few_next : (m : ℕ) (nodes : List Node) (i : ℕ) (node : Node) (bound : �
     m + 1 + nodes_count (nodes_list (drop (i + 1) nodes)) < bound
 few_next m nodes i node bound lt is few = omega (arith, few, next_count nodes i node lt is, at_least (plain_node node))
 
-pub few_item : (m : ℕ) (nodes : List Node) (i : ℕ) (node : Node) (bound : ℕ) → i < length nodes → node ≡ get_or nodes i node → m + nodes_count (nodes_list (drop i nodes)) < bound → node_count (plain_node node) < bound
+pub few_item : (m : ℕ) (nodes : List Node) (i : ℕ) (node : Node) (bound : ℕ) → i < length nodes
+    → node ≡ get_or nodes i node → m + nodes_count (nodes_list (drop i nodes)) < bound
+    → node_count (plain_node node) < bound
 few_item m nodes i node bound lt is few = omega (arith, few, next_count nodes i node lt is)
 
 pub if_first : {X : Type 0} (r : Result X AreaFault) (e : AreaFault) (places : List Place) → r ≡ Err e → IsFirst e places → IfErr r (λ (d : AreaFault). IsFirst d places)
@@ -122,13 +128,15 @@ pub lists_next : (n : ℕ) (labels rest : List (List ℕ)) (label : List ℕ) (f
 lists_next n labels rest label fields leaf whole is there at none =
     ap (λ (ps : List Place). ps ++ lists_places (n + 1) rest fields) (sym (ap (list_places n) there ∙ none)) ∙ lists_open n labels rest label fields whole is at
 
-pub lists_first : (e : AreaFault) (n : ℕ) (labels rest : List (List ℕ)) (label : List ℕ) (fields : List PlainField) (leaf : Option PlainLeaf) (whole : List Place) → labels ≡ label ∷ rest → found label fields ≡ leaf →
+pub lists_first : (e : AreaFault) (n : ℕ) (labels rest : List (List ℕ)) (label : List ℕ) (fields : List PlainField)
+    (leaf : Option PlainLeaf) (whole : List Place) → labels ≡ label ∷ rest → found label fields ≡ leaf →
     lists_places n labels fields ≡ whole → IsFirst e (list_places n leaf) → IsFirst e whole
 lists_first e n labels rest label fields leaf whole is there at f =
     first_along e _ whole (lists_open n labels rest label fields whole is at)
     (first_of_more e (list_places n (found label fields)) (lists_places (n + 1) rest fields) (subst (λ (l : Option PlainLeaf). IsFirst e (list_places n l)) (sym there) f))
 
-pub under_next : (objects now whole : List AreaObject) (labels rest : List (List ℕ)) (label : List ℕ) (fields : List PlainField) (leaf : Option PlainLeaf) → labels ≡ label ∷ rest → found label fields ≡ leaf →
+pub under_next : (objects now whole : List AreaObject) (labels rest : List (List ℕ)) (label : List ℕ)
+    (fields : List PlainField) (leaf : Option PlainLeaf) → labels ≡ label ∷ rest → found label fields ≡ leaf →
     objects ++ objects_under labels fields ≡ whole → now ≡ objects ++ map object_of (structs_in leaf) → now ++ objects_under rest fields ≡ whole
 under_next objects now whole labels rest label fields leaf is there at grown =
     let behind = objects_under rest fields in

@@ -21,13 +21,17 @@ pub named : (label : List ℕ) (scripts : List Script) → name_at (script_place
 named label [] = refl
 named label (s ∷ scripts) = by (bytes_eq label s.label) (script_place label scripts) (named label scripts)
   where
-    by : (b : Bool) (o : Option ℕ) → name_at o scripts ≡ script_named label scripts → name_at (if b then Some 0 else option_map suc o) (s ∷ scripts) ≡ (if b then s.name else script_named label scripts)
+    by : (b : Bool) (o : Option ℕ) → name_at o scripts ≡ script_named label scripts
+        → name_at (if b then Some 0 else option_map suc o) (s ∷ scripts)
+        ≡ (if b then s.name else script_named label scripts)
     by true o e = refl
     by false None e = e
     by false (Some i) e = e
 
 -- what stands at the place under a label is what is named
-pub found_name : (label : List ℕ) (scripts : List Script) (index : List (List ℕ × ℕ)) (place : ℕ) (o : Option Script) → HasFirst scripts index → Some place ≡ number_under label index → o ≡ slice_get scripts place → name_in o ≡ script_named label scripts
+pub found_name : (label : List ℕ) (scripts : List Script) (index : List (List ℕ × ℕ)) (place : ℕ) (o : Option Script)
+    → HasFirst scripts index → Some place ≡ number_under label index → o ≡ slice_get scripts place
+    → name_in o ≡ script_named label scripts
 found_name label scripts index place o has some at = ap name_in at ∙ ap (λ p. name_at p scripts) (some ∙ has label) ∙ named label scripts
 
 pub no_name : (label : List ℕ) (scripts : List Script) (index : List (List ℕ × ℕ)) → HasFirst scripts index → None ≡ number_under label index → [] ≡ script_named label scripts
@@ -45,7 +49,9 @@ place_more x (y ∷ ys) s = by (bytes_eq x y.label) (script_place x ys) (bytes_e
     by false (Some n) c h = rw h refl
 
 -- one script more is noted
-pub first_next : (scripts : List Script) (i : ℕ) (s : Script) (old new : List (List ℕ × ℕ)) → i < length scripts → s ≡ get_or scripts i s → HasFirst (take i scripts) old → NotesFirst s.label i old new → HasFirst (take (i + 1) scripts) new
+pub first_next : (scripts : List Script) (i : ℕ) (s : Script) (old new : List (List ℕ × ℕ)) → i < length scripts
+    → s ≡ get_or scripts i s → HasFirst (take i scripts) old → NotesFirst s.label i old new
+    → HasFirst (take (i + 1) scripts) new
 first_next scripts i s old new lt at has notes x =
     notes x ∙ ap (λ o. place_or o (if bytes_eq x s.label then Some i else None)) (has x)
     ∙ ap (λ n. place_or (script_place x (take i scripts)) (cond (bytes_eq x s.label) (Some n) None)) (sym (as_long scripts i lt))
@@ -71,7 +77,9 @@ noted_old label place index there x = by (number_under x index) refl (bytes_eq x
     by : (o : Option ℕ) → number_under x index ≡ o → (b : Bool) → bytes_eq x label ≡ b → o ≡ place_or o (if b then Some place else None)
     by (Some n) at b is = refl
     by None at false is = refl
-    by None at true is = let none : number_under label index ≡ None = ap (λ y. number_under y index) (sym ((bytes_decides x label).0 is)) ∙ at in let e : true ≡ false = sym there ∙ ap is_some none in absurd cc
+    by None at true is = let none : number_under label index
+        ≡ None = ap (λ y. number_under y index) (sym ((bytes_decides x label).0 is)) ∙ at in let e : true
+        ≡ false = sym there ∙ ap is_some none in absurd cc
 
 pub noted_new : (label : List ℕ) (place : ℕ) (old new : List (List ℕ × ℕ)) → is_some (number_under label old) ≡ false → Puts label (Some place) old new → NotesFirst label place old new
 noted_new label place old new lacks puts x = puts x ∙ by (number_under x old) refl (bytes_eq x label) refl
@@ -79,7 +87,9 @@ noted_new label place old new lacks puts x = puts x ∙ by (number_under x old) 
     by : (o : Option ℕ) → number_under x old ≡ o → (b : Bool) → bytes_eq x label ≡ b → (if b then Some place else o) ≡ place_or o (if b then Some place else None)
     by None at b is = refl
     by (Some n) at false is = refl
-    by (Some n) at true is = let some : number_under label old ≡ Some n = ap (λ y. number_under y old) (sym ((bytes_decides x label).0 is)) ∙ at in let e : false ≡ true = sym lacks ∙ ap is_some some in absurd cc
+    by (Some n) at true is = let some : number_under label old
+        ≡ Some n = ap (λ y. number_under y old) (sym ((bytes_decides x label).0 is)) ∙ at in let e : false
+        ≡ true = sym lacks ∙ ap is_some some in absurd cc
 
 -- a list without scripts
 pub none_there : (all scripts : List Script) → all ≡ scripts → length all ≡ 0 → [] ≡ scripts

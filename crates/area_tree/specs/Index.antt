@@ -23,14 +23,18 @@ numbers_under tag places lists = list_at (number_under tag places) lists
 
 -- the index has each object under its tag
 abbrev pub Indexes : Places → Lists → List AreaObject → Type 0
-Indexes places lists objects = (tag : List ℕ) → numbers_under tag places lists ≡ tagged tag 1 objects
+Indexes places lists objects = (tag : List ℕ)
+    → numbers_under tag places lists ≡ tagged tag 1 objects
 
 -- the index with one number more
 abbrev pub AddsNumber : List ℕ → ℕ → Places → Lists → Places → Lists → Type 0
 AddsNumber tag number places lists places' lists' =
-    (t : List ℕ) → numbers_under t places' lists' ≡ (if bytes_eq t tag then numbers_under t places lists ++ number ∷ [] else numbers_under t places lists)
+    (t : List ℕ) → numbers_under t places' lists'
+    ≡ (if bytes_eq t tag then numbers_under t places lists
+    ++ number ∷ [] else numbers_under t places lists)
 
 -- each place is below the number of the lists, and no two tags share one
 pub record ArePlaces (places : Places) (count : ℕ) : Type 0 where
   pub within : (tag : List ℕ) (i : ℕ) → number_under tag places ≡ Some i → i < count
-  pub apart : (s t : List ℕ) (i : ℕ) → number_under s places ≡ Some i → number_under t places ≡ Some i → s ≡ t
+  pub apart : (s t : List ℕ) (i : ℕ) → number_under s places ≡ Some i
+      → number_under t places ≡ Some i → s ≡ t

@@ -27,4 +27,6 @@ place_or (Some place) other = Some place
 
 -- the index has this place under the label too, where it had none
 abbrev pub NotesFirst : List ℕ → ℕ → List (List ℕ × ℕ) → List (List ℕ × ℕ) → Type 0
-NotesFirst label place old new = (x : List ℕ) → number_under x new ≡ place_or (number_under x old) (if bytes_eq x label then Some place else None)
+NotesFirst label place old new = (x : List ℕ)
+    → number_under x new ≡ place_or (number_under x old)
+    (if bytes_eq x label then Some place else None)

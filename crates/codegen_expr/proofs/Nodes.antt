@@ -104,7 +104,8 @@ known_code r before after l d the x lines n is code count put =
     ∙ ap (extended before (emit l before.labels d (plain the))) (sym (ap labels is ∙ count))))
 
 -- the same where its node takes no label
-pub known_lines : {T E : Type 0} (r : Result T E) (before after : LabelledCode) (l : Layout) (d : ℕ) (the : Expression) (x : TypedExpr) (lines : List Line) → plain the ≡ x → emit l before.labels d x ≡ lines → labels x ≡ 0
+pub known_lines : {T E : Type 0} (r : Result T E) (before after : LabelledCode) (l : Layout) (d : ℕ) (the : Expression)
+    (x : TypedExpr) (lines : List Line) → plain the ≡ x → emit l before.labels d x ≡ lines → labels x ≡ 0
     → OnOk r (after ≡ record before { lines = before.lines ++ lines }) → OnOk r (after ≡ extended before (emit l before.labels d (plain the)) (labels (plain the)))
 known_lines r before after l d the x lines is code count put =
     known_code r before after l d the x lines 0 is code count (on_ok r put (λ e. e ∙ both_same _ _ _ _ refl (omega arith)))
@@ -160,7 +161,12 @@ or_code l x y op d1 d2 d3 other end c0 c1 c2 c3 c4 c5 c6 c7 o-is e-is e1 e2 e3 e
     let g : end ≡ c0.labels + 1 = e-is ∙ ap (λ (c : LabelledCode). c.labels) e1 in
     e7 ∙ (ap (λ (c : LabelledCode). record c { lines = c.lines ++ Label end ∷ [] })
     (e6 ∙ ap (λ (c : LabelledCode). record c { lines = c.lines ++ Instruction op ∷ [] })
-    (e5 ∙ ap (λ c. extended c (emit l c.labels d2 y) (labels y)) (e4 ∙ ap (λ (c : LabelledCode). record c { lines = c.lines ++ top_again ∷ JumpTo Jz other ∷ int_constant (pos 1) ∷ Instruction op ∷ JumpTo Jmp end ∷ Label other ∷ [] }) f3)))
+    (e5 ∙ ap (λ c. extended c (emit l c.labels d2 y) (labels y))
+    (e4 ∙ ap (λ (c : LabelledCode). record c {
+      lines = c.lines
+          ++ top_again ∷ JumpTo Jz other ∷ int_constant
+          (pos 1) ∷ Instruction op ∷ JumpTo Jmp end ∷ Label other ∷ [];
+    }) f3)))
     ∙ both_same _ _ _ _ (rw (o, g, d) (simp append_assoc refl)) (omega arith))
 
 pub and_code : (l : Layout) (x y : TypedExpr) (op : PlainOp) (d1 d2 d3 end : ℕ) (c0 c1 c2 c3 c4 c5 c6 c7 : LabelledCode) → end ≡ c0.labels → c1 ≡ record c0 { labels = c0.labels + 1 }
@@ -188,7 +194,8 @@ assign_code r c0 c1 c2 c3 c4 first value change last first-is value-is last-is n
     (e2 ∙ ap (λ c. extended c value n) e1))
     ∙ both_same _ _ _ _ (rw (f, v, w) (simp append_assoc refl)) refl))
 
-pub captured_code : (l : Layout) (x : TypedExpr) (d end : ℕ) (line : Line) (c0 c1 c2 c3 c4 c5 c6 : LabelledCode) → end ≡ c0.labels → is_captured x ≡ true → line ≡ Instruction (ops.StoreState (bytes_of l.globals) (bytes_of d))
+pub captured_code : (l : Layout) (x : TypedExpr) (d end : ℕ) (line : Line) (c0 c1 c2 c3 c4 c5 c6 : LabelledCode)
+    → end ≡ c0.labels → is_captured x ≡ true → line ≡ Instruction (ops.StoreState (bytes_of l.globals) (bytes_of d))
     → c1 ≡ record c0 { labels = c0.labels + 1 } → c2 ≡ record c1 { lines = c1.lines ++ line ∷ [] } → c3 ≡ record c2 { lines = c2.lines ++ JumpTo Jmp end ∷ [] }
     → c4 ≡ extended c3 (emit l c3.labels d x) (labels x) → c5 ≡ record c4 { lines = c4.lines ++ Instruction ops.Retn ∷ [] } → c6 ≡ record c5 { lines = c5.lines ++ Label end ∷ [] }
     → c6 ≡ extended c0 (argument_code l c0.labels d (is_captured x) (emit l (c0.labels + argument_labels (is_captured x)) d x)) (argument_labels (is_captured x) + labels x)

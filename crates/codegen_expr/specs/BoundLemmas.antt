@@ -22,14 +22,21 @@ mutual
   pub grows : (n m : ℕ) (l : Layout) (x : TypedExpr) → n ≤ m → IsExpr n l x → IsExpr m l x
   grows n m l (literal k) le is = is
   grows n m l (name t p) le is = is
-  grows n m l (call t f xs ks) le is = (is.0, callee_grows n m (count_arguments xs + length ks) f le is.1, is.2, all_grow n m l xs le is.3)
+  grows n m l (call t f xs ks) le is = (
+    is.0,
+    callee_grows n m (count_arguments xs + length ks) f le is.1,
+    is.2,
+    all_grow n m l xs le is.3,
+  )
   grows n m l (member t x offset) le is = (is.0, is.1, is.2, grows n m l x le is.3)
   grows n m l (prefix t o x) le is = (is.0, grows n m l x le is.1)
   grows n m l (postfix t o x) le is = (is.0, grows n m l x le is.1)
-  grows n m l (binary t o x y) le is = (is.0, is.1, is.2, grows n m l x le is.3, grows n m l y le is.4)
+  grows n m l (binary t o x y) le is =
+      (is.0, is.1, is.2, grows n m l x le is.3, grows n m l y le is.4)
   grows n m l (assign t o x y) le is = (is.0, grows n m l x le is.1, grows n m l y le is.2)
 
-  pub all_grow : (n m : ℕ) (l : Layout) (xs : TypedExprs) → n ≤ m → AreExprs n l xs → AreExprs m l xs
+  pub all_grow : (n m : ℕ) (l : Layout) (xs : TypedExprs) → n ≤ m → AreExprs n l xs
+      → AreExprs m l xs
   all_grow n m l no_typed le are = tt
   all_grow n m l (more_typed x xs) le are = (grows n m l x le are.0, all_grow n m l xs le are.1)
 
@@ -41,7 +48,8 @@ const_few l (const.Text bytes) = omega arith
 const_few l const.SelfObject = omega arith
 const_few l const.InvalidObject = omega arith
 
-pub type_few : (n : ℕ) (l : Layout) (x : TypedExpr) → IsExpr n l x → cells l.structs (type_of x) ≤ struct_cell_limit
+pub type_few : (n : ℕ) (l : Layout) (x : TypedExpr) → IsExpr n l x
+    → cells l.structs (type_of x) ≤ struct_cell_limit
 type_few n l (literal k) is = const_few l k
 type_few n l (name t p) is = is.0.few
 type_few n l (call t f xs ks) is = is.0.few

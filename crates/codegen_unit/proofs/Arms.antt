@@ -60,11 +60,14 @@ made_grows n m (Some t) le is = omega arith
 pub expr_ready : (n m : ℕ) (l : Layout) (d : ℕ) (x : TypedExpr) → n ≤ m → IsExpr n l x → d + weight x ≤ frame_limit → l.globals ≤ frame_limit → m + labels x < 2 ^ 32 → CanBeEmitted m l d x
 expr_ready n m l d x le is deep globals few = record { bounded = grows n m l x le is; deep = deep; globals = globals; labelled = few }
 
-pub part_ready : (n m : ℕ) (l : Layout) (d : ℕ) (x : Option TypedExpr) → n ≤ m → IsSome n l x → d + some_weight x ≤ frame_limit → l.globals ≤ frame_limit → m + some_labels x < 2 ^ 32 → IsPartReady m l d x
+pub part_ready : (n m : ℕ) (l : Layout) (d : ℕ) (x : Option TypedExpr) → n ≤ m → IsSome n l x
+    → d + some_weight x ≤ frame_limit → l.globals ≤ frame_limit → m + some_labels x < 2 ^ 32 → IsPartReady m l d x
 part_ready n m l d None le is deep globals few = globals
 part_ready n m l d (Some x) le is deep globals few = expr_ready n m l d x le is deep globals few
 
-stmt_ready : (n m : ℕ) (l : Layout) (d : ℕ) (ex : code.Exits) (x : TypedStmt) → n ≤ m → IsStmt n l (leads ex.break_to) (leads ex.continue_to) x → d + stmt_weight x ≤ frame_limit → l.globals ≤ frame_limit
+stmt_ready : (n m : ℕ) (l : Layout) (d : ℕ) (ex : code.Exits) (x : TypedStmt) → n ≤ m
+    → IsStmt n l (leads ex.break_to) (leads ex.continue_to) x → d + stmt_weight x ≤ frame_limit
+    → l.globals ≤ frame_limit
     → m + stmt_labels x < 2 ^ 32 → IsMade n ex.break_to → IsMade n ex.continue_to → StmtReady m l d ex x
 stmt_ready n m l d ex x le is deep globals few b k = record {
   bounded = stmt_grows n m l (leads ex.break_to) (leads ex.continue_to) x le is;
@@ -75,11 +78,13 @@ stmt_ready n m l d ex x le is deep globals few b k = record {
   continue_made = made_grows n m ex.continue_to le k;
 }
 
-loop_ready : (n m : ℕ) (l : Layout) (d : ℕ) (x : TypedStmt) → n ≤ m → IsStmt n l true true x → d + stmt_weight x ≤ frame_limit → l.globals ≤ frame_limit → m + stmt_labels x < 2 ^ 32 → LoopReady m l d x
+loop_ready : (n m : ℕ) (l : Layout) (d : ℕ) (x : TypedStmt) → n ≤ m → IsStmt n l true true x
+    → d + stmt_weight x ≤ frame_limit → l.globals ≤ frame_limit → m + stmt_labels x < 2 ^ 32 → LoopReady m l d x
 loop_ready n m l d x le is deep globals few = record { bounded = stmt_grows n m l true true x le is; deep = deep; globals = globals; labelled = few }
 
 -- the body of a loop, in it
-pub body_ready : (n m : ℕ) (l : Layout) (d : ℕ) (ex : code.Exits) (x : TypedStmt) (b k : Target) → LoopReady n l d x → n ≡ m → ex.break_to ≡ Some b → ex.continue_to ≡ Some k → b.label < m → k.label < m → StmtReady m l d ex x
+pub body_ready : (n m : ℕ) (l : Layout) (d : ℕ) (ex : code.Exits) (x : TypedStmt) (b k : Target) → LoopReady n l d x
+    → n ≡ m → ex.break_to ≡ Some b → ex.continue_to ≡ Some k → b.label < m → k.label < m → StmtReady m l d ex x
 body_ready n m l d ex x b k r same eb ek lb lk =
     let h : IsStmt n l (leads ex.break_to) (leads ex.continue_to) x =
     subst (λ t. IsStmt n l (leads t) (leads ex.continue_to) x) (sym eb) (subst (λ t. IsStmt n l true (leads t) x) (sym ek) r.bounded) in
@@ -92,7 +97,8 @@ body_ready n m l d ex x b k r same eb ek lb lk =
       continue_made = subst (IsMade n) (sym ek) (omega arith);
     })
 
-pub body_of_switch_ready : (n m : ℕ) (l : Layout) (d e : ℕ) (ex around : code.Exits) (xs : TypedStmts) (b : Target) → SwitchReady n l d around xs → n ≡ m → d ≡ e → ex.break_to ≡ Some b → ex.continue_to ≡ around.continue_to
+pub body_of_switch_ready : (n m : ℕ) (l : Layout) (d e : ℕ) (ex around : code.Exits) (xs : TypedStmts) (b : Target)
+    → SwitchReady n l d around xs → n ≡ m → d ≡ e → ex.break_to ≡ Some b → ex.continue_to ≡ around.continue_to
     → b.label < m → StmtsReady m l e ex xs
 body_of_switch_ready n m l d e ex around xs b r same same-depth eb ek lb =
     let h : AreStmts n l (leads ex.break_to) (leads ex.continue_to) xs =
@@ -131,7 +137,9 @@ module _ (n : ℕ) (l : Layout) (d t : ℕ) (ex : code.Exits) (the : Stmt Expres
         ),
       )
 
-  pub if_else_parts : (i : ℕ) (x : TypedExpr) (a b : Stmt Expression Const Ty Variable) → typed_stmt the ≡ s.if_else i x (typed_stmt a) (typed_stmt b) → size (typed_stmt the) ≡ t → StmtReady n l d ex (typed_stmt the)
+  pub if_else_parts : (i : ℕ) (x : TypedExpr) (a b : Stmt Expression Const Ty Variable)
+      → typed_stmt the ≡ s.if_else i x (typed_stmt a) (typed_stmt b) → size (typed_stmt the) ≡ t
+      → StmtReady n l d ex (typed_stmt the)
       → (size (typed_stmt a) + size (typed_stmt b) + 1 < t) × (CanBeEmitted (n + 2) l d x × (StmtReady (n + 2 + labels x) l d ex (typed_stmt a)
       × StmtReady (n + 2 + labels x + stmt_labels (typed_stmt a)) l d ex (typed_stmt b)))
   if_else_parts i x a b is falls ready =
@@ -142,7 +150,8 @@ module _ (n : ℕ) (l : Layout) (d t : ℕ) (ex : code.Exits) (the : Stmt Expres
           expr_ready n (n + 2) l d x (omega arith) r.bounded.0 (omega (arith, r.deep)) r.globals (omega (arith, r.labelled)),
           (
             stmt_ready n (n + 2 + labels x) l d ex (typed_stmt a) (omega arith) r.bounded.1 (omega (arith, r.deep)) r.globals (omega (arith, r.labelled)) r.break_made r.continue_made,
-            stmt_ready n (n + 2 + labels x + stmt_labels (typed_stmt a)) l d ex (typed_stmt b) (omega arith) r.bounded.2 (omega (arith, r.deep)) r.globals (omega (arith, r.labelled)) r.break_made r.continue_made,
+            stmt_ready n (n + 2 + labels x + stmt_labels (typed_stmt a)) l d ex (typed_stmt b) (omega arith) r.bounded.2
+                (omega (arith, r.deep)) r.globals (omega (arith, r.labelled)) r.break_made r.continue_made,
           ),
         ),
       )
@@ -171,7 +180,9 @@ module _ (n : ℕ) (l : Layout) (d t : ℕ) (ex : code.Exits) (the : Stmt Expres
         ),
       )
 
-  pub for_parts : (i : ℕ) (x y z : Option TypedExpr) (a : Stmt Expression Const Ty Variable) → typed_stmt the ≡ s.for_loop i x y z (typed_stmt a) → size (typed_stmt the) ≡ t → StmtReady n l d ex (typed_stmt the)
+  pub for_parts : (i : ℕ) (x y z : Option TypedExpr) (a : Stmt Expression Const Ty Variable)
+      → typed_stmt the ≡ s.for_loop i x y z (typed_stmt a) → size (typed_stmt the) ≡ t
+      → StmtReady n l d ex (typed_stmt the)
       → (size (typed_stmt a) + 1 < t) × (IsPartReady (n + 3) l d x × (IsPartReady (n + 3 + some_labels x) l d y × (LoopReady (n + 3 + some_labels x + some_labels y) l d (typed_stmt a)
       × IsPartReady (n + 3 + some_labels x + some_labels y + stmt_labels (typed_stmt a)) l d z)))
   for_parts i x y z a is falls ready =
@@ -190,7 +201,8 @@ module _ (n : ℕ) (l : Layout) (d t : ℕ) (ex : code.Exits) (the : Stmt Expres
         ),
       )
 
-  pub switch_parts : (i : ℕ) (x : TypedExpr) (xs : List (Stmt Expression Const Ty Variable)) → typed_stmt the ≡ s.switch i x (typed_stmts xs) → size (typed_stmt the) ≡ t → StmtReady n l d ex (typed_stmt the)
+  pub switch_parts : (i : ℕ) (x : TypedExpr) (xs : List (Stmt Expression Const Ty Variable))
+      → typed_stmt the ≡ s.switch i x (typed_stmts xs) → size (typed_stmt the) ≡ t → StmtReady n l d ex (typed_stmt the)
       → (all_size (typed_stmts xs) + 2 < t) × (CanBeEmitted (n + 1 + count_labels (typed_stmts xs)) l d x
       × SwitchReady (n + 1 + count_labels (typed_stmts xs) + labels x) l (d + 1) ex (typed_stmts xs))
   switch_parts i x xs is falls ready =
@@ -254,7 +266,8 @@ module _ (before after : LabelledCode) (l : Layout) (ex : Exits) (d : ℕ) (the 
   known_lines r none put =
       on_ok r put (λ e. e ∙ (ap (λ (k : ℕ). record { lines = before.lines ++ emit_stmt l ex before.labels d x; labels = k }) (omega arith) ∙ same_code))
 
-pub known_none : (c : LabelledCode) (l : Layout) (ex : Exits) (d : ℕ) (the : Stmt Expression Const Ty Variable) (x : TypedStmt) → typed_stmt the ≡ x → emit_stmt l ex c.labels d x ≡ [] → stmt_labels x ≡ 0
+pub known_none : (c : LabelledCode) (l : Layout) (ex : Exits) (d : ℕ) (the : Stmt Expression Const Ty Variable)
+    (x : TypedStmt) → typed_stmt the ≡ x → emit_stmt l ex c.labels d x ≡ [] → stmt_labels x ≡ 0
     → c ≡ extended c (emit_stmt l ex c.labels d (typed_stmt the)) (stmt_labels (typed_stmt the))
 known_none c l ex d the x is none zero =
     extended_none c
@@ -263,40 +276,52 @@ known_none c l ex d the x is none zero =
 
 -- ---- what a statement is, by its parts
 
-pub if_only_is : (the : Stmt Expression Const Ty Variable) (i : ℕ) (x : Expression) (a y : Stmt Expression Const Ty Variable) → tree_of_stmt the ≡ s.if_only i x (tree_of_stmt a) → y ≡ a → typed_stmt the ≡ s.if_only i (plain x) (typed_stmt y)
+pub if_only_is : (the : Stmt Expression Const Ty Variable) (i : ℕ) (x : Expression)
+    (a y : Stmt Expression Const Ty Variable) → tree_of_stmt the ≡ s.if_only i x (tree_of_stmt a) → y ≡ a
+    → typed_stmt the ≡ s.if_only i (plain x) (typed_stmt y)
 if_only_is the i x a y is same = ap (map_stmt plain) is ∙ ap (λ z. s.if_only i (plain x) (typed_stmt z)) (sym same)
 
-pub if_else_is : (the : Stmt Expression Const Ty Variable) (i : ℕ) (x : Expression) (a b y z : Stmt Expression Const Ty Variable) → tree_of_stmt the ≡ s.if_else i x (tree_of_stmt a) (tree_of_stmt b) → y ≡ a → z ≡ b
+pub if_else_is : (the : Stmt Expression Const Ty Variable) (i : ℕ) (x : Expression)
+    (a b y z : Stmt Expression Const Ty Variable) → tree_of_stmt the ≡ s.if_else i x (tree_of_stmt a) (tree_of_stmt b)
+    → y ≡ a → z ≡ b
     → typed_stmt the ≡ s.if_else i (plain x) (typed_stmt y) (typed_stmt z)
 if_else_is the i x a b y z is e f =
     ap (map_stmt plain) is ∙ (ap (λ w. s.if_else i (plain x) (typed_stmt w) (typed_stmt b)) (sym e) ∙ ap (λ w. s.if_else i (plain x) (typed_stmt y) (typed_stmt w)) (sym f))
 
-pub while_is : (the : Stmt Expression Const Ty Variable) (i : ℕ) (x : Expression) (a y : Stmt Expression Const Ty Variable) → tree_of_stmt the ≡ s.while_loop i x (tree_of_stmt a) → y ≡ a → typed_stmt the ≡ s.while_loop i (plain x) (typed_stmt y)
+pub while_is : (the : Stmt Expression Const Ty Variable) (i : ℕ) (x : Expression)
+    (a y : Stmt Expression Const Ty Variable) → tree_of_stmt the ≡ s.while_loop i x (tree_of_stmt a) → y ≡ a
+    → typed_stmt the ≡ s.while_loop i (plain x) (typed_stmt y)
 while_is the i x a y is same = ap (map_stmt plain) is ∙ ap (λ z. s.while_loop i (plain x) (typed_stmt z)) (sym same)
 
-pub do_is : (the : Stmt Expression Const Ty Variable) (i : ℕ) (x : Expression) (a y : Stmt Expression Const Ty Variable) → tree_of_stmt the ≡ s.do_loop i (tree_of_stmt a) x → y ≡ a → typed_stmt the ≡ s.do_loop i (typed_stmt y) (plain x)
+pub do_is : (the : Stmt Expression Const Ty Variable) (i : ℕ) (x : Expression) (a y : Stmt Expression Const Ty Variable)
+    → tree_of_stmt the ≡ s.do_loop i (tree_of_stmt a) x → y ≡ a → typed_stmt the ≡ s.do_loop i (typed_stmt y) (plain x)
 do_is the i x a y is same = ap (map_stmt plain) is ∙ ap (λ z. s.do_loop i (typed_stmt z) (plain x)) (sym same)
 
 pub for_is : (the : Stmt Expression Const Ty Variable) (i : ℕ) (x y z : Option Expression) (a w : Stmt Expression Const Ty Variable) → tree_of_stmt the ≡ s.for_loop i x y z (tree_of_stmt a) → w ≡ a
     → typed_stmt the ≡ s.for_loop i (option_map plain x) (option_map plain y) (option_map plain z) (typed_stmt w)
 for_is the i x y z a w is same = ap (map_stmt plain) is ∙ ap (λ v. s.for_loop i (option_map plain x) (option_map plain y) (option_map plain z) (typed_stmt v)) (sym same)
 
-pub block_is : (the : Stmt Expression Const Ty Variable) (i : ℕ) (xs ys : List (Stmt Expression Const Ty Variable)) → tree_of_stmt the ≡ s.block i (tree_of_stmts xs) → ys ≡ xs → typed_stmt the ≡ s.block i (typed_stmts ys)
+pub block_is : (the : Stmt Expression Const Ty Variable) (i : ℕ) (xs ys : List (Stmt Expression Const Ty Variable))
+    → tree_of_stmt the ≡ s.block i (tree_of_stmts xs) → ys ≡ xs → typed_stmt the ≡ s.block i (typed_stmts ys)
 block_is the i xs ys is same = ap (map_stmt plain) is ∙ ap (λ zs. s.block i (typed_stmts zs)) (sym same)
 
 pub switch_is : (the : Stmt Expression Const Ty Variable) (i : ℕ) (x : Expression) (xs ys : List (Stmt Expression Const Ty Variable)) → tree_of_stmt the ≡ s.switch i x (tree_of_stmts xs) → ys ≡ xs
     → typed_stmt the ≡ s.switch i (plain x) (typed_stmts ys)
 switch_is the i x xs ys is same = ap (map_stmt plain) is ∙ ap (λ zs. s.switch i (plain x) (typed_stmts zs)) (sym same)
 
-pub declaration_is : (the : Stmt Expression Const Ty Variable) (i : ℕ) (y : Ty) (xs ys : List (DeclaredName Expression Variable)) → tree_of_stmt the ≡ s.declaration i y xs → ys ≡ xs → typed_stmt the ≡ s.declaration i y (typed_names ys)
+pub declaration_is : (the : Stmt Expression Const Ty Variable) (i : ℕ) (y : Ty)
+    (xs ys : List (DeclaredName Expression Variable)) → tree_of_stmt the ≡ s.declaration i y xs → ys ≡ xs
+    → typed_stmt the ≡ s.declaration i y (typed_names ys)
 declaration_is the i y xs ys is same = ap (map_stmt plain) is ∙ ap (λ zs. s.declaration i y (typed_names zs)) (sym same)
 
-pub plain_in_loop : (e : code.Exits) (next end d : ℕ) → e.break_to ≡ Some (record { label = end; depth = d }) → e.continue_to ≡ Some (record { label = next; depth = d }) → plain_exits e ≡ in_loop next end d
+pub plain_in_loop : (e : code.Exits) (next end d : ℕ) → e.break_to ≡ Some (record { label = end; depth = d })
+    → e.continue_to ≡ Some (record { label = next; depth = d }) → plain_exits e ≡ in_loop next end d
 plain_in_loop e next end d breaks continues =
     ap (λ t. record { break_to = label_of t; break_depth = depth_of t; continue_to = label_of e.continue_to; continue_depth = depth_of e.continue_to }) breaks
     ∙ ap (λ t. record { break_to = end; break_depth = d; continue_to = label_of t; continue_depth = depth_of t }) continues
 
-pub plain_in_switch : (e around : code.Exits) (label d : ℕ) → e.break_to ≡ Some (record { label = label; depth = d }) → e.continue_to ≡ around.continue_to → plain_exits e ≡ in_switch label d (plain_exits around)
+pub plain_in_switch : (e around : code.Exits) (label d : ℕ) → e.break_to ≡ Some (record { label = label; depth = d })
+    → e.continue_to ≡ around.continue_to → plain_exits e ≡ in_switch label d (plain_exits around)
 plain_in_switch e around label d breaks continues =
     ap (λ t. record { break_to = label_of t; break_depth = depth_of t; continue_to = label_of e.continue_to; continue_depth = depth_of e.continue_to }) breaks
     ∙ ap (λ t. record { break_to = label; break_depth = d; continue_to = label_of t; continue_depth = depth_of t }) continues

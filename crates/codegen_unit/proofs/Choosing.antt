@@ -61,7 +61,9 @@ dropped_none (suc n) label = refl
 
 pub evaluated_none : (add : PlacementsAdd) (above : ExprsPlaceAbove) (l : Layout) (n d : ℕ) (x : Option TypedExpr) (label : ℕ) → label < n → placements (evaluated l n d x) label ≡ 0
 evaluated_none add above l n d None label lt = refl
-evaluated_none add above l n d (Some x) label lt = none_both add (emit l n d x) (dropped (cells l.structs (type_of x))) label (above l n d x label lt) (dropped_none (cells l.structs (type_of x)) label)
+evaluated_none add above l n d (Some x) label lt = none_both add (emit l n d x)
+    (dropped (cells l.structs (type_of x))) label (above l n d x label lt)
+    (dropped_none (cells l.structs (type_of x)) label)
 
 pub tested_none : (add : PlacementsAdd) (above : ExprsPlaceAbove) (l : Layout) (n d : ℕ) (x : Option TypedExpr) (label : ℕ) → label < n → placements (tested l n d x) label ≡ 0
 tested_none add above l n d None label lt = refl
@@ -93,7 +95,8 @@ tests_none add at (s.more_stmts x xs) label = none_both add (test_of at x) (test
 
 -- ---- the end of a `for`
 
-pub for_open : (add : PlacementsAdd) (exprs : ExprsPlaceAbove) (stmt : StmtPlacesAbove) (l : Layout) (ex : Exits) (d top next last end : ℕ) (x y z : Option TypedExpr) (a : TypedStmt) (c1 c2 c3 c4 c5 : LabelledCode)
+pub for_open : (add : PlacementsAdd) (exprs : ExprsPlaceAbove) (stmt : StmtPlacesAbove) (l : Layout) (ex : Exits)
+    (d top next last end : ℕ) (x y z : Option TypedExpr) (a : TypedStmt) (c1 c2 c3 c4 c5 : LabelledCode)
     → c2 ≡ extended c1 (evaluated l c1.labels d x) (some_labels x)
     → c3 ≡ extended c2 (Label top ∷ (tested l c2.labels d y ++ JumpTo Jz last ∷ [])) (some_labels y)
     → c4 ≡ extended c3 (emit_stmt l ex c3.labels d a) (stmt_labels a)
@@ -103,11 +106,16 @@ for_open add exprs stmt l ex d top next last end x y z a c1 c2 c3 c4 c5 e2 e3 e4
     let n2 : c2.labels ≡ c1.labels + some_labels x = ap (λ (c : LabelledCode). c.labels) e2 in
     let n3 : c3.labels ≡ c2.labels + some_labels y = ap (λ (c : LabelledCode). c.labels) e3 in
     let n4 : c4.labels ≡ c3.labels + stmt_labels a = ap (λ (c : LabelledCode). c.labels) e4 in
-    let p2 : placements c2.lines end ≡ 0 = ap (λ (c : LabelledCode). placements c.lines end) e2 ∙ none_both add c1.lines (evaluated l c1.labels d x) end unplaced (evaluated_none add exprs l c1.labels d x end made) in
+    let p2 : placements c2.lines end
+    ≡ 0 = ap (λ (c : LabelledCode). placements c.lines end) e2
+    ∙ none_both add c1.lines (evaluated l c1.labels d x) end unplaced
+    (evaluated_none add exprs l c1.labels d x end made) in
     let p3 : placements c3.lines end ≡ 0 = ap (λ (c : LabelledCode). placements c.lines end) e3
     ∙ none_both add c2.lines (Label top ∷ (tested l c2.labels d y ++ JumpTo Jz last ∷ [])) end p2
     (omega (arith, other_label top end lt-top, add (tested l c2.labels d y) (JumpTo Jz last ∷ []) end, tested_none add exprs l c2.labels d y end (omega arith))) in
-    let p4 : placements c4.lines end ≡ 0 = ap (λ (c : LabelledCode). placements c.lines end) e4 ∙ none_both add c3.lines (emit_stmt l ex c3.labels d a) end p3 (stmt l ex c3.labels d a end (omega arith)) in
+    let p4 : placements c4.lines end
+    ≡ 0 = ap (λ (c : LabelledCode). placements c.lines end) e4
+    ∙ none_both add c3.lines (emit_stmt l ex c3.labels d a) end p3 (stmt l ex c3.labels d a end (omega arith)) in
     ap (λ (c : LabelledCode). placements c.lines end) e5
     ∙ none_both add c4.lines (Label next ∷ (evaluated l c4.labels d z ++ JumpTo Jmp top ∷ [])) end p4
     (omega (arith, other_label next end lt-next, add (evaluated l c4.labels d z) (JumpTo Jmp top ∷ []) end, evaluated_none add exprs l c4.labels d z end (omega arith)))
@@ -116,7 +124,8 @@ for_open add exprs stmt l ex d top next last end x y z a c1 c2 c3 c4 c5 e2 e3 e4
 
 -- its labels are open behind the choice
 pub choice_open : (add : PlacementsAdd) (exprs : ExprsPlaceAbove) (l : Layout) (d end other : ℕ) (x : TypedExpr) (xs : TypedStmts) (c1 c2 : LabelledCode)
-    → c2 ≡ extended c1 (emit l c1.labels d x ++ (tests (end + 1) xs ++ JumpTo Jmp other ∷ [])) (labels x) → (label : ℕ) → label < c1.labels → placements c1.lines label ≡ 0 → placements c2.lines label ≡ 0
+    → c2 ≡ extended c1 (emit l c1.labels d x ++ (tests (end + 1) xs ++ JumpTo Jmp other ∷ [])) (labels x) → (label : ℕ)
+    → label < c1.labels → placements c1.lines label ≡ 0 → placements c2.lines label ≡ 0
 choice_open add exprs l d end other x xs c1 c2 e label made unplaced =
     ap (λ (c : LabelledCode). placements c.lines label) e
     ∙ none_both add c1.lines (emit l c1.labels d x ++ (tests (end + 1) xs ++ JumpTo Jmp other ∷ [])) label unplaced
@@ -132,14 +141,19 @@ below_behind true at label lt = omega arith
 below_behind false at label lt = lt
 
 -- statements that stand directly in it place no label below their next ones
-pub row_none : (add : PlacementsAdd) (stmt : StmtPlacesAbove) (l : Layout) (ex : Exits) (n d at : ℕ) (xs : TypedStmts) (label : ℕ) → label < n → label < at → placements (emit_stmts l ex n d (Some at) xs) label ≡ 0
+pub row_none : (add : PlacementsAdd) (stmt : StmtPlacesAbove) (l : Layout) (ex : Exits) (n d at : ℕ) (xs : TypedStmts)
+    (label : ℕ) → label < n → label < at → placements (emit_stmts l ex n d (Some at) xs) label ≡ 0
 row_none add stmt l ex n d at s.no_stmt label below-n below-at = refl
 row_none add stmt l ex n d at (s.more_stmts x xs) label below-n below-at =
-    none_both add (placed (Some at) x) (emit_stmt l ex n d x ++ emit_stmts l ex (n + stmt_labels x) (d + declared_cells l.structs x) (placed_on (Some at) x) xs) label (placed_not (is_label x) at label below-at)
+    none_both add (placed (Some at) x)
+    (emit_stmt l ex n d x ++ emit_stmts l ex (n + stmt_labels x) (d + declared_cells l.structs x)
+    (placed_on (Some at) x) xs) label (placed_not (is_label x) at label below-at)
     (none_both add (emit_stmt l ex n d x) (emit_stmts l ex (n + stmt_labels x) (d + declared_cells l.structs x) (placed_on (Some at) x) xs) label (stmt l ex n d x label below-n)
     (row_none add stmt l ex (n + stmt_labels x) (d + declared_cells l.structs x) (behind at x) xs label (omega arith) (below_behind (is_label x) at label below-at)))
 
-pub close_open : (add : PlacementsAdd) (stmt : StmtPlacesAbove) (l : Layout) (ex : Exits) (d at end : ℕ) (xs : TypedStmts) (c2 c3 : LabelledCode) → c3 ≡ extended c2 (emit_stmts l ex c2.labels d (Some at) xs) (all_stmt_labels xs)
+pub close_open : (add : PlacementsAdd) (stmt : StmtPlacesAbove) (l : Layout) (ex : Exits) (d at end : ℕ)
+    (xs : TypedStmts) (c2 c3 : LabelledCode)
+    → c3 ≡ extended c2 (emit_stmts l ex c2.labels d (Some at) xs) (all_stmt_labels xs)
     → end < c2.labels → end < at → placements c2.lines end ≡ 0 → placements c3.lines end ≡ 0
 close_open add stmt l ex d at end xs c2 c3 e made lt unplaced =
     ap (λ (c : LabelledCode). placements c.lines end) e
@@ -170,17 +184,29 @@ module _ (l : Layout) (around ex : Exits) (d cells : ℕ) (x : TypedExpr) (xs : 
       let head = emit l (n + 1 + count_labels xs) d x ++ (tests (n + 1) xs ++ JumpTo Jmp (otherwise n (n + 1) xs) ∷ []) in
       let f2 : c2 ≡ extended (record c0 { labels = n + 1 + count_labels xs }) head (labels x) =
       e2 ∙ (ap (λ c. extended c (emit l c.labels d x ++ (tests (end + 1) xs ++ JumpTo Jmp (otherwise end (end + 1) xs) ∷ [])) (labels x)) f1
-      ∙ ap (λ k. extended (record c0 { labels = n + 1 + count_labels xs }) (emit l (n + 1 + count_labels xs) d x ++ (tests (k + 1) xs ++ JumpTo Jmp (otherwise k (k + 1) xs) ∷ [])) (labels x)) is-end) in
+      ∙ ap (λ k. extended (record c0 { labels = n + 1 + count_labels xs })
+      (emit l (n + 1 + count_labels xs) d x ++ (tests (k + 1) xs ++ JumpTo Jmp (otherwise k (k + 1) xs) ∷ []))
+      (labels x)) is-end) in
       let body = emit_stmts l (in_switch n (d + 1) around) (n + 1 + count_labels xs + labels x) (d + 1) (Some (n + 1)) xs in
       let f3 : c3 ≡ record { lines = (c0.lines ++ head) ++ body; labels = n + 1 + count_labels xs + labels x + all_stmt_labels xs } =
       e3 ∙ (ap (λ c. extended c (emit_stmts l ex c.labels (d + 1) (Some (end + 1)) xs) (all_stmt_labels xs)) f2
-      ∙ (ap (λ z. record { lines = (c0.lines ++ head) ++ emit_stmts l z (n + 1 + count_labels xs + labels x) (d + 1) (Some (end + 1)) xs; labels = n + 1 + count_labels xs + labels x + all_stmt_labels xs }) is-ex
-      ∙ ap (λ k. record { lines = (c0.lines ++ head) ++ emit_stmts l (in_switch k (d + 1) around) (n + 1 + count_labels xs + labels x) (d + 1) (Some (k + 1)) xs; labels = n + 1 + count_labels xs + labels x + all_stmt_labels xs }) is-end)) in
+      ∙ (ap (λ z. record {
+        lines = (c0.lines ++ head)
+            ++ emit_stmts l z (n + 1 + count_labels xs + labels x) (d + 1) (Some (end + 1)) xs;
+        labels = n + 1 + count_labels xs + labels x + all_stmt_labels xs;
+      }) is-ex
+      ∙ ap (λ k. record {
+        lines = (c0.lines ++ head)
+            ++ emit_stmts l (in_switch k (d + 1) around) (n + 1 + count_labels xs + labels x) (d + 1) (Some (k + 1)) xs;
+        labels = n + 1 + count_labels xs + labels x + all_stmt_labels xs;
+      }) is-end)) in
       on_ok r put (λ e. e
       ∙ (ap (λ (c : LabelledCode). record c { lines = c.lines ++ (dropped cells ++ Label end ∷ dropped 1) }) f3
       ∙ both_same _ _ _ _
       (ap (λ k. ((c0.lines ++ head) ++ body) ++ (dropped k ++ Label end ∷ dropped 1)) is-cells
       ∙ (ap (λ k. ((c0.lines ++ head) ++ body) ++ (dropped (all_declared_cells l.structs xs) ++ Label k ∷ dropped 1)) is-end
       ∙ (append_assoc (c0.lines ++ head) body _ ∙ (append_assoc c0.lines head _
-      ∙ ap (λ ys. c0.lines ++ ys) (head_then (emit l (n + 1 + count_labels xs) d x) (tests (n + 1) xs) (JumpTo Jmp (otherwise n (n + 1) xs)) (body ++ (dropped (all_declared_cells l.structs xs) ++ Label n ∷ dropped 1)))))))
+      ∙ ap (λ ys. c0.lines ++ ys)
+      (head_then (emit l (n + 1 + count_labels xs) d x) (tests (n + 1) xs) (JumpTo Jmp (otherwise n (n + 1) xs))
+      (body ++ (dropped (all_declared_cells l.structs xs) ++ Label n ∷ dropped 1)))))))
       (omega arith)))

@@ -161,11 +161,14 @@ module _ (l : Layout) (ex : code.Exits) (xs : List (Stmt Expression Const Ty Var
       ap (λ b. extended b (emit_stmts l out b.labels e on ys) (all_stmt_labels ys)) mid
       ∙ (ap (λ z. extended (extended now (p ++ c) k) (emit_stmts l out (now.labels + k) z on ys) (all_stmt_labels ys)) deeper
       ∙ (ap (λ z. extended (extended now (p ++ c) k) (emit_stmts l out (now.labels + k) (d + declared_cells l.structs (typed_stmt x)) z ys) (all_stmt_labels ys)) next
-      ∙ (extended_twice now (p ++ c) (emit_stmts l out (now.labels + k) (d + declared_cells l.structs (typed_stmt x)) (placed_on at (typed_stmt x)) ys) k (all_stmt_labels ys) (k + all_stmt_labels ys) refl
+      ∙ (extended_twice now (p ++ c)
+      (emit_stmts l out (now.labels + k) (d + declared_cells l.structs (typed_stmt x))
+      (placed_on at (typed_stmt x)) ys) k (all_stmt_labels ys) (k + all_stmt_labels ys) refl
       ∙ (ap (λ ls. extended now ls (k + all_stmt_labels ys)) (append_assoc p c _)
       ∙ (sym (stmts_next (λ zs. extended now (emit_stmts l out now.labels d at zs) (all_stmt_labels zs)) xs i x is lt) ∙ before)))))
 
-  pub open_after : (add : PlacementsAdd) (above : StmtPlacesAbove) (out : Exits) (now placing after : LabelledCode) (d : ℕ) (at on : Option ℕ) → placing ≡ record now { lines = now.lines ++ placed at (typed_stmt x) }
+  pub open_after : (add : PlacementsAdd) (above : StmtPlacesAbove) (out : Exits) (now placing after : LabelledCode)
+      (d : ℕ) (at on : Option ℕ) → placing ≡ record now { lines = now.lines ++ placed at (typed_stmt x) }
       → after ≡ extended placing (emit_stmt l out placing.labels d (typed_stmt x)) (stmt_labels (typed_stmt x)) → on ≡ placed_on at (typed_stmt x)
       → AreOpenIn now.labels now.lines at (typed_stmts (drop i xs)) → AreOpenIn after.labels after.lines on (typed_stmts (drop (i + 1) xs))
   open_after add above out now placing after d at on put added next opened =

@@ -18,10 +18,12 @@ use Rattle.typing_rules.specs.Cells.{Structs}
 use Rattle.emission_rules.specs.Layout.{declared_cells}
 use Rattle.emission_rules.specs.Statements.{is_label, is_default, count_labels, behind, test_of, tests, otherwise}
 
-pub known_label : (the : Stmt Expression Const Ty Variable) (s : PlainStmt Expression Const Ty Variable) (v : Bool) → tree_of_stmt the ≡ s → is_label (map_stmt plain s) ≡ v → v ≡ is_label (typed_stmt the)
+pub known_label : (the : Stmt Expression Const Ty Variable) (s : PlainStmt Expression Const Ty Variable) (v : Bool)
+    → tree_of_stmt the ≡ s → is_label (map_stmt plain s) ≡ v → v ≡ is_label (typed_stmt the)
 known_label the s v is e = sym (ap (λ t. is_label (map_stmt plain t)) is ∙ e)
 
-pub known_default : (the : Stmt Expression Const Ty Variable) (s : PlainStmt Expression Const Ty Variable) (v : Bool) → tree_of_stmt the ≡ s → is_default (map_stmt plain s) ≡ v → v ≡ is_default (typed_stmt the)
+pub known_default : (the : Stmt Expression Const Ty Variable) (s : PlainStmt Expression Const Ty Variable) (v : Bool)
+    → tree_of_stmt the ≡ s → is_default (map_stmt plain s) ≡ v → v ≡ is_default (typed_stmt the)
 known_default the s v is e = sym (ap (λ t. is_default (map_stmt plain t)) is ∙ e)
 
 pub known_cells : (structs : Structs) (the : Stmt Expression Const Ty Variable) (s : PlainStmt Expression Const Ty Variable) (v : ℕ) → tree_of_stmt the ≡ s
@@ -98,7 +100,8 @@ pub default_found : (xs : List (Stmt Expression Const Ty Variable)) (i end at al
 default_found xs i end at all x is lt b before =
     sym (stmts_next (otherwise end at) xs i x is lt ∙ picks_first (is_default (typed_stmt x)) at (otherwise end (behind at (typed_stmt x)) (typed_stmts (drop (i + 1) xs))) b) ∙ before
 
-pub default_passed : (xs : List (Stmt Expression Const Ty Variable)) (i end at next all : ℕ) (x : Stmt Expression Const Ty Variable) → x ≡ get_or xs i x → i < length xs → is_default (typed_stmt x) ≡ false
+pub default_passed : (xs : List (Stmt Expression Const Ty Variable)) (i end at next all : ℕ)
+    (x : Stmt Expression Const Ty Variable) → x ≡ get_or xs i x → i < length xs → is_default (typed_stmt x) ≡ false
     → next ≡ behind at (typed_stmt x) → otherwise end at (typed_stmts (drop i xs)) ≡ all → otherwise end next (typed_stmts (drop (i + 1) xs)) ≡ all
 default_passed xs i end at next all x is lt b on before =
     ap (λ n. otherwise end n (typed_stmts (drop (i + 1) xs))) on

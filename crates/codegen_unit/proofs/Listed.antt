@@ -132,18 +132,31 @@ other_label k label lt = grind (arith, nat_tests)
 pub function_others : (add : PlacementsAdd) (stmts : StmtsPlaceAbove) (l : Layout) (n f : ℕ) (ps : List TypedParameter) (body : TypedStmts) (label : ℕ) → f < label → label < n
     → placements (emit_function l n f ps body) label ≡ 0
 function_others add stmts l n f ps body label behind below =
-    let rest : placements (dropped (params_cells l.structs ps) ++ Instruction ops.Retn ∷ []) label ≡ 0 = none_both add (dropped (params_cells l.structs ps)) (Instruction ops.Retn ∷ []) label (dropped_none (params_cells l.structs ps) label) refl in
-    let inner : placements (emit_stmts l no_exits n (params_cells l.structs ps) None body ++ (dropped (all_declared_cells l.structs body) ++ (dropped (params_cells l.structs ps) ++ Instruction ops.Retn ∷ []))) label ≡ 0 =
-    none_both add (emit_stmts l no_exits n (params_cells l.structs ps) None body) (dropped (all_declared_cells l.structs body) ++ (dropped (params_cells l.structs ps) ++ Instruction ops.Retn ∷ [])) label
+    let rest : placements (dropped (params_cells l.structs ps) ++ Instruction ops.Retn ∷ []) label
+    ≡ 0 = none_both add (dropped (params_cells l.structs ps)) (Instruction ops.Retn ∷ []) label
+    (dropped_none (params_cells l.structs ps) label) refl in
+    let inner : placements (emit_stmts l no_exits n (params_cells l.structs ps) None body
+    ++ (dropped (all_declared_cells l.structs body)
+    ++ (dropped (params_cells l.structs ps) ++ Instruction ops.Retn ∷ []))) label ≡ 0 =
+    none_both add (emit_stmts l no_exits n (params_cells l.structs ps) None body)
+    (dropped (all_declared_cells l.structs body)
+    ++ (dropped (params_cells l.structs ps) ++ Instruction ops.Retn ∷ [])) label
     (stmts l no_exits n (params_cells l.structs ps) body label below)
-    (none_both add (dropped (all_declared_cells l.structs body)) (dropped (params_cells l.structs ps) ++ Instruction ops.Retn ∷ []) label (dropped_none (all_declared_cells l.structs body) label) rest) in
+    (none_both add (dropped (all_declared_cells l.structs body))
+    (dropped (params_cells l.structs ps) ++ Instruction ops.Retn ∷ []) label
+    (dropped_none (all_declared_cells l.structs body) label) rest) in
     omega (arith, other_label f label behind)
 
 pub others_kept : {T E : Type 0} (r : Result T E) (add : PlacementsAdd) (stmts : StmtsPlaceAbove) (l : Layout) (f k : ℕ) (ps : List TypedParameter) (body : TypedStmts) (before after : LabelledCode)
     → OnOk r (after ≡ extended before (emit_function l before.labels f ps body) k)
     → OnOk r ((label : ℕ) → f < label → label < before.labels → placements after.lines label ≡ placements before.lines label)
 others_kept (Ok x) add stmts l f k ps body before after e =
-    λ label behind below. ap (λ (c : LabelledCode). placements c.lines label) e ∙ omega (arith, add before.lines (emit_function l before.labels f ps body) label, function_others add stmts l before.labels f ps body label behind below)
+    λ label behind below. ap (λ (c : LabelledCode). placements c.lines label) e
+    ∙ omega (
+      arith,
+      add before.lines (emit_function l before.labels f ps body) label,
+      function_others add stmts l before.labels f ps body label behind below,
+    )
 others_kept (Err e) add stmts l f k ps body before after put = tt
 
 globals_none : (add : PlacementsAdd) (names : NamesPlaceAbove) (l : Layout) (n d : ℕ) (ys : List TypedItem) (label : ℕ) → label < n → placements (emit_globals l n d ys) label ≡ 0
@@ -162,7 +175,8 @@ entry_none (Conditional f) label = refl
 later_label : (k label : ℕ) → label < k → ◌≡◌ {A = ℕ} (cond (eqb k label) 1 0) 0
 later_label k label lt = grind (arith, nat_tests)
 
-pub start_none : (add : PlacementsAdd) (names : NamesPlaceAbove) (l : Layout) (n : ℕ) (b : Bool) (ys : List TypedItem) (e : EntryPoint) (label : ℕ) → label < n → placements (emit_start l n b ys e) label ≡ 0
+pub start_none : (add : PlacementsAdd) (names : NamesPlaceAbove) (l : Layout) (n : ℕ) (b : Bool) (ys : List TypedItem)
+    (e : EntryPoint) (label : ℕ) → label < n → placements (emit_start l n b ys e) label ≡ 0
 start_none add names l n false ys e label lt = none_both add (entry_call e) (Instruction ops.Retn ∷ []) label (entry_none e label) refl
 start_none add names l n true ys e label lt =
     let last : placements (dropped l.globals ++ Instruction ops.Retn ∷ []) label ≡ 0 = none_both add (dropped l.globals) (Instruction ops.Retn ∷ []) label (dropped_none l.globals label) refl in

@@ -20,7 +20,9 @@ next : {A : Type 0} (F : List TypedName → A) (xs : List (DeclaredName Expressi
     → F (typed_names (drop i xs)) ≡ F (typed_name x ∷ typed_names (drop (i + 1) xs))
 next F xs i x is lt = at_drop_more (λ ys. F (typed_names ys)) xs i x lt ∙ ap (λ y. F (typed_name y ∷ typed_names (drop (i + 1) xs))) (sym is)
 
-pub names_ready : (l : Layout) (xs : List (DeclaredName Expression Variable)) (i : ℕ) (x : DeclaredName Expression Variable) (now after : LabelledCode) (depth count : ℕ) → x ≡ get_or xs i x → i < length xs
+pub names_ready : (l : Layout) (xs : List (DeclaredName Expression Variable)) (i : ℕ)
+    (x : DeclaredName Expression Variable) (now after : LabelledCode) (depth count : ℕ) → x ≡ get_or xs i x
+    → i < length xs
     → after ≡ extended now (initial l now.labels depth x.name.ty (option_map plain x.value)) (some_labels (option_map plain x.value)) → count ≡ cells l.structs x.name.ty
     → NamesReady now.labels l depth (typed_names (drop i xs)) → NamesReady after.labels l (depth + count) (typed_names (drop (i + 1) xs))
 names_ready l xs i x now after depth count is lt put few ready =
@@ -33,7 +35,9 @@ names_ready l xs i x now after depth count is lt put few ready =
       labelled = omega (arith, r.labelled);
     }
 
-pub names_step : (l : Layout) (xs : List (DeclaredName Expression Variable)) (i : ℕ) (x : DeclaredName Expression Variable) (now after end : LabelledCode) (depth count : ℕ) → x ≡ get_or xs i x → i < length xs
+pub names_step : (l : Layout) (xs : List (DeclaredName Expression Variable)) (i : ℕ)
+    (x : DeclaredName Expression Variable) (now after end : LabelledCode) (depth count : ℕ) → x ≡ get_or xs i x
+    → i < length xs
     → after ≡ extended now (initial l now.labels depth x.name.ty (option_map plain x.value)) (some_labels (option_map plain x.value)) → count ≡ cells l.structs x.name.ty
     → extended now (emit_names l now.labels depth (typed_names (drop i xs))) (names_labels (typed_names (drop i xs))) ≡ end
     → extended after (emit_names l after.labels (depth + count) (typed_names (drop (i + 1) xs))) (names_labels (typed_names (drop (i + 1) xs))) ≡ end

@@ -19,7 +19,9 @@ both_same : (xs ys : List Line) (n m : ℕ) → xs ≡ ys → n ≡ m → ◌≡
 both_same xs ys n m e f = ap (λ zs. record { lines = zs; labels = n }) e ∙ ap (λ k. record { lines = ys; labels = k }) f
 
 module _ (l : Layout) (d : ℕ) (c0 : LabelledCode) where
-  pub block_code : {T E : Type 0} (r : Result T E) (ex : Exits) (xs : TypedStmts) (cells : ℕ) (c1 c2 : LabelledCode) → c1 ≡ extended c0 (emit_stmts l ex c0.labels d None xs) (all_stmt_labels xs) → cells ≡ all_declared_cells l.structs xs
+  pub block_code : {T E : Type 0} (r : Result T E) (ex : Exits) (xs : TypedStmts) (cells : ℕ) (c1 c2 : LabelledCode)
+      → c1 ≡ extended c0 (emit_stmts l ex c0.labels d None xs) (all_stmt_labels xs)
+      → cells ≡ all_declared_cells l.structs xs
       → OnOk r (c2 ≡ record c1 { lines = c1.lines ++ dropped cells })
       → OnOk r (c2 ≡ extended c0 (emit_stmts l ex c0.labels d None xs ++ dropped (all_declared_cells l.structs xs)) (all_stmt_labels xs))
   block_code r ex xs cells c1 c2 e1 few put =
@@ -54,7 +56,8 @@ module _ (l : Layout) (d : ℕ) (c0 : LabelledCode) where
       (e2 ∙ ap (λ c. extended c (emit l c.labels d x) (labels x)) e1))))))
       ∙ both_same _ _ _ _ (rw o (simp append_assoc refl)) (omega arith))
 
-  pub while_code : (ex : Exits) (x : TypedExpr) (a : TypedStmt) (next : ℕ) (c1 c2 c3 c4 c5 c6 c7 : LabelledCode) → next ≡ c0.labels → ex ≡ in_loop next (next + 1) d → c1 ≡ record c0 { labels = c0.labels + 2 }
+  pub while_code : (ex : Exits) (x : TypedExpr) (a : TypedStmt) (next : ℕ) (c1 c2 c3 c4 c5 c6 c7 : LabelledCode)
+      → next ≡ c0.labels → ex ≡ in_loop next (next + 1) d → c1 ≡ record c0 { labels = c0.labels + 2 }
       → c2 ≡ record c1 { lines = c1.lines ++ Label next ∷ [] } → c3 ≡ extended c2 (emit l c2.labels d x) (labels x)
       → c4 ≡ record c3 { lines = c3.lines ++ JumpTo Jz (next + 1) ∷ [] } → c5 ≡ extended c4 (emit_stmt l ex c4.labels d a) (stmt_labels a)
       → c6 ≡ record c5 { lines = c5.lines ++ JumpTo Jmp next ∷ [] } → c7 ≡ record c6 { lines = c6.lines ++ Label (next + 1) ∷ [] }
@@ -68,7 +71,8 @@ module _ (l : Layout) (d : ℕ) (c0 : LabelledCode) where
       (e2 ∙ ap (λ (c : LabelledCode). record c { lines = c.lines ++ Label next ∷ [] }) e1)))))
       ∙ both_same _ _ _ _ (rw (is, o) (simp append_assoc refl)) (omega arith))
 
-  pub do_code : (ex : Exits) (a : TypedStmt) (x : TypedExpr) (top : ℕ) (c1 c2 c3 c4 c5 c6 c7 : LabelledCode) → top ≡ c0.labels → ex ≡ in_loop (top + 1) (top + 2) d → c1 ≡ record c0 { labels = c0.labels + 3 }
+  pub do_code : (ex : Exits) (a : TypedStmt) (x : TypedExpr) (top : ℕ) (c1 c2 c3 c4 c5 c6 c7 : LabelledCode)
+      → top ≡ c0.labels → ex ≡ in_loop (top + 1) (top + 2) d → c1 ≡ record c0 { labels = c0.labels + 3 }
       → c2 ≡ record c1 { lines = c1.lines ++ Label top ∷ [] } → c3 ≡ extended c2 (emit_stmt l ex c2.labels d a) (stmt_labels a)
       → c4 ≡ record c3 { lines = c3.lines ++ Label (top + 1) ∷ [] } → c5 ≡ extended c4 (emit l c4.labels d x) (labels x)
       → c6 ≡ record c5 { lines = c5.lines ++ JumpTo Jnz top ∷ [] } → c7 ≡ record c6 { lines = c6.lines ++ Label (top + 2) ∷ [] }
@@ -82,7 +86,8 @@ module _ (l : Layout) (d : ℕ) (c0 : LabelledCode) where
       (e2 ∙ ap (λ (c : LabelledCode). record c { lines = c.lines ++ Label top ∷ [] }) e1)))))
       ∙ both_same _ _ _ _ (rw (is, o) (simp append_assoc refl)) (omega arith))
 
-  pub for_code : (ex : Exits) (x y z : Option TypedExpr) (a : TypedStmt) (top : ℕ) (c1 c2 c3 c4 c5 c6 : LabelledCode) → top ≡ c0.labels → ex ≡ in_loop (top + 1) (top + 2) d → c1 ≡ record c0 { labels = c0.labels + 3 }
+  pub for_code : (ex : Exits) (x y z : Option TypedExpr) (a : TypedStmt) (top : ℕ) (c1 c2 c3 c4 c5 c6 : LabelledCode)
+      → top ≡ c0.labels → ex ≡ in_loop (top + 1) (top + 2) d → c1 ≡ record c0 { labels = c0.labels + 3 }
       → c2 ≡ extended c1 (evaluated l c1.labels d x) (some_labels x)
       → c3 ≡ extended c2 (Label top ∷ (tested l c2.labels d y ++ JumpTo Jz (top + 2) ∷ [])) (some_labels y)
       → c4 ≡ extended c3 (emit_stmt l ex c3.labels d a) (stmt_labels a)

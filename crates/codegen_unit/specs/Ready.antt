@@ -46,7 +46,8 @@ IsPartReady made l depth (Some x) = CanBeEmitted made l depth x
 
 -- ---- statements
 
-pub record StmtReady (made : ℕ) (l : Layout) (depth : ℕ) (exits : Exits) (x : TypedStmt) : Type 0 where
+pub record StmtReady (made : ℕ) (l : Layout) (depth : ℕ) (exits : Exits)
+    (x : TypedStmt) : Type 0 where
   pub bounded : IsStmt made l (leads exits.break_to) (leads exits.continue_to) x
   pub deep : depth + stmt_weight x ≤ frame_limit
   pub globals : l.globals ≤ frame_limit
@@ -54,7 +55,8 @@ pub record StmtReady (made : ℕ) (l : Layout) (depth : ℕ) (exits : Exits) (x 
   pub break_made : IsMade made exits.break_to
   pub continue_made : IsMade made exits.continue_to
 
-pub record StmtsReady (made : ℕ) (l : Layout) (depth : ℕ) (exits : Exits) (xs : TypedStmts) : Type 0 where
+pub record StmtsReady (made : ℕ) (l : Layout) (depth : ℕ) (exits : Exits)
+    (xs : TypedStmts) : Type 0 where
   pub bounded : AreStmts made l (leads exits.break_to) (leads exits.continue_to) xs
   pub deep : depth + all_stmt_weight xs ≤ frame_limit
   pub globals : l.globals ≤ frame_limit
@@ -76,7 +78,8 @@ pub record LoopReady (made : ℕ) (l : Layout) (depth : ℕ) (x : TypedStmt) : T
   pub labelled : made + stmt_labels x < 2 ^ 32
 
 -- the body of a switch, whose own labels were made, inside of what is around it
-pub record SwitchReady (made : ℕ) (l : Layout) (depth : ℕ) (around : Exits) (xs : TypedStmts) : Type 0 where
+pub record SwitchReady (made : ℕ) (l : Layout) (depth : ℕ) (around : Exits)
+    (xs : TypedStmts) : Type 0 where
   pub bounded : AreStmts made l true (leads around.continue_to) xs
   pub deep : depth + all_stmt_weight xs ≤ frame_limit
   pub globals : l.globals ≤ frame_limit
@@ -87,7 +90,8 @@ pub record SwitchReady (made : ℕ) (l : Layout) (depth : ℕ) (around : Exits) 
 -- statements place.
 pub record AreOpen (made : ℕ) (lines : List Line) (at : ℕ) (xs : TypedStmts) : Type 0 where
   pub inside : at + count_labels xs ≤ made
-  pub unplaced : (label : ℕ) → at ≤ label → label < at + count_labels xs → placements lines label ≡ 0
+  pub unplaced : (label : ℕ) → at ≤ label → label < at + count_labels xs
+      → placements lines label ≡ 0
 
 abbrev pub AreOpenIn : ℕ → List Line → Option ℕ → TypedStmts → Type 0
 AreOpenIn made lines None xs = Unit {0}
@@ -107,9 +111,11 @@ pub record FunctionsReady (made : ℕ) (l : Layout) (items : List TypedItem) : T
   pub labelled : made + functions_labels items < 2 ^ 32
 
 -- the labels of the functions of these items, from a number on, were made and are placed nowhere
-pub record AreFunctionsOpen (made : ℕ) (lines : List Line) (at : ℕ) (items : List TypedItem) : Type 0 where
+pub record AreFunctionsOpen (made : ℕ) (lines : List Line) (at : ℕ)
+    (items : List TypedItem) : Type 0 where
   pub inside : at + body_count items ≤ made
-  pub unplaced : (label : ℕ) → at ≤ label → label < at + body_count items → placements lines label ≡ 0
+  pub unplaced : (label : ℕ) → at ≤ label → label < at + body_count items
+      → placements lines label ≡ 0
 
 -- the globals of these items, at a depth
 pub record GlobalsReady (made : ℕ) (l : Layout) (depth : ℕ) (items : List TypedItem) : Type 0 where

@@ -46,7 +46,8 @@ abbrev pub compiled_line : List ℕ → ℕ → List ℕ
 compiled_line name size = done_line (codes "compiled ") name size
 
 abbrev pub writes_code : List ℕ → List ℕ → Work Finished
-writes_code script file = writes_and_puts (code_name script) file (compiled_line (code_name script) (length file))
+writes_code script file = writes_and_puts (code_name script) file
+    (compiled_line (code_name script) (length file))
 
 unfoldable pub compiles_under : List ℕ → EngineTable → Work Finished
 compiles_under script header = then (compiled_named header script) (writes_code script)

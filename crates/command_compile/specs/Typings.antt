@@ -43,7 +43,8 @@ pub data TypingFate : Type 0 where
 
 pub data IsTypingFate (header : EngineTable) (tree : SourceTree) : TypingFate → Type 0 where
   whole : (unit : TypedUnit) → TypesUnit header tree unit → IsTypingFate header tree (Whole unit)
-  faulty : (fault : Fault) → kept None (unit_faults header tree) ≡ Some fault → IsTypingFate header tree (Faulty fault)
+  faulty : (fault : Fault) → kept None (unit_faults header tree) ≡ Some fault
+      → IsTypingFate header tree (Faulty fault)
 
 -- a fault is told at its token; that of a script without beginning stands behind the last one
 abbrev pub typing_by : PlainScript → TypingFate → Work TypedUnit
@@ -52,7 +53,8 @@ typing_by script (Faulty fault) = Refused (at_token script fault.token (cause_of
 
 -- the typed unit of a script under a header
 unfoldable pub typed_in : EngineTable → PlainScript → Work TypedUnit
-typed_in header script = Finds (λ (c : Contents) fate. IsTypingFate header script.tree fate) (typing_by script)
+typed_in header script = Finds (λ (c : Contents) fate. IsTypingFate header script.tree fate)
+    (typing_by script)
 
 -- an answer, its script seen as the typed unit
 abbrev pub plain_typed_answer : Result TypedScript Status → Result TypedUnit Status

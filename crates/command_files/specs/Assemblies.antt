@@ -23,7 +23,8 @@ pub data AssemblyFate : Type 0 where
 
 pub data IsAssemblyFate (text : List ℕ) : AssemblyFate → Type 0 where
   whole : (file : List ℕ) → IsAssembled text file → IsAssemblyFate text (Whole file)
-  broken : (fails : AsmFault) (why : CodeFlaw) → AssemblyFails fails text → asm_flaw fails ≡ Some why → IsAssemblyFate text (Faulty why)
+  broken : (fails : AsmFault) (why : CodeFlaw) → AssemblyFails fails text
+      → asm_flaw fails ≡ Some why → IsAssemblyFate text (Faulty why)
 
 abbrev pub assembly_by : List ℕ → AssemblyFate → Work (List ℕ)
 assembly_by name (Whole file) = Gives file

@@ -7,7 +7,8 @@ use Rattle.command_files.specs.Checks.{checked_in, checked_named, loaded_in, che
 
 -- a header and instructions decide whether these are well stacked
 abbrev pub SureOps : Type 0
-SureOps = (header : EngineTable) (name : List ℕ) (ops : List PlainOp) → IsSure (checked_in header name ops)
+SureOps = (header : EngineTable) (name : List ℕ) (ops : List PlainOp)
+    → IsSure (checked_in header name ops)
 
 -- the bytes of a file decide which instructions it has that pass the check, or why there are none
 abbrev pub SureLoaded : Type 0

@@ -30,7 +30,8 @@ check_by name ops Unstacked = Refused (BadCode name flaw.Unstacked)
 
 -- instructions, which are those of the file of this name, are checked under a header
 unfoldable pub checked_in : EngineTable → List ℕ → List PlainOp → Work (List PlainOp)
-checked_in header name ops = Finds (λ (c : Contents) fate. IsCheckFate header ops fate) (check_by name ops)
+checked_in header name ops = Finds (λ (c : Contents) fate. IsCheckFate header ops fate)
+    (check_by name ops)
 
 -- the instructions of the file of this name, checked under a header
 unfoldable pub checked_named : EngineTable → List ℕ → Work (List PlainOp)

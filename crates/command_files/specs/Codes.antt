@@ -30,7 +30,8 @@ pub data CodeFate : Type 0 where
 
 pub data IsCodeFate (bytes : List ℕ) : CodeFate → Type 0 where
   whole : (ops : List PlainOp) → IsCode ops → bytes ≡ file_bytes ops → IsCodeFate bytes (Whole ops)
-  broken : (fails : LoadFault) (why : CodeFlaw) → LoadFails fails bytes → load_flaw fails ≡ Some why → IsCodeFate bytes (Faulty why)
+  broken : (fails : LoadFault) (why : CodeFlaw) → LoadFails fails bytes → load_flaw fails ≡ Some why
+      → IsCodeFate bytes (Faulty why)
 
 abbrev pub code_by : List ℕ → CodeFate → Work (List PlainOp)
 code_by name (Whole ops) = Gives ops

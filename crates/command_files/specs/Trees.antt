@@ -46,7 +46,8 @@ pub data TreeFate : Type 0 where
 
 pub data IsTreeFate (bytes : List ℕ) : TreeFate → Type 0 where
   whole : (tree : PlainGff) → Stands bytes tree → IsTreeFate bytes (Whole tree)
-  unopened : (fails : OpenFault) → open_fault bytes ≡ Some fails → IsTreeFate bytes (Faulty (open_flaw fails))
+  unopened : (fails : OpenFault) → open_fault bytes ≡ Some fails
+      → IsTreeFate bytes (Faulty (open_flaw fails))
   broken : (why : AreaFlaw) → IsBroken bytes why → IsTreeFate bytes (Faulty why)
 
 abbrev pub tree_by : List ℕ → TreeFate → Work PlainGff

@@ -67,7 +67,10 @@ module _ (n : ℕ) (p : Played Saved) (w : World Saved) (answer : Answer) (clock
       → out ≡ summary n p
   unfolding summary
   summary_is start out ends told lines at c r e none first last =
-      last p.ending ends.ending ∙ ap (λ m. m ++ end_line p.ending clock answer.entries answer.instructions) (first ∙ (ap (λ s. s ++ made_line creatures events (newlines trace) (length trace)) none ∙ made_is c r e told lines))
+      last p.ending ends.ending
+      ∙ ap (λ m. m ++ end_line p.ending clock answer.entries answer.instructions)
+      (first ∙ (ap (λ s. s ++ made_line creatures events (newlines trace) (length trace)) none
+      ∙ made_is c r e told lines))
       ∙ ap (λ x. made_line (creatures_of n) (creatures_of n * rounds_of n) (length p.last.trace) (length (trace_text p.last.trace)) ++ x) (end_is ends at)
 
 -- the most events are 60,000

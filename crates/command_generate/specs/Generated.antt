@@ -37,7 +37,8 @@ faultless absences longs = record { faults = 0; absences = absences; longs = lon
 
 -- the source is compiled under the built-in header with this answer, and this text is put
 abbrev pub Compiles : List ℕ → Result (List ℕ) Status → List ℕ → Type 0
-Compiles source answer text = Does (compiled_named header_table (codes "beat")) (files_with source) [] answer (files_with source) text
+Compiles source answer text = Does (compiled_named header_table (codes "beat"))
+    (files_with source) [] answer (files_with source) text
 
 -- the source of a number
 pub record IsMadeSource (source : List ℕ) : Type 0 where
@@ -71,7 +72,8 @@ made_line creatures events lines bytes =
 -- how much was made and told, and the last line of the play's text
 unfoldable pub summary : ℕ → Played Saved → List ℕ
 summary n p =
-    made_line (creatures_of n) (creatures_of n * rounds_of n) (length p.last.trace) (length (trace_text p.last.trace))
+    made_line (creatures_of n) (creatures_of n * rounds_of n) (length p.last.trace)
+    (length (trace_text p.last.trace))
     ++ end_line p.ending p.last.world.clock p.last.entries p.last.count
 
 -- ---- the play
@@ -88,7 +90,9 @@ tells n p = Puts (summary n p) (ends_by p.ending)
 
 -- instructions are played as the one script of the plan over the area of a number
 unfoldable pub plays_made : CellLookup → ℕ → List PlainOp → Work Finished
-plays_made cell n ops = tells n (plan_played cell header_table (plan_of n) (listed (codes "beat") ops) (plan_world (made_area n) (plan_of n)))
+plays_made cell n ops = tells n
+    (plan_played cell header_table (plan_of n) (listed (codes "beat") ops)
+    (plan_world (made_area n) (plan_of n)))
 
 unfoldable pub checks_made : CellLookup → ℕ → List ℕ → Work Finished
 checks_made cell n file = then (loaded_in header_table (codes "beat.ncs") file) (plays_made cell n)

@@ -199,7 +199,8 @@ module _ (c : Running) (executes : ExecuteKeeps c.execute) where
         bare_spend p (λ q. bind (caller f a.values q) (λ parts r. Gives parts (record r { locals = q.locals }))) h
         (λ q k. bare_bind (caller f a.values q) (λ parts r. Gives parts (record r { locals = q.locals })) (callers f a.values q k) (λ parts r j. (tt, j)))
 
-    called_bare : (f : Callee) (ts : List Ty) (arguments : Progress → Outcome Arguments) → ((p : Progress) → IsBare p.world → Ends HasNone (arguments p)) → Keeps (callee_called c caller f ts arguments)
+    called_bare : (f : Callee) (ts : List Ty) (arguments : Progress → Outcome Arguments)
+        → ((p : Progress) → IsBare p.world → Ends HasNone (arguments p)) → Keeps (callee_called c caller f ts arguments)
     called_bare (InUnit f) ts arguments each p h =
         bare_bind (made ts p) (λ parts q. bind (arguments q) (λ a r. unit_called caller f a r)) (made_bare ts p h)
         (λ parts q k. ends_bind HasNone Any (arguments q) (λ a r. unit_called caller f a r) (each q k) (λ a r none j. unit_called_bare f a r j))
@@ -304,11 +305,15 @@ module _ (c : Running) (executes : ExecuteKeeps c.execute) where
       exec_bare (do_loop n a e) plain sight p h =
           let loop = λ (r : Progress). looped (λ s. eval c caller sight e s) (λ s. exec c caller sight a s) (λ s. Gives [] s) r in
           bare_bind (exec c caller sight a p) (λ f q. on_body f loop q) (exec_bare a plain.0 sight p h)
-          (λ f q k. body_bare f loop (looped_bare (λ s. eval c caller sight e s) (λ s. Gives [] s) (λ s. exec c caller sight a s) (eval_bare e plain.1 sight) (exec_bare a plain.0 sight) nothing_bare) q k)
+          (λ f q k. body_bare f loop
+          (looped_bare (λ s. eval c caller sight e s) (λ s. Gives [] s) (λ s. exec c caller sight a s)
+          (eval_bare e plain.1 sight) (exec_bare a plain.0 sight) nothing_bare) q k)
       exec_bare (for_loop n x y z a) plain sight p h =
           let go = λ (parts : List Value) (q : Progress). looped (λ r. tested c caller sight y r) (λ r. exec c caller sight a r) (λ r. maybe c caller sight z r) q in
           bare_bind (maybe c caller sight x p) go (maybe_bare sight x plain.0 p h)
-          (λ parts q k. looped_bare (λ r. tested c caller sight y r) (λ r. maybe c caller sight z r) (λ r. exec c caller sight a r) (tested_bare sight y plain.1) (exec_bare a plain.3 sight) (maybe_bare sight z plain.2) q k)
+          (λ parts q k. looped_bare (λ r. tested c caller sight y r) (λ r. maybe c caller sight z r)
+          (λ r. exec c caller sight a r) (tested_bare sight y plain.1) (exec_bare a plain.3 sight)
+          (maybe_bare sight z plain.2) q k)
       exec_bare (switch n e xs) plain sight p h =
           let ends = λ (f : Flow) (r : Progress). Gives (on_switch f) r in
           let otherwise = λ (r : Progress). from_default c caller sight xs r in
@@ -448,7 +453,9 @@ module _ (s : Setting) (plain : AllHaveNone s.scripts) where
   started_bare zero script self p h =
       listed_bare (executing s None) (λ o. executing_bare None tt o) script self (slice_get s.scripts script) (listed_at s.scripts plain script) p h
   started_bare (suc room) script self p h =
-      listed_bare (executing s (Some (started s room))) (λ o. executing_bare (Some (started s room)) (started_bare room) o) script self (slice_get s.scripts script) (listed_at s.scripts plain script) p h
+      listed_bare (executing s (Some (started s room)))
+      (λ o. executing_bare (Some (started s room)) (started_bare room) o) script self (slice_get s.scripts script)
+      (listed_at s.scripts plain script) p h
 
   -- an entry that starts a script
   pub script_bare : (n script self : ℕ) (w : World Deferred) → IsBare w → Bare (run_script s n script self w)

@@ -35,7 +35,8 @@ named_ending host limit o (Some script) w = (run_script host limit script o w).e
 
 abbrev pub event_ending : Host (World Saved) → ℕ → ℕ → List ℕ → World Saved → runs.Ending
 event_ending host limit o [] w = runs.Over
-event_ending host limit o (b ∷ name) w = named_ending host limit o (script_named host.scripts (b ∷ name)) w
+event_ending host limit o (b ∷ name) w = named_ending host limit o
+    (script_named host.scripts (b ∷ name)) w
 
 abbrev pub turn_ending : Host (World Saved) → ℕ → ℕ → Option Saved → World Saved → runs.Ending
 turn_ending host limit o None w = runs.Over
@@ -58,9 +59,11 @@ ends_after runs.ZeroDivisor rest = rest
 ends_after runs.OutOfInstructions rest = Ends StoppedInside
 ends_after runs.StackFault rest = StackFault
 
-abbrev pub next_ends : Host (World Saved) → ℕ → Option (Begun Saved) → Progress Saved → (Progress Saved → CodeEnd) → CodeEnd
+abbrev pub next_ends : Host (World Saved) → ℕ → Option (Begun Saved) → Progress Saved
+    → (Progress Saved → CodeEnd) → CodeEnd
 next_ends host limit None p rest = Ends Done
-next_ends host limit (Some b) p rest = ends_after (entry_ending host limit b) (rest (further (entry_entered (code_runner host limit) b) p))
+next_ends host limit (Some b) p rest = ends_after (entry_ending host limit b)
+    (rest (further (entry_entered (code_runner host limit) b) p))
 
 abbrev pub code_ends : Host (World Saved) → ℕ → Bounds → ℕ → Progress Saved → CodeEnd
 code_ends host limit bounds zero p = Ends Paused
@@ -77,11 +80,13 @@ code_end host limit bounds p = code_ends host limit bounds (bounds.stop - p.entr
 
 -- The play of files that goes on from here ends as plays do, and so at no stack fault.
 abbrev pub GoesWithoutFault : Host (World Saved) → ℕ → Bounds → Progress Saved → Type 0
-GoesWithoutFault host limit bounds p = code_end host limit bounds p ≡ Ends (play_on (code_runner host limit) bounds p).ending
+GoesWithoutFault host limit bounds p = code_end host limit bounds p
+    ≡ Ends (play_on (code_runner host limit) bounds p).ending
 
 -- So does a whole play from a world on.
 abbrev pub EndsWithoutFault : Host (World Saved) → ℕ → ℕ → ℕ → World Saved → Type 0
-EndsWithoutFault host limit entries until w = GoesWithoutFault host limit (whole entries until) (unplayed w)
+EndsWithoutFault host limit entries until w = GoesWithoutFault host limit (whole entries until)
+    (unplayed w)
 
 -- every script is well stacked under a header
 abbrev pub AreStacked : EngineTable → List Script → Type 0
@@ -90,13 +95,17 @@ AreStacked header scripts = AllByRecursion (λ s. WellStacked header s.code) scr
 -- So does every play of checked files that goes on from a world whose captured states fit.
 abbrev pub CheckedPlaysGoOn : Type 0
 CheckedPlaysGoOn =
-    (cell : CellLookup) (header : EngineTable) (scripts : List Script) (tables : Tables) (limit : ℕ) (bounds : Bounds) (p : Progress Saved)
-    → IsTable header → AllMeet header scripts tables → StatesFit scripts tables p.world → GoesWithoutFault (host_of cell header scripts) limit bounds p
+    (cell : CellLookup) (header : EngineTable) (scripts : List Script) (tables : Tables) (limit : ℕ)
+    (bounds : Bounds) (p : Progress Saved)
+    → IsTable header → AllMeet header scripts tables → StatesFit scripts tables p.world
+    → GoesWithoutFault (host_of cell header scripts) limit bounds p
 
 -- So does every one from the world of an area and of what is planned in it, in which no state is
 -- captured.
 abbrev pub CheckedPlaysHaveNoFault : Type 0
 CheckedPlaysHaveNoFault =
-    (cell : CellLookup) (header : EngineTable) (scripts : List Script) (limit : ℕ) (bounds : Bounds) (area : PlainArea) (random : List ℕ) (events : List Planned) (version : ℕ)
+    (cell : CellLookup) (header : EngineTable) (scripts : List Script) (limit : ℕ) (bounds : Bounds)
+    (area : PlainArea) (random : List ℕ) (events : List Planned) (version : ℕ)
     → IsTable header → AreStacked header scripts
-    → GoesWithoutFault (host_of cell header scripts) limit bounds (unplayed (new_world area random events version))
+    → GoesWithoutFault (host_of cell header scripts) limit bounds
+    (unplayed (new_world area random events version))

@@ -14,7 +14,8 @@ use Rattle.command_meaning.specs.Units.{code_of, IsUnitOf}
 
 -- A typed unit's file, under the name of its script, was loaded, checked and played, from these
 -- contents and taken bytes on.
-pub record PlaysFile (cell : CellLookup) (header : EngineTable) (name : List ℕ) (u : TypedUnit) (c : Contents) (t : List ℕ) (r : Result Finished Status)
+pub record PlaysFile (cell : CellLookup) (header : EngineTable) (name : List ℕ) (u : TypedUnit)
+    (c : Contents) (t : List ℕ) (r : Result Finished Status)
     (c' : Contents) (t' : List ℕ) : Type 0 where
   pub table : IsTable header
   pub unit : IsUnitOf header u
@@ -26,11 +27,14 @@ pub record PlaysFile (cell : CellLookup) (header : EngineTable) (name : List ℕ
 -- What comes of it comes of the play of the unit's code.
 abbrev pub FilesPlayTheirCode : Type 0
 FilesPlayTheirCode =
-    (cell : CellLookup) (header : EngineTable) (name : List ℕ) (u : TypedUnit) (c : Contents) (t : List ℕ) (r : Result Finished Status) (c' : Contents) (t' : List ℕ)
-    → PlaysFile cell header name u c t r c' t' → Does (plays_code cell header name (code_of u)) c t r c' t'
+    (cell : CellLookup) (header : EngineTable) (name : List ℕ) (u : TypedUnit) (c : Contents)
+    (t : List ℕ) (r : Result Finished Status) (c' : Contents) (t' : List ℕ)
+    → PlaysFile cell header name u c t r c' t'
+    → Does (plays_code cell header name (code_of u)) c t r c' t'
 
 -- The file is never refused.
 abbrev pub FilesAreNotRefused : Type 0
 FilesAreNotRefused =
-    (cell : CellLookup) (header : EngineTable) (name : List ℕ) (u : TypedUnit) (c : Contents) (t : List ℕ) (r : Result Finished Status) (c' : Contents) (t' : List ℕ)
+    (cell : CellLookup) (header : EngineTable) (name : List ℕ) (u : TypedUnit) (c : Contents)
+    (t : List ℕ) (r : Result Finished Status) (c' : Contents) (t' : List ℕ)
     → PlaysFile cell header name u c t r c' t' → r ≢ Err Code

@@ -19,11 +19,13 @@ begun_world = record (still empty_area [] 2) { agenda = record { entries = []; n
 
 -- the one evaluation of a script's start, with at most n steps
 unfoldable pub evaluated : CellLookup → EngineTable → List ℕ → TypedUnit → ℕ → Entered Deferred
-evaluated cell header name u n = event_entry (runner (setting_of cell header name u) n) 0 (text_name name) begun_world
+evaluated cell header name u n = event_entry (runner (setting_of cell header name u) n) 0
+    (text_name name) begun_world
 
 -- a play that has this one entry: it is done, unless the entry was stopped
 abbrev pub played_once : List ℕ → Entered Deferred → Played Deferred
-played_once name e = after_entry e.stopped (further e (unplayed (source_world name))) (λ p. record { ending = Done; last = p })
+played_once name e = after_entry e.stopped (further e (unplayed (source_world name)))
+    (λ p. record { ending = Done; last = p })
 
 -- The play has exactly one entry, and tells what that tells.
 pub record IsOneEntry (name : List ℕ) (e : Entered Deferred) (p : Played Deferred) : Type 0 where
@@ -34,15 +36,19 @@ pub record IsOneEntry (name : List ℕ) (e : Entered Deferred) (p : Played Defer
 -- For a unit without action arguments the play of its source has exactly one entry, and tells what
 -- its one evaluation tells.
 abbrev pub PlaysOnce : CellLookup → EngineTable → List ℕ → TypedUnit → Type 0
-PlaysOnce cell header name u = UnitHasNoAction u → (n : ℕ) → IsOneEntry name (evaluated cell header name u n) (source_played cell header name u n)
+PlaysOnce cell header name u = UnitHasNoAction u → (n : ℕ)
+    → IsOneEntry name (evaluated cell header name u n) (source_played cell header name u n)
 
 -- So it is for any unit where the evaluation leaves nothing on the agenda.
 abbrev pub PlaysOnceWhereNothingWaits : CellLookup → EngineTable → List ℕ → TypedUnit → Type 0
 PlaysOnceWhereNothingWaits cell header name u =
-    (n : ℕ) → (evaluated cell header name u n).world.agenda.entries ≡ [] → IsOneEntry name (evaluated cell header name u n) (source_played cell header name u n)
+    (n : ℕ) → (evaluated cell header name u n).world.agenda.entries ≡ []
+    → IsOneEntry name (evaluated cell header name u n) (source_played cell header name u n)
 
 abbrev pub StartsPlayOnce : Type 0
-StartsPlayOnce = (cell : CellLookup) (header : EngineTable) (name : List ℕ) (u : TypedUnit) → PlaysOnce cell header name u
+StartsPlayOnce = (cell : CellLookup) (header : EngineTable) (name : List ℕ) (u : TypedUnit)
+    → PlaysOnce cell header name u
 
 abbrev pub StartsPlayOnceWhereNothingWaits : Type 0
-StartsPlayOnceWhereNothingWaits = (cell : CellLookup) (header : EngineTable) (name : List ℕ) (u : TypedUnit) → PlaysOnceWhereNothingWaits cell header name u
+StartsPlayOnceWhereNothingWaits = (cell : CellLookup) (header : EngineTable) (name : List ℕ)
+    (u : TypedUnit) → PlaysOnceWhereNothingWaits cell header name u

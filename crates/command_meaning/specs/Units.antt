@@ -33,7 +33,8 @@ pub record IsUnitOf (header : EngineTable) (u : TypedUnit) : Type 0 where
 
 -- Its values have the types that stand at their nodes.
 abbrev pub UnitsAreWellTyped : Type 0
-UnitsAreWellTyped = (header : EngineTable) (u : TypedUnit) → IsTable header → IsUnitOf header u → IsWellTyped header u
+UnitsAreWellTyped = (header : EngineTable) (u : TypedUnit) → IsTable header → IsUnitOf header u
+    → IsWellTyped header u
 
 -- The file of a unit loads, with the instructions of its code, and these are well stacked under the
 -- header.
@@ -43,9 +44,11 @@ pub record Passes (header : EngineTable) (u : TypedUnit) : Type 0 where
 
 -- So does every file of a typed unit that is not too large.
 abbrev pub UnitsPass : Type 0
-UnitsPass = (header : EngineTable) (u : TypedUnit) → IsTable header → IsUnitOf header u → length (unit_file u) ≤ file_limit → Passes header u
+UnitsPass = (header : EngineTable) (u : TypedUnit) → IsTable header → IsUnitOf header u
+    → length (unit_file u) ≤ file_limit → Passes header u
 
 -- Under the table of a header the engine's answers have the routines' types, whatever tables cells
 -- are looked up in.
 abbrev pub TablesAnswerInTypes : Type 0
-TablesAnswerInTypes = (header : EngineTable) (cell : CellLookup) → IsTable header → AnswersAreTyped header cell
+TablesAnswerInTypes = (header : EngineTable) (cell : CellLookup) → IsTable header
+    → AnswersAreTyped header cell

@@ -38,7 +38,8 @@ abbrev mutual
   StatementHasNone (if_else m x a b) = HasNoAction x × StatementHasNone a × StatementHasNone b
   StatementHasNone (while_loop m x a) = HasNoAction x × StatementHasNone a
   StatementHasNone (do_loop m a x) = StatementHasNone a × HasNoAction x
-  StatementHasNone (for_loop m x y z a) = HasNoneThere x × HasNoneThere y × HasNoneThere z × StatementHasNone a
+  StatementHasNone (for_loop m x y z a) = HasNoneThere x × HasNoneThere y × HasNoneThere z
+      × StatementHasNone a
   StatementHasNone (switch m x xs) = HasNoAction x × StatementsHaveNone xs
   StatementHasNone (break_off m) = Unit {0}
   StatementHasNone (continue_on m) = Unit {0}

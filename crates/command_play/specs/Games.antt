@@ -40,17 +40,22 @@ abbrev pub tells : List ℕ → List Script → Played Saved → Work Finished
 tells to scripts p = Puts (trace_text p.last.trace) (tells_end to scripts p)
 
 -- a plan is played over an area, and the area that it leaves goes into the file of this name
-unfoldable pub plays_plan : CellLookup → EngineTable → PlainArea → Plan → List Script → List ℕ → Work Finished
-plays_plan cell header area plan scripts to = tells to scripts (plan_played cell header plan scripts (plan_world area plan))
+unfoldable pub plays_plan : CellLookup → EngineTable → PlainArea → Plan → List Script → List ℕ
+    → Work Finished
+plays_plan cell header area plan scripts to = tells to scripts
+    (plan_played cell header plan scripts (plan_world area plan))
 
 -- ---- the command
 
 -- the area is read once the scripts are there
-unfoldable pub plays_area : CellLookup → EngineTable → List ℕ → Plan → List ℕ → List Script → Work Finished
-plays_area cell header area plan to scripts = then (area_named area) (λ a. plays_plan cell header a plan scripts to)
+unfoldable pub plays_area : CellLookup → EngineTable → List ℕ → Plan → List ℕ → List Script
+    → Work Finished
+plays_area cell header area plan to scripts = then (area_named area)
+    (λ a. plays_plan cell header a plan scripts to)
 
 unfoldable pub plays_scripts : CellLookup → List ℕ → Plan → List ℕ → EngineTable → Work Finished
-plays_scripts cell area plan to header = then (scripts_listed header plan.scripts) (plays_area cell header area plan to)
+plays_scripts cell area plan to header = then (scripts_listed header plan.scripts)
+    (plays_area cell header area plan to)
 
 unfoldable pub plays_under : CellLookup → List ℕ → List ℕ → List ℕ → Plan → Work Finished
 plays_under cell header area to plan = then (table_of_word header) (plays_scripts cell area plan to)

@@ -10,9 +10,11 @@ use Rattle.command_play.specs.Games.{plays_plan, plays}
 
 -- a plan, an area and listed scripts decide what comes of the play
 abbrev pub SureGames : Type 0
-SureGames = (cell : CellLookup) (header : EngineTable) (area : PlainArea) (plan : Plan) (scripts : List Script) (to : List ℕ)
+SureGames = (cell : CellLookup) (header : EngineTable) (area : PlainArea) (plan : Plan)
+    (scripts : List Script) (to : List ℕ)
     → IsSure (plays_plan cell header area plan scripts to)
 
 -- and what the files hold decides what comes of the command
 abbrev pub SurePlays : Type 0
-SurePlays = (cell : CellLookup) (header area plan to : List ℕ) → IsSure (plays cell header area plan to)
+SurePlays = (cell : CellLookup) (header area plan to : List ℕ)
+    → IsSure (plays cell header area plan to)

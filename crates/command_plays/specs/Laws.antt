@@ -7,4 +7,5 @@ use Rattle.command_plays.specs.Scripts.{plays_file}
 
 -- the bytes of a file decide what comes of their play
 abbrev pub SurePlays : Type 0
-SurePlays = (cell : CellLookup) (header : EngineTable) (name file bytes : List ℕ) → IsSure (plays_file cell header name file bytes)
+SurePlays = (cell : CellLookup) (header : EngineTable) (name file bytes : List ℕ)
+    → IsSure (plays_file cell header name file bytes)

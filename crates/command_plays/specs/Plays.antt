@@ -23,17 +23,22 @@ host_of cell header scripts = host scripts (record { table = header; cell = cell
 
 -- the play of listed scripts from a world on, with the limits of a plan
 abbrev pub plan_played : CellLookup → EngineTable → Plan → List Script → World Saved → Played Saved
-plan_played cell header plan scripts w = code_play (host_of cell header scripts) plan.limit plan.entries plan.until w
+plan_played cell header plan scripts w = code_play
+    (host_of cell header scripts) plan.limit plan.entries plan.until w
 
 -- the play that goes on after so many entries and instructions, and is broken off once so many
 -- entries were taken in all
-abbrev pub played_on : CellLookup → EngineTable → Limits → List Script → ℕ → ℕ → ℕ → World Saved → Played Saved
-played_on cell header limits scripts stop taken done w = code_play_on (host_of cell header scripts) limits.0 limits.1 limits.2 stop taken done w
+abbrev pub played_on : CellLookup → EngineTable → Limits → List Script → ℕ → ℕ → ℕ → World Saved
+    → Played Saved
+played_on cell header limits scripts stop taken done w = code_play_on
+    (host_of cell header scripts) limits.0 limits.1 limits.2 stop taken done w
 
 -- the play of a plan, which is broken off once so many entries were taken, or as many as it may
 -- take
-abbrev pub played_first : CellLookup → EngineTable → Plan → List Script → ℕ → World Saved → Played Saved
-played_first cell header plan scripts n w = played_on cell header (limits_of plan) scripts (min n plan.entries) 0 0 w
+abbrev pub played_first : CellLookup → EngineTable → Plan → List Script → ℕ → World Saved
+    → Played Saved
+played_first cell header plan scripts n w = played_on cell header (limits_of plan) scripts
+    (min n plan.entries) 0 0 w
 
 -- the states that a world keeps fit the listed scripts
 abbrev pub FitListed : List Loaded → World Saved → Type 0

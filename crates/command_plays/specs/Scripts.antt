@@ -24,7 +24,8 @@ listed name ops = record { name = text_name name; code = ops } ∷ []
 
 -- the play from a world on, with the limits that hold where none is set
 abbrev pub run_played : CellLookup → EngineTable → List Script → World Saved → Played Saved
-run_played cell header scripts w = code_play (host_of cell header scripts) default_instruction_limit default_entry_limit default_until w
+run_played cell header scripts w = code_play
+    (host_of cell header scripts) default_instruction_limit default_entry_limit default_until w
 
 -- ---- its text
 
@@ -38,8 +39,10 @@ tells scripts p = Puts (trace_text p.last.trace) (tells_end scripts p)
 
 -- instructions are played as the one script of this name
 unfoldable pub plays_code : CellLookup → EngineTable → List ℕ → List PlainOp → Work Finished
-plays_code cell header name ops = tells (listed name ops) (run_played cell header (listed name ops) (first_world name))
+plays_code cell header name ops = tells (listed name ops)
+    (run_played cell header (listed name ops) (first_world name))
 
 -- the bytes of a compiled script's file are loaded, checked and played
 unfoldable pub plays_file : CellLookup → EngineTable → List ℕ → List ℕ → List ℕ → Work Finished
-plays_file cell header name file bytes = then (loaded_in header file bytes) (plays_code cell header name)
+plays_file cell header name file bytes = then (loaded_in header file bytes)
+    (plays_code cell header name)

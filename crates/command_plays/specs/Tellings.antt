@@ -31,22 +31,27 @@ TakesText text t (Ok a) t' = t' ≡ t ++ text
 TakesText text t (Err cut) t' = CutsShort cut × TookPrefix text t t'
 
 -- so of the lines of a play
-abbrev pub TakesLines : {S A : Type 0} → (S → List ℕ) → plays.Played Saved → S → Result A Status → S → Type 0
+abbrev pub TakesLines : {S A : Type 0} → (S → List ℕ) → plays.Played Saved → S → Result A Status → S
+    → Type 0
 TakesLines taken p out r out' = TakesText (trace_text p.last.trace) (taken out) r (taken out')
 
 -- ---- what is told of a play that was told whole, or cut short
 
 -- the sink took its lines, or a prefix of them
 abbrev pub TellsTrace : {A : Type 0} → How → Result A Status → Type 0
-TellsTrace how r = (text before after : List ℕ) → TakesTrace how text before after → TakesText text before r after
+TellsTrace how r = (text before after : List ℕ) → TakesTrace how text before after
+    → TakesText text before r after
 
 abbrev pub TellsCounts : {A : Type 0} → How → Result A Status → Type 0
 TellsCounts how r =
-    (before now : ℕ) → (counts : FileCounts) → CountsPlay how before now → Tallies r (Counted counts before) (Counted counts now)
+    (before now : ℕ) → (counts : FileCounts) → CountsPlay how before now
+    → Tallies r (Counted counts before) (Counted counts now)
 
 -- what the answer tells where the play wasn't cut short holds of a whole one
 abbrev pub TellsEnding : Played → Result Played Status → Type 0
 TellsEnding played r =
-    (p : plays.Played Saved) → (w : World Saved) → EndsAs played.how p.ending → WherePlayed played.how (played.entries ≡ p.last.entries)
-    → WherePlayed played.how (played.instructions ≡ p.last.count) → WherePlayed played.how (w ≡ p.last.world)
+    (p : plays.Played Saved) → (w : World Saved) → EndsAs played.how p.ending
+    → WherePlayed played.how (played.entries ≡ p.last.entries)
+    → WherePlayed played.how (played.instructions ≡ p.last.count)
+    → WherePlayed played.how (w ≡ p.last.world)
     → IfOk r (λ answer. IsEnding answer p w)

@@ -12,7 +12,8 @@ use Rattle.command_plays.specs.Scripts.{plays_file}
 
 -- a script is compiled under a header, and its file, which isn't written, is played
 unfoldable pub runs_under : CellLookup → List ℕ → EngineTable → Work Finished
-runs_under cell script header = then (compiled_named header script) (plays_file cell header script (code_name script))
+runs_under cell script header = then (compiled_named header script)
+    (plays_file cell header script (code_name script))
 
 unfoldable pub runs : CellLookup → List ℕ → List ℕ → Work Finished
 runs cell header script = then (table_of_word header) (runs_under cell script)

@@ -143,7 +143,8 @@ module _ {X : Type 0} (runner : Runner X) (bounds : Bounds) where
       → next_entry runner b (after before p) go ≡ played_after before (next_entry runner b p go)
   next_front before go fronts None p = refl
   next_front before go fronts (Some b) p =
-      after_front before go fronts (entry_entered runner b).stopped (further (entry_entered runner b) p) (further (entry_entered runner b) (after before p)) (further_front before (entry_entered runner b) p)
+      after_front before go fronts (entry_entered runner b).stopped (further (entry_entered runner b) p)
+      (further (entry_entered runner b) (after before p)) (further_front before (entry_entered runner b) p)
 
   turn_front : (before : List Line) (go : Progress X → Played X) → Fronts before go → (is_full : Bool) (b : Option (Begun X)) (p : Progress X)
       → (if is_full then record { ending = full b; last = after before p } else next_entry runner b (after before p) go)
@@ -189,7 +190,9 @@ module _ {X : Type 0} (runner : Runner X) (bounds : Bounds) where
   pub users : (u : ℤ) (k : ℕ) (p : Progress X) → SameBut (plays_from runner bounds k (with_user u p)) (plays_from runner bounds k p)
   users u zero p = record { user = u; is = refl }
   users u (suc k) p =
-      subst (λ (b : Option (Begun X)). SameBut (if p.entries == bounds.entries then record { ending = full b; last = with_user u p } else next_entry runner b (with_user u p) (plays_from runner bounds k))
+      subst (λ (b : Option (Begun X)). SameBut
+      (if p.entries == bounds.entries then record { ending = full b; last = with_user u p } else next_entry runner b
+      (with_user u p) (plays_from runner bounds k))
       (plays_from runner bounds (suc k) p)) (sym (begun_same u p.world.agenda.entries p.world))
       (turn_user (plays_from runner bounds k) u (p.entries == bounds.entries) (begin bounds.until p.world) p)
 

@@ -65,7 +65,8 @@ module _ (host : Host (World Saved)) (limit entries until n : ℕ) (w : World Sa
       ∙ stops_same (code_runner host limit) entries until (min n entries) (entries + 1) (min n entries) (unplayed w)
 
   abbrev IsRest : Played Saved → Type 0
-  IsRest f = IsRestOf (code_runner host limit) bounds f.last.trace (on (code_runner host limit) bounds (unplayed w)) (on (code_runner host limit) bounds (left_of (code_runner host limit) bounds f.last))
+  IsRest f = IsRestOf (code_runner host limit) bounds f.last.trace (on (code_runner host limit) bounds (unplayed w))
+      (on (code_runner host limit) bounds (left_of (code_runner host limit) bounds f.last))
 
   -- the unbroken play is what was told before, and the rest
   pub goes : first.ending ≢ plays.StoppedInside → IsRest first

@@ -138,7 +138,8 @@ told_end text w c c' t t' r uncut (inl x) = absurd (uncut x.0)
 told_end text w c c' t t' r uncut (inr does) = does
 
 module _ (laws : OneLaws) (cell : CellLookup) (header : HeaderFile) (area : AreaFile) (plan : Plan) (scripts : List Script) (n : ℕ) (name to : List ℕ)
-    (headed : IsHeaderOf header.text header.table) (c c1 d c2 c3 : Contents) (same : content d name ≡ content c1 name) (t t0 t1 t2 t3 t4 : List ℕ) (begun : IsPrefix t0 t) (done : Finished) (r2 r3 : Result Finished Status)
+    (headed : IsHeaderOf header.text header.table) (c c1 d c2 c3 : Contents) (same : content d name ≡ content c1 name)
+    (t t0 t1 t2 t3 t4 : List ℕ) (begun : IsPrefix t0 t) (done : Finished) (r2 r3 : Result Finished Status)
     (uncut : IsCut r2 → ⊥) (uncut_too : IsCut r3 → ⊥) where
   abbrev host : Host (World Saved)
   host = host_of cell header.table scripts

@@ -30,7 +30,8 @@ use Rattle.command_save.specs.Inputs.{header_of, area_named}
 -- ---- what the files hold decides what comes of a command
 
 abbrev pub SureSaves : Type 0
-SureSaves = (cell : CellLookup) (header area plan : List ℕ) (n : ℕ) (name : List ℕ) → IsSure (saves cell header area plan n name)
+SureSaves = (cell : CellLookup) (header area plan : List ℕ) (n : ℕ) (name : List ℕ)
+    → IsSure (saves cell header area plan n name)
 
 abbrev pub SureResumes : Type 0
 SureResumes = (cell : CellLookup) (name to : List ℕ) → IsSure (resumes cell name to)
@@ -39,7 +40,8 @@ SureResumes = (cell : CellLookup) (name to : List ℕ) → IsSure (resumes cell 
 
 -- Of an unbroken play the saved one told the front, and the resumed one the rest; both end alike,
 -- and leave the same in the file of the area.
-pub record GoOn (name to : List ℕ) (c2 c3 : Contents) (t t1 t2 t3 t4 : List ℕ) (r2 r3 : Result Finished Status) : Type 0 where
+pub record GoOn (name to : List ℕ) (c2 c3 : Contents) (t t1 t2 t3 t4 : List ℕ)
+    (r2 r3 : Result Finished Status) : Type 0 where
   pub front : List ℕ
   pub rest : List ℕ
   pub entries : ℕ
@@ -53,7 +55,8 @@ pub record GoOn (name to : List ℕ) (c2 c3 : Contents) (t t1 t2 t3 t4 : List �
 -- whatever other files hold by then. Neither it nor the unbroken play was cut, which had the files
 -- of the one that was saved.
 abbrev pub SavedPlaysGoOn : Type 0
-SavedPlaysGoOn = (cell : CellLookup) (header area plan name to : List ℕ) (n : ℕ) (c c1 d c2 c3 : Contents) (t t1 t2 t3 t4 : List ℕ)
+SavedPlaysGoOn = (cell : CellLookup) (header area plan name to : List ℕ) (n : ℕ)
+    (c c1 d c2 c3 : Contents) (t t1 t2 t3 t4 : List ℕ)
     (done : Finished) (r2 r3 : Result Finished Status)
     → Does (saves cell header area plan n name) c t (Ok done) c1 t1
     → content d name ≡ content c1 name → Does (resumes cell name to) d t2 r2 c2 t3 → (IsCut r2 → ⊥)
@@ -64,17 +67,24 @@ SavedPlaysGoOn = (cell : CellLookup) (header area plan name to : List ℕ) (n : 
 
 -- A state is one of the first play where it stands exactly if it is one of the second; and a state
 -- of the one has the bytes of that of the other.
-pub record SameStates (header : HeaderFile) (file : List ℕ) (plan : Plan) (scripts : List Script) (p q : Progress Saved) : Type 0 where
+pub record SameStates (header : HeaderFile) (file : List ℕ) (plan : Plan) (scripts : List Script)
+    (p q : Progress Saved) : Type 0 where
   pub alike : (t : Parts) → IsStateAt header file plan scripts p t ↔ IsStateAt header file plan scripts q t
-  pub bytes : (t u : Parts) → IsStateAt header file plan scripts p t → IsStateAt header file plan scripts q u → parts_bytes t ≡ parts_bytes u
+  pub bytes : (t u : Parts) → IsStateAt header file plan scripts p t
+      → IsStateAt header file plan scripts q u → parts_bytes t ≡ parts_bytes u
 
 -- The state after n and m entries is the state after m more entries of the play that the state after
 -- n tells, byte for byte.
 abbrev pub SavesCompose : Type 0
-SavesCompose = (cell : CellLookup) (header : HeaderFile) (file : List ℕ) (plan : Plan) (scripts : List Script) (n m : ℕ) (w : World Saved)
-    → IsHeaderOf header.text header.table → w.trace ≡ [] → (played_first cell header.table plan scripts n w).ending ≢ StoppedInside
-    → (s : Parts) → IsStateAt header file plan scripts (played_first cell header.table plan scripts n w).last s → (g : Going) → GoesFrom s g
-    → SameStates header file plan scripts (played_first cell header.table plan scripts (n + m) w).last (played_further cell s g (n + m)).last
+SavesCompose = (cell : CellLookup) (header : HeaderFile) (file : List ℕ) (plan : Plan)
+    (scripts : List Script) (n m : ℕ) (w : World Saved)
+    → IsHeaderOf header.text header.table → w.trace ≡ []
+    → (played_first cell header.table plan scripts n w).ending ≢ StoppedInside
+    → (s : Parts) → IsStateAt header file plan scripts
+    (played_first cell header.table plan scripts n w).last s → (g : Going) → GoesFrom s g
+    → SameStates header file plan scripts
+    (played_first cell header.table plan scripts (n + m) w).last
+    (played_further cell s g (n + m)).last
 
 -- ---- the parts of the work by themselves
 
@@ -96,11 +106,17 @@ OneGoing = (s : Parts) (g h : Going) → GoesFrom s g → GoesFrom s h → g ≡
 -- the play is these first entries, gone on with where they were broken off
 abbrev pub IsFront : Runner Saved → Plan → ℕ → Played Saved → Played Saved → Type 0
 IsFront runner plan n front all =
-    all ≡ continued runner (record { entries = plan.entries; until = plan.until; stop = plan.entries + 1 }) (plan.entries + 1 - min n plan.entries) front.ending front
+    all ≡ continued runner (record {
+      entries = plan.entries;
+      until = plan.until;
+      stop = plan.entries + 1;
+    }) (plan.entries + 1 - min n plan.entries) front.ending front
 
 abbrev pub FrontsGoOn : Type 0
-FrontsGoOn = (cell : CellLookup) (header : EngineTable) (plan : Plan) (scripts : List Script) (n : ℕ) (w : World Saved)
-    → IsFront (code_runner (host_of cell header scripts) plan.limit) plan n (played_first cell header plan scripts n w) (plan_played cell header plan scripts w)
+FrontsGoOn = (cell : CellLookup) (header : EngineTable) (plan : Plan) (scripts : List Script)
+    (n : ℕ) (w : World Saved)
+    → IsFront (code_runner (host_of cell header scripts) plan.limit) plan n
+    (played_first cell header plan scripts n w) (plan_played cell header plan scripts w)
 
 -- ---- what a state goes on from
 

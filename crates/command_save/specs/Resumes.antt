@@ -63,11 +63,13 @@ pub record GoesFrom (s : Parts) (g : Going) : Type 0 where
 
 -- the rest of the play, by the limits and counts of its state
 abbrev pub played_rest : CellLookup → Parts → Going → Played Saved
-played_rest cell s g = played_on cell g.table (s.limit, s.entries, s.until) g.scripts (s.entries + 1) s.taken s.done g.world
+played_rest cell s g = played_on cell g.table (s.limit, s.entries, s.until) g.scripts
+    (s.entries + 1) s.taken s.done g.world
 
 -- the same, broken off once so many entries were taken in all
 abbrev pub played_further : CellLookup → Parts → Going → ℕ → Played Saved
-played_further cell s g entries = played_on cell g.table (s.limit, s.entries, s.until) g.scripts (min entries s.entries) s.taken s.done g.world
+played_further cell s g entries = played_on cell g.table (s.limit, s.entries, s.until) g.scripts
+    (min entries s.entries) s.taken s.done g.world
 
 -- it is told and written as every play
 unfoldable pub resumes_from : CellLookup → List ℕ → Parts → Going → Work Finished

@@ -43,7 +43,8 @@ AreSpelled scripts = AllByRecursion (λ (script : Script). IsCode script.code) s
 
 -- A play of a plan can go on from the state as it stands here, between two entries. The state can
 -- be written where it is no larger than a file may be.
-pub record IsStateAt (header : HeaderFile) (file : List ℕ) (plan : Plan) (scripts : List Script) (p : Progress Saved) (s : Parts) : Type 0 where
+pub record IsStateAt (header : HeaderFile) (file : List ℕ) (plan : Plan) (scripts : List Script)
+    (p : Progress Saved) (s : Parts) : Type 0 where
   pub form : length (parts_bytes s) ≤ file_limit → HasForm s
   pub accepted : IsAccepted s
   pub play : IsPlayOf s header.text (map file_of scripts) file (limits_of plan)
@@ -55,7 +56,8 @@ pub record IsStateAt (header : HeaderFile) (file : List ℕ) (plan : Plan) (scri
 
 -- the line that tells how many entries were taken before
 abbrev pub saved_line : List ℕ → ℕ → List ℕ
-saved_line name entries = codes "saved " ++ escaped name ++ codes " entries " ++ decimal entries ++ codes "\n"
+saved_line name entries = codes "saved " ++ escaped name ++ codes " entries " ++ decimal entries
+    ++ codes "\n"
 
 -- bytes are written under this name, and then it is told that they were saved after so many entries
 unfoldable pub state_told : List ℕ → List ℕ → ℕ → Work Finished
@@ -68,13 +70,17 @@ state_by false name bytes entries = state_told name bytes entries
 -- the bytes of a state are written under this name, unless they are more than a file may have; and
 -- then it is told
 unfoldable pub state_written : List ℕ → Parts → Work Finished
-state_written name s = state_by (nat_lt file_limit (length (parts_bytes s))) name (parts_bytes s) s.taken
+state_written name s = state_by (nat_lt file_limit (length (parts_bytes s))) name
+    (parts_bytes s) s.taken
 
-unfoldable pub saves_at : HeaderFile → List ℕ → Plan → List Script → List ℕ → Progress Saved → Work Finished
-saves_at header file plan scripts name p = Finds (λ (c : Contents) s. IsStateAt header file plan scripts p s) (state_written name)
+unfoldable pub saves_at : HeaderFile → List ℕ → Plan → List Script → List ℕ → Progress Saved
+    → Work Finished
+saves_at header file plan scripts name p = Finds
+    (λ (c : Contents) s. IsStateAt header file plan scripts p s) (state_written name)
 
 -- where a limit ended an entry, that is told, and nothing is saved
-abbrev pub saves_by : PlayEnd → HeaderFile → List ℕ → Plan → List Script → List ℕ → Played Saved → Work Finished
+abbrev pub saves_by : PlayEnd → HeaderFile → List ℕ → Plan → List Script → List ℕ → Played Saved
+    → Work Finished
 saves_by StoppedInside header file plan scripts name p = Puts (code_end_text scripts p) (Ends Limit)
 saves_by Done header file plan scripts name p = saves_at header file plan scripts name p.last
 saves_by OutOfEntries header file plan scripts name p = saves_at header file plan scripts name p.last
@@ -83,23 +89,31 @@ saves_by Paused header file plan scripts name p = saves_at header file plan scri
 -- ---- the play
 
 -- the trace stands in front
-abbrev pub saves_played : HeaderFile → List ℕ → Plan → List Script → List ℕ → Played Saved → Work Finished
-saves_played header file plan scripts name p = Puts (trace_text p.last.trace) (saves_by p.ending header file plan scripts name p)
+abbrev pub saves_played : HeaderFile → List ℕ → Plan → List Script → List ℕ → Played Saved
+    → Work Finished
+saves_played header file plan scripts name p = Puts (trace_text p.last.trace)
+    (saves_by p.ending header file plan scripts name p)
 
-unfoldable pub saves_plan : CellLookup → HeaderFile → Plan → List Script → ℕ → List ℕ → AreaFile → Work Finished
+unfoldable pub saves_plan : CellLookup → HeaderFile → Plan → List Script → ℕ → List ℕ → AreaFile
+    → Work Finished
 saves_plan cell header plan scripts n name area =
-    saves_played header area.bytes plan scripts name (played_first cell header.table plan scripts n (plan_world area.area plan))
+    saves_played header area.bytes plan scripts name
+    (played_first cell header.table plan scripts n (plan_world area.area plan))
 
 -- ---- the command: a play's files are read in its order
 
-unfoldable pub saves_area : CellLookup → HeaderFile → List ℕ → Plan → ℕ → List ℕ → List Script → Work Finished
-saves_area cell header area plan n name scripts = then (area_named area) (saves_plan cell header plan scripts n name)
+unfoldable pub saves_area : CellLookup → HeaderFile → List ℕ → Plan → ℕ → List ℕ → List Script
+    → Work Finished
+saves_area cell header area plan n name scripts = then (area_named area)
+    (saves_plan cell header plan scripts n name)
 
 unfoldable pub saves_scripts : CellLookup → List ℕ → Plan → ℕ → List ℕ → HeaderFile → Work Finished
-saves_scripts cell area plan n name header = then (scripts_listed header.table plan.scripts) (saves_area cell header area plan n name)
+saves_scripts cell area plan n name header = then (scripts_listed header.table plan.scripts)
+    (saves_area cell header area plan n name)
 
 unfoldable pub saves_under : CellLookup → List ℕ → List ℕ → ℕ → List ℕ → Plan → Work Finished
-saves_under cell header area n name plan = then (header_of header) (saves_scripts cell area plan n name)
+saves_under cell header area n name plan = then (header_of header)
+    (saves_scripts cell area plan n name)
 
 -- the words name a header, an area, a plan, how many entries are taken, and the file of the state
 unfoldable pub saves : CellLookup → List ℕ → List ℕ → List ℕ → ℕ → List ℕ → Work Finished

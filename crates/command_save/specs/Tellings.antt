@@ -27,7 +27,8 @@ pub record IsProgress (answer : Answer) (w : World Saved) (p : Progress Saved) :
   pub world : w ≡ p.world
 
 -- the play can be saved as it stands there
-pub record MaySave (scripts : List Loaded) (file : List ℕ) (limits : Limits) (w : World Saved) (answer : Answer) : Type 0 where
+pub record MaySave (scripts : List Loaded) (file : List ℕ) (limits : Limits) (w : World Saved)
+    (answer : Answer) : Type 0 where
   pub rests : MayRest scripts file w
   pub come : MayCount limits w answer.entries answer.instructions
 
@@ -55,7 +56,8 @@ pub record MayGoOn (o : Opened) : Type 0 where
 
 -- the play from there to its end
 abbrev pub rest_of : CellLookup → Opened → Played Saved
-rest_of cell o = played_on cell o.table o.limits (scripts_of o.scripts) (o.limits.1 + 1) o.taken o.done o.world.world
+rest_of cell o = played_on cell o.table o.limits (scripts_of o.scripts)
+    (o.limits.1 + 1) o.taken o.done o.world.world
 
 -- What stops a play that is resumed: the state isn't there or is too long, it is refused or the
 -- area is, a limit was reached, or the work is cut.

@@ -18,10 +18,14 @@ pub data HeaderFate : Type 0 where
 
 pub data IsHeaderFate (bytes : List ℕ) : HeaderFate → Type 0 where
   whole : (table : EngineTable) → HasTable bytes table → IsHeaderFate bytes (Whole table)
-  bad : (place : ℕ) → IsRefused bytes (fault.Bad place) → IsHeaderFate bytes (Faulty cause.Bad place)
-  header : (place : ℕ) → IsRefused bytes (fault.Header place) → IsHeaderFate bytes (Faulty cause.Header place)
-  twice : (place : ℕ) → IsRefused bytes (fault.Twice place) → IsHeaderFate bytes (Faulty cause.Twice place)
-  many : (place : ℕ) → IsRefused bytes (fault.Many place) → IsHeaderFate bytes (Faulty cause.Many place)
+  bad : (place : ℕ) → IsRefused bytes (fault.Bad place)
+      → IsHeaderFate bytes (Faulty cause.Bad place)
+  header : (place : ℕ) → IsRefused bytes (fault.Header place)
+      → IsHeaderFate bytes (Faulty cause.Header place)
+  twice : (place : ℕ) → IsRefused bytes (fault.Twice place)
+      → IsHeaderFate bytes (Faulty cause.Twice place)
+  many : (place : ℕ) → IsRefused bytes (fault.Many place)
+      → IsHeaderFate bytes (Faulty cause.Many place)
 
 abbrev pub table_by : List ℕ → List ℕ → HeaderFate → Work EngineTable
 table_by name bytes (Whole table) = Gives table

@@ -26,12 +26,16 @@ on_ok (Ok a) P h = h
 on_ok (Err e) P h = tt
 
 -- so it is after parts that changed nothing
-pub reads_same : {A B : Type 0} (r : Result A B) (c d : Contents) (script : List ℕ) (before mid now : ℕ) → d ≡ c → mid ≡ before
+pub reads_same : {A B : Type 0} (r : Result A B) (c d : Contents) (script : List ℕ)
+    (before mid now : ℕ) → d ≡ c → mid ≡ before
     → OnOk r (ReadsUnit d script mid now) → OnOk r (ReadsUnit c script before now)
 reads_same r c d script before mid now same none h =
-    subst (λ x. OnOk r (ReadsUnit x script before now)) same (subst (λ n. OnOk r (ReadsUnit d script n now)) none h)
+    subst (λ x. OnOk r (ReadsUnit x script before now)) same
+    (subst (λ n. OnOk r (ReadsUnit d script n now)) none h)
 
 -- and before parts that read nothing
-pub reads_still : {A B : Type 0} (r : Result A B) (c : Contents) (script : List ℕ) (before mid now : ℕ) → now ≡ mid
+pub reads_still : {A B : Type 0} (r : Result A B) (c : Contents) (script : List ℕ)
+    (before mid now : ℕ) → now ≡ mid
     → ReadsUnit c script before mid → OnOk r (ReadsUnit c script before now)
-reads_still r c script before mid now none h = on_ok r (ReadsUnit c script before now) (subst (λ n. ReadsUnit c script before n) (sym none) h)
+reads_still r c script before mid now none h = on_ok r (ReadsUnit c script before now)
+    (subst (λ n. ReadsUnit c script before n) (sym none) h)

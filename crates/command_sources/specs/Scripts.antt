@@ -6,7 +6,11 @@ use Rattle.command_sources.specs.declared.script.Script.{Script}
 use Rattle.command_sources.specs.Units.{PlainScript}
 
 abbrev pub plain_script : Script → PlainScript
-plain_script script = record { tokens = script.unit.tokens; files = script.unit.files; tree = plain_tree script.tree }
+plain_script script = record {
+  tokens = script.unit.tokens;
+  files = script.unit.files;
+  tree = plain_tree script.tree;
+}
 
 abbrev pub plain_script_answer : Result Script Status → Result PlainScript Status
 plain_script_answer (Ok script) = Ok (plain_script script)

@@ -63,22 +63,31 @@ pub data UnitFate : Type 0 where
 -- whose nest passes the limit comes first, also where a fault of syntax stands before it; then the
 -- exact place at which there is no tree.
 pub data IsUnitFate (lookup : Lookup) (name : List ℕ) : UnitFate → Type 0 where
-  lacks : (tokens : List Lexeme) (files : List Source) (file : List ℕ) → IsUnit lookup name tokens files (Some (fault.Missing file))
+  lacks : (tokens : List Lexeme) (files : List Source) (file : List ℕ)
+      → IsUnit lookup name tokens files (Some (fault.Missing file))
       → IsUnitFate lookup name (Lacks file)
-  exceeds : (tokens : List Lexeme) (files : List Source) (file : List ℕ) → IsUnit lookup name tokens files (Some (fault.Long file))
+  exceeds : (tokens : List Lexeme) (files : List Source) (file : List ℕ)
+      → IsUnit lookup name tokens files (Some (fault.Long file))
       → IsUnitFate lookup name (Exceeds file)
-  bad : (tokens : List Lexeme) (files : List Source) (spot : Spot) → IsUnit lookup name tokens files (Some (fault.Bad spot))
+  bad : (tokens : List Lexeme) (files : List Source) (spot : Spot)
+      → IsUnit lookup name tokens files (Some (fault.Bad spot))
       → IsUnitFate lookup name (Faulty cause.Bad spot)
-  many : (tokens : List Lexeme) (files : List Source) (spot : Spot) → IsUnit lookup name tokens files (Some (fault.Tokens spot))
+  many : (tokens : List Lexeme) (files : List Source) (spot : Spot)
+      → IsUnit lookup name tokens files (Some (fault.Tokens spot))
       → IsUnitFate lookup name (Faulty cause.Tokens spot)
-  include : (tokens : List Lexeme) (files : List Source) (spot : Spot) → IsUnit lookup name tokens files (Some (fault.Include spot))
+  include : (tokens : List Lexeme) (files : List Source) (spot : Spot)
+      → IsUnit lookup name tokens files (Some (fault.Include spot))
       → IsUnitFate lookup name (Faulty cause.Include spot)
-  nested : (tokens : List Lexeme) (files : List Source) (i : ℕ) → IsUnit lookup name tokens files None
-      → IsFirstOver (grammar_symbols tokens) i → IsUnitFate lookup name (Faulty cause.Nested (spot_at files tokens i))
-  syntax : (tokens : List Lexeme) (files : List Source) (i : ℕ) → IsUnit lookup name tokens files None
+  nested : (tokens : List Lexeme) (files : List Source) (i : ℕ)
+      → IsUnit lookup name tokens files None
+      → IsFirstOver (grammar_symbols tokens) i
+      → IsUnitFate lookup name (Faulty cause.Nested (spot_at files tokens i))
+  syntax : (tokens : List Lexeme) (files : List Source) (i : ℕ)
+      → IsUnit lookup name tokens files None
       → IsWithinNest (grammar_symbols tokens) → IsPlace (grammar_symbols tokens) i
       → IsUnitFate lookup name (Faulty cause.Syntax (spot_at files tokens i))
-  whole : (script : PlainScript) → IsUnit lookup name script.tokens script.files None → IsWithinNest (grammar_symbols script.tokens)
+  whole : (script : PlainScript) → IsUnit lookup name script.tokens script.files None
+      → IsWithinNest (grammar_symbols script.tokens)
       → Parses (grammar_symbols script.tokens) script.tree → IsUnitFate lookup name (Whole script)
 
 abbrev pub unit_by : UnitFate → Work PlainScript
@@ -89,4 +98,5 @@ unit_by (Faulty why spot) = Refused (at_spot why spot)
 
 -- the unit of the script of this name, with its tree
 unfoldable pub unit_of : List ℕ → Work PlainScript
-unit_of name = Finds (λ (c : outside.Contents) fate. IsUnitFate (outside.content c) name fate) unit_by
+unit_of name = Finds (λ (c : outside.Contents) fate. IsUnitFate
+    (outside.content c) name fate) unit_by

@@ -18,11 +18,13 @@ table_limit = 64
 -- whether a line may be the next name behind these: it is 1 to 16 of the characters a to z, 0 to 9
 -- and `_`, is none of them, and is not one too many
 unfoldable pub may_follow : List (List ℕ) → List ℕ → Bool
-may_follow names line = is_script_name line && not (list_any (λ other. same_name other line) names) && nat_lt (length names) table_limit
+may_follow names line = is_script_name line && not (list_any (λ other. same_name other line) names)
+    && nat_lt (length names) table_limit
 
 -- lines each of which may follow those before it
 abbrev pub AreNames : List (List ℕ) → Type 0
-AreNames names = (before after : List (List ℕ)) (name : List ℕ) → names ≡ before ++ name ∷ after → IsTrue (may_follow before name)
+AreNames names = (before after : List (List ℕ)) (name : List ℕ) → names ≡ before ++ name ∷ after
+    → IsTrue (may_follow before name)
 
 -- the lines of a text are these names
 pub record HasNames (bytes : List ℕ) (names : List (List ℕ)) : Type 0 where

@@ -44,7 +44,8 @@ with_table tables name table = tables ++ record { name = name; table = table } �
 
 -- the table of this name is read and put behind these
 unfoldable pub one_more : List Named → List ℕ → Work (List Named)
-one_more tables name = then (table_in_file (table_file name)) (λ table. makes (with_table tables name table))
+one_more tables name = then (table_in_file (table_file name))
+    (λ table. makes (with_table tables name table))
 
 -- the tables of these names are read in order and put behind these
 unfoldable pub all_behind : List Named → List (List ℕ) → Work (List Named)

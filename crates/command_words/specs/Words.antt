@@ -42,7 +42,8 @@ generate_form (Some n) = cond (nat_le n number_limit) (Generate n) NoForm
 -- a play that is broken off after so many entries, where a play may have as many
 abbrev pub save_form : List ℕ → List ℕ → List ℕ → Option ℕ → List ℕ → Option (List ℕ) → Form
 save_form header area plan None state list = NoForm
-save_form header area plan (Some n) state list = cond (nat_le 1 n && nat_le n entry_limit) (Save header area plan n state list) NoForm
+save_form header area plan (Some n) state list = cond (nat_le 1 n && nat_le n entry_limit)
+    (Save header area plan n state list) NoForm
 
 -- a command and one word
 abbrev pub one_word_form : List ℕ → List ℕ → Form
@@ -62,31 +63,40 @@ two_word_form command first second =
 
 -- a command and three words
 abbrev pub three_word_form : List ℕ → List ℕ → List ℕ → List ℕ → Form
-three_word_form command state to list = cond (bytes_eq command (codes "resume")) (Resume state to (Some list)) NoForm
+three_word_form command state to list = cond (bytes_eq command (codes "resume"))
+    (Resume state to (Some list)) NoForm
 
 -- a command and four words
 abbrev pub four_word_form : List ℕ → List ℕ → List ℕ → List ℕ → List ℕ → Form
-four_word_form command header area plan to = cond (bytes_eq command (codes "play")) (Play header area plan to None) NoForm
+four_word_form command header area plan to = cond (bytes_eq command (codes "play"))
+    (Play header area plan to None) NoForm
 
 -- a command and five words
 abbrev pub five_word_form : List ℕ → List ℕ → List ℕ → List ℕ → List ℕ → List ℕ → Form
 five_word_form command header area plan fourth fifth =
     cond (bytes_eq command (codes "play")) (Play header area plan fourth (Some fifth))
-    (cond (bytes_eq command (codes "save")) (save_form header area plan (number_of fourth) fifth None) NoForm)
+    (cond (bytes_eq command (codes "save"))
+    (save_form header area plan (number_of fourth) fifth None) NoForm)
 
 -- a command and six words
 abbrev pub six_word_form : List ℕ → List ℕ → List ℕ → List ℕ → List ℕ → List ℕ → List ℕ → Form
 six_word_form command header area plan entries state list =
-    cond (bytes_eq command (codes "save")) (save_form header area plan (number_of entries) state (Some list)) NoForm
+    cond (bytes_eq command (codes "save"))
+    (save_form header area plan (number_of entries) state (Some list)) NoForm
 
 -- which command these words are, by the first of them
 abbrev pub command_form : List (List ℕ) → Form
 command_form (command ∷ (file ∷ [])) = one_word_form command file
 command_form (command ∷ (first ∷ (second ∷ []))) = two_word_form command first second
 command_form (command ∷ (state ∷ (to ∷ (list ∷ [])))) = three_word_form command state to list
-command_form (command ∷ (header ∷ (area ∷ (plan ∷ (to ∷ []))))) = four_word_form command header area plan to
-command_form (command ∷ (header ∷ (area ∷ (plan ∷ (fourth ∷ (fifth ∷ [])))))) = five_word_form command header area plan fourth fifth
-command_form (command ∷ (header ∷ (area ∷ (plan ∷ (entries ∷ (state ∷ (list ∷ []))))))) = six_word_form command header area plan entries state list
+command_form (command ∷ (header ∷
+    (area ∷ (plan ∷ (to ∷ []))))) = four_word_form command header area plan to
+command_form (command ∷ (header ∷
+    (area ∷ (plan ∷ (fourth ∷
+    (fifth ∷ [])))))) = five_word_form command header area plan fourth fifth
+command_form (command ∷ (header ∷
+    (area ∷ (plan ∷ (entries ∷
+    (state ∷ (list ∷ []))))))) = six_word_form command header area plan entries state list
 command_form _ = NoForm
 
 -- which command these words are, if they are one: there are no options
@@ -117,5 +127,7 @@ IsCommand (command.Play header area plan to list) form =
     form ≡ Play header.now area.now plan.now to.now (option_map (λ name. name.now) list)
 IsCommand (command.Generate number) form = (form ≡ Generate number) × (number ≤ number_limit)
 IsCommand (command.Save header area plan entries state list) form =
-    (form ≡ Save header.now area.now plan.now entries state.now (option_map (λ name. name.now) list)) × IsEntryCount entries
-IsCommand (command.Resume state to list) form = form ≡ Resume state.now to.now (option_map (λ name. name.now) list)
+    (form ≡ Save header.now area.now plan.now entries state.now
+    (option_map (λ name. name.now) list)) × IsEntryCount entries
+IsCommand (command.Resume state to list) form = form
+    ≡ Resume state.now to.now (option_map (λ name. name.now) list)

@@ -19,7 +19,8 @@ written (w ∷ writes) c = written writes (with_content c w.name w.bytes)
 -- under that may be anything
 abbrev pub IsAfterFront : List Write → Contents → Contents → Type 0
 IsAfterFront [] c c' = c' ≡ c
-IsAfterFront (w ∷ writes) c c' = KeepsOthers w.name c c' ⊎ IsAfterFront writes (with_content c w.name w.bytes) c'
+IsAfterFront (w ∷ writes) c c' = KeepsOthers w.name c c'
+    ⊎ IsAfterFront writes (with_content c w.name w.bytes) c'
 
 -- this write is the first of them, and what follows goes on so
 pub record IsFirst (w : Write) (writes : List Write) (Goes : List Write → Type 0) : Type 0 where
@@ -35,17 +36,22 @@ pub record BeginsWith (piece text : List ℕ) (Goes : List ℕ → Type 0) : Typ
 
 -- From contents c, where no call fails, the work answers r, and has then made these writes, in
 -- this order, and put this text.
-abbrev pub AmountsTo : {A : Type 0} → Work A → Contents → Result A Status → List Write → List ℕ → Type 0
+abbrev pub AmountsTo : {A : Type 0} → Work A → Contents → Result A Status → List Write → List ℕ
+    → Type 0
 AmountsTo (Gives a) c r writes text = (r ≡ Ok a) × ((writes ≡ []) × (text ≡ []))
-AmountsTo (Refused refusal) c r writes text = (r ≡ Err (status_of refusal)) × ((writes ≡ []) × (text ≡ line_of refusal))
+AmountsTo (Refused refusal) c r writes text = (r ≡ Err (status_of refusal))
+    × ((writes ≡ []) × (text ≡ line_of refusal))
 AmountsTo (Ends status) c r writes text = (r ≡ Err status) × ((writes ≡ []) × (text ≡ []))
 AmountsTo (Writes name bytes next) c r writes text =
-    IsFirst (record { name = name; bytes = bytes }) writes (λ rest. AmountsTo next (with_content c name bytes) r rest text)
-AmountsTo (Puts piece next) c r writes text = BeginsWith piece text (λ rest. AmountsTo next c r writes rest)
+    IsFirst (record { name = name; bytes = bytes }) writes
+    (λ rest. AmountsTo next (with_content c name bytes) r rest text)
+AmountsTo (Puts piece next) c r writes text = BeginsWith piece text
+    (λ rest. AmountsTo next c r writes rest)
 AmountsTo (Finds P next) c r writes text = Found (P c) (λ b. AmountsTo (next b) c r writes text)
 
 -- what a work amounts to that did this
-pub record Amount {A : Type 0} (w : Work A) (c : Contents) (t : List ℕ) (r : Result A Status) (c' : Contents) (t' : List ℕ) : Type 0 where
+pub record Amount {A : Type 0} (w : Work A) (c : Contents) (t : List ℕ) (r : Result A Status)
+    (c' : Contents) (t' : List ℕ) : Type 0 where
   pub writes : List Write
   pub text : List ℕ
   pub is : AmountsTo w c r writes text
@@ -54,6 +60,7 @@ pub record Amount {A : Type 0} (w : Work A) (c : Contents) (t : List ℕ) (r : R
 
 -- what a work leaves and has put, where it was cut or not, is a front of these writes and a prefix
 -- of this text
-pub record IsFront (writes : List Write) (text : List ℕ) (c : Contents) (t : List ℕ) (c' : Contents) (t' : List ℕ) : Type 0 where
+pub record IsFront (writes : List Write) (text : List ℕ) (c : Contents) (t : List ℕ) (c' : Contents)
+    (t' : List ℕ) : Type 0 where
   pub files : IsAfterFront writes c c'
   pub taken : TookPrefix text t t'

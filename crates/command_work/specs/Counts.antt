@@ -14,15 +14,18 @@ pub data Counts : Type 0 where
 
 -- at most one refused read was counted: its line may be what was cut
 abbrev pub RefusesOne : FileCounts → FileCounts → Type 0
-RefusesOne files files' = NoneRose files files' ⊎ (Rose Absences files files' ⊎ Rose Longs files files')
+RefusesOne files files' = NoneRose files files'
+    ⊎ (Rose Absences files files' ⊎ Rose Longs files files')
 
 -- a read was refused, and counted here
 abbrev pub ReadCounted : CountOf → Counts → Counts → Type 0
-ReadCounted which (Counted files puts) (Counted files' puts') = Rose which files files' × (puts' ≡ puts)
+ReadCounted which (Counted files puts) (Counted files' puts') = Rose which files files'
+    × (puts' ≡ puts)
 
 -- a read or write failed, or a put did, perhaps that of the line of an absent or long file
 abbrev pub FaultCounted : Counts → Counts → Type 0
-FaultCounted (Counted files puts) (Counted files' puts') = (Rose Faults files files' × (puts' ≡ puts)) ⊎ (RefusesOne files files' × Rises puts puts')
+FaultCounted (Counted files puts) (Counted files' puts') =
+    (Rose Faults files files' × (puts' ≡ puts)) ⊎ (RefusesOne files files' × Rises puts puts')
 
 abbrev pub MemoryCounted : Counts → Counts → Type 0
 MemoryCounted (Counted files puts) (Counted files' puts') = RefusesOne files files' × (puts' ≡ puts)
@@ -67,7 +70,8 @@ pub record IsOutside (MayWrite : List ℕ → Type 0) (c : Contents) (name : Lis
 -- each name leads where it led, and what leads to no place that may be written has what it had
 unfoldable pub KeepsBut : (List ℕ → Type 0) → Contents → Contents → Type 0
 KeepsBut MayWrite before after =
-    SameWays before after × ((name : List ℕ) → IsOutside MayWrite before name → content after name ≡ content before name)
+    SameWays before after × ((name : List ℕ) → IsOutside MayWrite before name
+    → content after name ≡ content before name)
 
 -- what stops a read: the file isn't there or is too long, or the work is cut
 abbrev pub StopsRead : Status → Type 0

@@ -31,7 +31,8 @@ abbrev pub range_text : Part → ℕ → List ℕ
 range_text which at = codes "range " ++ part_word which ++ codes " " ++ decimal at
 
 abbrev pub shape_text : ℕ → ℕ → ℕ → List ℕ
-shape_text list member entry = codes "shape " ++ decimal list ++ codes " " ++ decimal member ++ codes " " ++ decimal entry
+shape_text list member entry = codes "shape " ++ decimal list ++ codes " " ++ decimal member
+    ++ codes " " ++ decimal entry
 
 abbrev pub area_flaw_text : AreaFlaw → List ℕ
 area_flaw_text area.Short = codes "short"

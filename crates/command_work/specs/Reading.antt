@@ -12,4 +12,5 @@ pub record IsRead (c : Contents) (name bytes : List ℕ) : Type 0 where
 -- it isn't there, or is too long
 pub data IsUnread (c : Contents) (name : List ℕ) : Refusal → Type 0 where
   absent : content c name ≡ None → IsUnread c name (Absent name)
-  long : (bytes : List ℕ) → content c name ≡ Some bytes → file_limit < length bytes → IsUnread c name (TooLong name)
+  long : (bytes : List ℕ) → content c name ≡ Some bytes → file_limit < length bytes
+      → IsUnread c name (TooLong name)

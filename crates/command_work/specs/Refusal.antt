@@ -46,9 +46,12 @@ line_of NoForm = codes "refused words\n"
 line_of (Absent name) = codes "missing " ++ escaped name ++ codes "\n"
 line_of (TooLong name) = codes "long " ++ escaped name ++ codes "\n"
 line_of (At name line place why) =
-    codes "refused " ++ escaped name ++ codes " " ++ decimal line ++ codes " " ++ decimal place ++ codes " " ++ cause_word why ++ codes "\n"
-line_of (BadCode name flaw) = codes "refused " ++ escaped name ++ codes " " ++ code_flaw_text flaw ++ codes "\n"
-line_of (BadArea name flaw) = codes "refused " ++ escaped name ++ codes " " ++ area_flaw_text flaw ++ codes "\n"
+    codes "refused " ++ escaped name ++ codes " " ++ decimal line ++ codes " " ++ decimal place
+    ++ codes " " ++ cause_word why ++ codes "\n"
+line_of (BadCode name flaw) = codes "refused " ++ escaped name ++ codes " " ++ code_flaw_text flaw
+    ++ codes "\n"
+line_of (BadArea name flaw) = codes "refused " ++ escaped name ++ codes " " ++ area_flaw_text flaw
+    ++ codes "\n"
 
 -- the status with which the command ends
 abbrev pub status_of : Refusal → Status

@@ -48,15 +48,19 @@ pub record Found {B : Type 0} (P : B → Type 0) (Goes : B → Type 0) : Type 0 
 
 -- From contents c and taken bytes t the work answers r and leaves c' and t'. It may be cut where it
 -- still has something to find, to write or to put; where nothing is left to do, it ends as it says.
-abbrev pub Does : {A : Type 0} → Work A → Contents → List ℕ → Result A Status → Contents → List ℕ → Type 0
+abbrev pub Does : {A : Type 0} → Work A → Contents → List ℕ → Result A Status → Contents → List ℕ
+    → Type 0
 Does (Gives a) c t r c' t' = (r ≡ Ok a) × Stays c c' t t'
 Does (Refused refusal) c t r c' t' =
-    (((r ≡ Err (status_of refusal)) × (t' ≡ t ++ line_of refusal)) ⊎ (IsCut r × TookPrefix (line_of refusal) t t')) × (c' ≡ c)
+    (((r ≡ Err (status_of refusal)) × (t' ≡ t ++ line_of refusal))
+    ⊎ (IsCut r × TookPrefix (line_of refusal) t t')) × (c' ≡ c)
 Does (Ends status) c t r c' t' = (r ≡ Err status) × Stays c c' t t'
 Does (Writes name bytes rest) c t r c' t' =
     (IsCut r × KeepsOthers name c c' × (t' ≡ t)) ⊎ Does rest (with_content c name bytes) t r c' t'
-Does (Puts text rest) c t r c' t' = (IsCut r × (c' ≡ c) × TookPrefix text t t') ⊎ Does rest c (t ++ text) r c' t'
-Does (Finds P next) c t r c' t' = (IsCut r × Stays c c' t t') ⊎ Found (P c) (λ b. Does (next b) c t r c' t')
+Does (Puts text rest) c t r c' t' = (IsCut r × (c' ≡ c) × TookPrefix text t t')
+    ⊎ Does rest c (t ++ text) r c' t'
+Does (Finds P next) c t r c' t' = (IsCut r × Stays c c' t t')
+    ⊎ Found (P c) (λ b. Does (next b) c t r c' t')
 
 -- something is still to be found, written or put as the work begins, so it may be cut there
 abbrev pub MayBeCut : {A : Type 0} → Work A → Type 0

@@ -72,17 +72,20 @@ op_of steps.Nop = Nop
 -- An instruction, but for the bytes of its string that no text has: those are zeros. The machine
 -- does the same in it.
 abbrev pub kept : PlainOp → PlainOp
-kept (Const (Text bytes)) = Const (Text (take text_limit bytes ++ replicate (length bytes - text_limit) 0))
+kept (Const (Text bytes)) = Const
+    (Text (take text_limit bytes ++ replicate (length bytes - text_limit) 0))
 kept op = op
 
 -- Each instruction of a file is decoded at half its place: since none is shorter than two bytes, no
 -- two meet there.
 abbrev pub AreSteps : List PlainOp → List Step → Type 0
-AreSteps ops all = (at : ℕ) (op : PlainOp) → op_at ops at ≡ Some op → option_map op_of (slice_get all (at / 2)) ≡ Some (kept op)
+AreSteps ops all = (at : ℕ) (op : PlainOp) → op_at ops at ≡ Some op
+    → option_map op_of (slice_get all (at / 2)) ≡ Some (kept op)
 
 -- So many of a file's first bytes are decoded, which end with an instruction.
 pub record AreDecoded (ops : List PlainOp) (at : ℕ) (all : List Step) : Type 0 where
   pub goes_on : at < file_length ops → IsTrue (begins ops at)
   pub inside : at ≤ file_length ops
   pub count : length all ≤ at / 2
-  pub steps : (place : ℕ) (op : PlainOp) → op_at ops place ≡ Some op → place < at → option_map op_of (slice_get all (place / 2)) ≡ Some (kept op)
+  pub steps : (place : ℕ) (op : PlainOp) → op_at ops place ≡ Some op → place < at
+      → option_map op_of (slice_get all (place / 2)) ≡ Some (kept op)

@@ -19,12 +19,24 @@ pub entries_put : {X : Type 0} (due number : ℕ) (kind : Kind X) (kinds : List 
 entries_put due number kind [] = refl
 entries_put due number kind (k ∷ kinds) =
     by (nat_lt k.0 number) (entries_put due number kind kinds)
-    ∙ ap (λ (b : Bool). if b then record { due = due; number = k.0; kind = k.1 } ∷ put_entry (record { due = due; number = number; kind = kind }) (entries_of due kinds) else record { due = due; number = number; kind = kind } ∷ record { due = due; number = k.0; kind = k.1 } ∷ entries_of due kinds)
+    ∙ ap (λ (b : Bool). if b then record { due = due; number = k.0; kind = k.1 } ∷ put_entry
+    (record { due = due; number = number; kind = kind })
+    (entries_of due kinds) else record { due = due; number = number; kind = kind } ∷ record {
+      due = due;
+      number = k.0;
+      kind = k.1;
+    } ∷ entries_of due kinds)
     (sym (before_is due k.0 number kind))
   where
     by : (b : Bool) → entries_of due (put number kind kinds) ≡ put_entry (record { due = due; number = number; kind = kind }) (entries_of due kinds)
         → entries_of due (if b then k ∷ put number kind kinds else (number, kind) ∷ k ∷ kinds)
-        ≡ (if b then record { due = due; number = k.0; kind = k.1 } ∷ put_entry (record { due = due; number = number; kind = kind }) (entries_of due kinds) else record { due = due; number = number; kind = kind } ∷ record { due = due; number = k.0; kind = k.1 } ∷ entries_of due kinds)
+        ≡ (if b then record { due = due; number = k.0; kind = k.1 } ∷ put_entry
+        (record { due = due; number = number; kind = kind })
+        (entries_of due kinds) else record { due = due; number = number; kind = kind } ∷ record {
+          due = due;
+          number = k.0;
+          kind = k.1;
+        } ∷ entries_of due kinds)
     by true more = ap (λ t. record { due = due; number = k.0; kind = k.1 } ∷ t) more
     by false more = refl
 
@@ -74,7 +86,9 @@ without_is due number [] = refl
 without_is due number (k ∷ kinds) = by (nat_eq k.0 number) (without_is due number kinds)
   where
     by : (b : Bool) → entries_of due (without number kinds) ≡ without_number number (entries_of due kinds)
-        → entries_of due (if b then kinds else k ∷ without number kinds) ≡ (if b then entries_of due kinds else record { due = due; number = k.0; kind = k.1 } ∷ without_number number (entries_of due kinds))
+        → entries_of due (if b then kinds else k ∷ without number kinds)
+        ≡ (if b then entries_of due kinds else record { due = due; number = k.0; kind = k.1 } ∷ without_number number
+        (entries_of due kinds))
     by true more = refl
     by false more = ap (λ t. record { due = due; number = k.0; kind = k.1 } ∷ t) more
 

@@ -105,7 +105,8 @@ entry_less object e more few is one other =
 pub is_new : {X : Type 0} (e : Entry X) (es : List (Entry X)) (index : BTreeMap ℕ (Stamps ℕ)) → IsIndexed index es → HasNone e.number es → IsNew e index
 is_new e es index indexed none = λ object is. ap (at e.number) (indexed.turns object) ∙ none_turns object e.number es none
 
-pub indexed_put : {X : Type 0} (e : Entry X) (es now : List (Entry X)) (few more : BTreeMap ℕ (Stamps ℕ)) → IsIndexed few es → HasNone e.number es → HasEntryMore e few more → now ≡ put_entry e es → IsIndexed more now
+pub indexed_put : {X : Type 0} (e : Entry X) (es now : List (Entry X)) (few more : BTreeMap ℕ (Stamps ℕ))
+    → IsIndexed few es → HasNone e.number es → HasEntryMore e few more → now ≡ put_entry e es → IsIndexed more now
 indexed_put e es now few more indexed none one is = record {
   distinct = subst AreDistinct (sym is) (distinct_put e es none indexed.distinct);
   turns = λ object. one object ∙ ap (λ t. if is_turn_of object e then put e.number e.due t else t) (indexed.turns object) ∙ sym (turns_put object e es none) ∙ sym (ap (turns_in object) is);
@@ -115,7 +116,8 @@ taken_if : (b : Bool) (n d : ℕ) (ts : List (ℕ × ℕ)) → at n ts ≡ None 
 taken_if true n d ts none = without_put n d ts none
 taken_if false n d ts none = refl
 
-pub indexed_taken : {X : Type 0} (e : Entry X) (es now : List (Entry X)) (more few : BTreeMap ℕ (Stamps ℕ)) → IsIndexed more es → HasEntryLess e more few → Some e ≡ slice_get es 0 → now ≡ drop 1 es → IsIndexed few now
+pub indexed_taken : {X : Type 0} (e : Entry X) (es now : List (Entry X)) (more few : BTreeMap ℕ (Stamps ℕ))
+    → IsIndexed more es → HasEntryLess e more few → Some e ≡ slice_get es 0 → now ≡ drop 1 es → IsIndexed few now
 indexed_taken e [] now more few indexed one is left = absurd cc
 indexed_taken e (x ∷ es) now more few indexed one is left =
     let same : e ≡ x = cc in
@@ -130,7 +132,9 @@ indexed_taken e (x ∷ es) now more few indexed one is left =
     }
 
 -- what was listed and is listed no more
-pub back_again : {X : Type 0} (e : Entry X) (few more last : BTreeMap ℕ (Stamps ℕ)) (es now : List (Entry X)) → IsIndexed few es → HasNone e.number es → HasEntryMore e few more → HasEntryLess e more last → now ≡ es → IsIndexed last now
+pub back_again : {X : Type 0} (e : Entry X) (few more last : BTreeMap ℕ (Stamps ℕ)) (es now : List (Entry X))
+    → IsIndexed few es → HasNone e.number es → HasEntryMore e few more → HasEntryLess e more last → now ≡ es
+    → IsIndexed last now
 back_again e few more last es now indexed none one other is = record {
   distinct = subst AreDistinct (sym is) indexed.distinct;
   turns = λ object.
@@ -195,11 +199,14 @@ count_numbered object n e (x ∷ es) is turn = by (nat_eq x.number n) is (λ mor
     by true here more = let same : x ≡ e = cc in own (is_turn_of object x) (turn_count object es) (ap (is_turn_of object) same ∙ turn)
     by false here more = later (is_turn_of object x) (turn_count object es) (more here)
 
-cut_turn : {X : Type 0} (object n : ℕ) (e : Entry X) (es : List (Entry X)) → numbered n es ≡ Some e → is_turn_of object e ≡ true → turn_count object es ≤ 1 → without_number n es ≡ without_turns object es
+cut_turn : {X : Type 0} (object n : ℕ) (e : Entry X) (es : List (Entry X)) → numbered n es ≡ Some e
+    → is_turn_of object e ≡ true → turn_count object es ≤ 1 → without_number n es ≡ without_turns object es
 cut_turn object n e [] is turn few = refl
 cut_turn object n e (x ∷ es) is turn few = by (nat_eq x.number n) is (λ more fewer. cut_turn object n e es more turn fewer)
   where
-    first : (b : Bool) → is_turn_of object x ≡ b → b ≡ true → (if b then suc (turn_count object es) else turn_count object es) ≤ 1 → es ≡ (if b then without_turns object es else x ∷ without_turns object es)
+    first : (b : Bool) → is_turn_of object x ≡ b → b ≡ true
+        → (if b then suc (turn_count object es) else turn_count object es) ≤ 1
+        → es ≡ (if b then without_turns object es else x ∷ without_turns object es)
     first true own is_turn most = sym (without_none object es (omega (arith, most)))
     first false own is_turn most = absurd cc
 
@@ -218,7 +225,8 @@ first_at n x [] is = absurd cc
 first_at n x (e ∷ es) is = let same : e ≡ (n, x) = cc in ap (λ (t : ℕ × _). at n (t ∷ es)) same ∙ ap (λ (b : Bool). if b then Some x else at n es) (eq-eqb n n refl)
 
 -- what the index says of the queues
-pub turn_found : {X : Type 0} (object number due : ℕ) (qs : QueuesByTime X) (index : BTreeMap ℕ (Stamps ℕ)) → AreQueues qs → IsIndexed index (in_row qs) → slice_get (turns_of object index) 0 ≡ Some (number, due)
+pub turn_found : {X : Type 0} (object number due : ℕ) (qs : QueuesByTime X) (index : BTreeMap ℕ (Stamps ℕ))
+    → AreQueues qs → IsIndexed index (in_row qs) → slice_get (turns_of object index) 0 ≡ Some (number, due)
     → (queue_at due qs ≢ []) × (0 < turn_count object (in_row qs)) × (turn_count object (in_row qs) ≤ 1 → row_without due number qs ≡ without_turns object (in_row qs))
 turn_found object number due qs index queues indexed first =
     let got : at number (turns_in object (in_row qs)) ≡ Some due = first_at number due (turns_in object (in_row qs)) (sym (ap (λ t. slice_get t 0) (indexed.turns object)) ∙ first) in
@@ -233,11 +241,14 @@ turn_found object number due qs index queues indexed first =
 pub none_found : {X : Type 0} (object : ℕ) (es : List (Entry X)) (index : BTreeMap ℕ (Stamps ℕ)) → IsIndexed index es → turns_of object index ≡ [] → turn_count object es ≡ 0
 none_found object es index indexed none = sym (long_turns object es) ∙ ap length (sym (indexed.turns object) ∙ none)
 
-cancelled_if : {X : Type 0} (b : Bool) (object other : ℕ) (es : List (Entry X)) (more : List (ℕ × ℕ)) → nat_eq object other ≡ b → more ≡ turns_in other es → (if b then [] else more) ≡ turns_in other (without_turns object es)
+cancelled_if : {X : Type 0} (b : Bool) (object other : ℕ) (es : List (Entry X)) (more : List (ℕ × ℕ))
+    → nat_eq object other ≡ b → more ≡ turns_in other es
+    → (if b then [] else more) ≡ turns_in other (without_turns object es)
 cancelled_if true object other es more is listed_is = sym (subst (λ o. turns_in o (without_turns object es) ≡ []) (eqb-true object other is) (no_turns object es))
 cancelled_if false object other es more is listed_is = listed_is ∙ sym (other_turns object other es (λ same. eqb-false object other is (sym same)))
 
-pub indexed_cancelled : {X : Type 0} (object : ℕ) (es now : List (Entry X)) (more few : BTreeMap ℕ (Stamps ℕ)) → IsIndexed more es → HasNoTurn object more few → now ≡ without_turns object es → IsIndexed few now
+pub indexed_cancelled : {X : Type 0} (object : ℕ) (es now : List (Entry X)) (more few : BTreeMap ℕ (Stamps ℕ))
+    → IsIndexed more es → HasNoTurn object more few → now ≡ without_turns object es → IsIndexed few now
 indexed_cancelled object es now more few indexed none is = record {
   distinct = subst AreDistinct (sym is) (distinct_left object es indexed.distinct);
   turns = λ other. none other ∙ cancelled_if (nat_eq object other) object other es (turns_of other more) refl (indexed.turns other) ∙ sym (ap (turns_in other) is);
@@ -258,13 +269,21 @@ key_is object k = by (nat_eq object k) refl
 -- the index with the Turns of one object changed
 module _ (object : ℕ) (change : List (ℕ × ℕ) → List (ℕ × ℕ)) (new : Stamps ℕ) where
   pub set_listed : (other : ℕ) (es : List (ℕ × Stamps ℕ)) (old : Stamps ℕ) → lookup (is_at (nat_cmp object)) es ≡ Some old → new.items ≡ change old.items
-      → listed (lookup (is_at (nat_cmp other)) (set_value (is_at (nat_cmp object)) es new)) ≡ (if nat_eq object other then change (listed (lookup (is_at (nat_cmp other)) es)) else listed (lookup (is_at (nat_cmp other)) es))
+      → listed (lookup (is_at (nat_cmp other)) (set_value (is_at (nat_cmp object)) es new))
+      ≡ (if nat_eq object other then change (listed (lookup (is_at (nat_cmp other)) es)) else listed
+      (lookup (is_at (nat_cmp other)) es))
   set_listed other [] old is changed = absurd cc
   set_listed other (p ∷ ps) old is changed =
-      rw (key_is object p.0, key_is other p.0) (by (nat_eq object p.0) (nat_eq other p.0) (nat_eq object other) refl refl refl (ap (λ (b : Bool). if b then Some p.1 else lookup (is_at (nat_cmp object)) ps) (sym (key_is object p.0)) ∙ is) (λ more. set_listed other ps old more changed))
+      rw (key_is object p.0, key_is other p.0)
+      (by (nat_eq object p.0) (nat_eq other p.0) (nat_eq object other) refl refl refl
+      (ap (λ (b : Bool). if b then Some p.1 else lookup (is_at (nat_cmp object)) ps) (sym (key_is object p.0)) ∙ is)
+      (λ more. set_listed other ps old more changed))
     where
       by : (a b c : Bool) → nat_eq object p.0 ≡ a → nat_eq other p.0 ≡ b → nat_eq object other ≡ c → (if a then Some p.1 else lookup (is_at (nat_cmp object)) ps) ≡ Some old
-          → (lookup (is_at (nat_cmp object)) ps ≡ Some old → listed (lookup (is_at (nat_cmp other)) (set_value (is_at (nat_cmp object)) ps new)) ≡ (if c then change (listed (lookup (is_at (nat_cmp other)) ps)) else listed (lookup (is_at (nat_cmp other)) ps)))
+          → (lookup (is_at (nat_cmp object)) ps ≡ Some old
+          → listed (lookup (is_at (nat_cmp other)) (set_value (is_at (nat_cmp object)) ps new))
+          ≡ (if c then change (listed (lookup (is_at (nat_cmp other)) ps)) else listed
+          (lookup (is_at (nat_cmp other)) ps)))
           → listed (lookup (is_at (nat_cmp other)) (if a then (p.0, new) ∷ ps else p ∷ set_value (is_at (nat_cmp object)) ps new))
           ≡ (if c then change (listed (if b then Some p.1 else lookup (is_at (nat_cmp other)) ps)) else listed (if b then Some p.1 else lookup (is_at (nat_cmp other)) ps))
       by true true true e f g here more = let same : p.1 ≡ old = cc in rw (key_is other p.0 ∙ f) (changed ∙ ap (λ (t : Stamps ℕ). change t.items) (sym same))

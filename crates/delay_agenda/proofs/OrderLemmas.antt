@@ -199,7 +199,9 @@ distinct_from : {X : Type 0} (e : Entry X) (es : List (Entry X)) → AreDistinct
 distinct_from e [] all = (tt, tt)
 distinct_from e (x ∷ rest) all = by (is_before x e) all (distinct_from e rest)
   where
-    by : (b : Bool) → AreDistinct (if b then x ∷ put_entry e rest else e ∷ x ∷ rest) → (AreDistinct (put_entry e rest) → HasNone e.number rest × AreDistinct rest) → HasNone e.number (x ∷ rest) × AreDistinct (x ∷ rest)
+    by : (b : Bool) → AreDistinct (if b then x ∷ put_entry e rest else e ∷ x ∷ rest)
+        → (AreDistinct (put_entry e rest) → HasNone e.number rest × AreDistinct rest)
+        → HasNone e.number (x ∷ rest) × AreDistinct (x ∷ rest)
     by true all more =
         let rest_all = more all.1 in
         let own = none_from x.number e rest all.0 in

@@ -136,7 +136,8 @@ without_all object (x ∷ xs) row sorted =
 
 -- ---- one Turn, at its place
 
-count_when : {X : Type 0} (b : Bool) (object : ℕ) (e : Entry X) (es : List (Entry X)) → is_turn_of object e ≡ b → turn_count object (e ∷ es) ≡ (if b then suc (turn_count object es) else turn_count object es)
+count_when : {X : Type 0} (b : Bool) (object : ℕ) (e : Entry X) (es : List (Entry X)) → is_turn_of object e ≡ b
+    → turn_count object (e ∷ es) ≡ (if b then suc (turn_count object es) else turn_count object es)
 count_when b object e es is = ap (λ (t : Bool). if t then suc (turn_count object es) else turn_count object es) is
 
 more_or : (b : Bool) (n : ℕ) → n ≤ (if b then suc n else n)

@@ -11,7 +11,8 @@ HeadIsNext X = (e : Entry X) (es : List (Entry X)) → AreInOrder (e ∷ es) →
 
 -- exactly one entry comes in: before and behind it the others stand as they stood
 abbrev pub PutAddsOne : Type 0 → Type 0
-PutAddsOne X = (e : Entry X) (es : List (Entry X)) → (n : ℕ) × (n ≤ length es) × (put_entry e es ≡ take n es ++ e ∷ drop n es)
+PutAddsOne X = (e : Entry X) (es : List (Entry X))
+    → (n : ℕ) × (n ≤ length es) × (put_entry e es ≡ take n es ++ e ∷ drop n es)
 
 -- each member's number is below the next one, and a number stands at one place alone
 abbrev pub NumbersAreBelow : Type 0 → Type 0
@@ -20,18 +21,22 @@ NumbersAreBelow X = (next : ℕ) (es : List (Entry X)) → AreBelow next es
 
 abbrev pub NumbersAreDistinct : Type 0 → Type 0
 NumbersAreDistinct X = (es : List (Entry X)) → AreDistinct es
-    → (i j : ℕ) (a b : Entry X) → slice_get es i ≡ Some a → slice_get es j ≡ Some b → a.number ≡ b.number → i ≡ j
+    → (i j : ℕ) (a b : Entry X) → slice_get es i ≡ Some a → slice_get es j ≡ Some b
+    → a.number ≡ b.number → i ≡ j
 
 -- order, bound and distinctness stay with each call that changes what waits
 abbrev pub PostKeeps : Type 0 → Type 0
-PostKeeps X = (due : ℕ) (kind : Kind X) (waiting : Waiting X) → IsAgenda waiting → IsAgenda (posted due kind waiting)
+PostKeeps X = (due : ℕ) (kind : Kind X) (waiting : Waiting X) → IsAgenda waiting
+    → IsAgenda (posted due kind waiting)
 
 abbrev pub PutKeeps : Type 0 → Type 0
-PutKeeps X = (e : Entry X) (waiting : Waiting X) → IsAgenda waiting → e.number < waiting.next → HasNone e.number waiting.entries
+PutKeeps X = (e : Entry X) (waiting : Waiting X) → IsAgenda waiting → e.number < waiting.next
+    → HasNone e.number waiting.entries
     → IsAgenda (record waiting { entries = put_entry e waiting.entries })
 
 abbrev pub TakeKeeps : Type 0 → Type 0
-TakeKeeps X = (waiting : Waiting X) → IsAgenda waiting → IsAgenda (record waiting { entries = drop 1 waiting.entries })
+TakeKeeps X = (waiting : Waiting X) → IsAgenda waiting
+    → IsAgenda (record waiting { entries = drop 1 waiting.entries })
 
 abbrev pub CancelKeeps : Type 0 → Type 0
 CancelKeeps X = (object : ℕ) (waiting : Waiting X) → IsAgenda waiting
@@ -39,10 +44,12 @@ CancelKeeps X = (object : ℕ) (waiting : Waiting X) → IsAgenda waiting
 
 -- an entry more counts as it does in front of the others
 abbrev pub PutCounts : Type 0 → Type 0
-PutCounts X = (object : ℕ) (e : Entry X) (es : List (Entry X)) → turn_count object (put_entry e es) ≡ turn_count object (e ∷ es)
+PutCounts X = (object : ℕ) (e : Entry X) (es : List (Entry X))
+    → turn_count object (put_entry e es) ≡ turn_count object (e ∷ es)
 
 -- without the Turns of an object it has none, and every other object has as many as before
 abbrev pub CancelCounts : Type 0 → Type 0
 CancelCounts X = (object : ℕ) (es : List (Entry X)) →
     (turn_count object (without_turns object es) ≡ 0)
-    × ((other : ℕ) → other ≢ object → turn_count other (without_turns object es) ≡ turn_count other es)
+    × ((other : ℕ) → other ≢ object
+    → turn_count other (without_turns object es) ≡ turn_count other es)

@@ -8,7 +8,8 @@ IsBefore a b = (a.due < b.due) ⊎ ((a.due ≡ b.due) × (a.number < b.number))
 
 -- whether what is due then, under this number, is taken before b
 abbrev pub comes_before : {X : Type 0} → ℕ → ℕ → Entry X → Bool
-comes_before due number b = if nat_lt due b.due then true else (if nat_eq due b.due then nat_lt number b.number else false)
+comes_before due number b = if nat_lt due b.due then true else
+    (if nat_eq due b.due then nat_lt number b.number else false)
 
 -- a is taken before b, as a test
 abbrev pub is_before : {X : Type 0} → Entry X → Entry X → Bool
@@ -19,7 +20,8 @@ is_before a b = comes_before a.due a.number b
 pub record IsNext {X : Type 0} (e : Entry X) (es : List (Entry X)) : Type 0 where
   pub member : (i : ℕ) × (slice_get es i ≡ Some e)
   pub least_due : (i : ℕ) (a : Entry X) → slice_get es i ≡ Some a → e.due ≤ a.due
-  pub least_number : (i : ℕ) (a : Entry X) → slice_get es i ≡ Some a → a.due ≡ e.due → e.number ≤ a.number
+  pub least_number : (i : ℕ) (a : Entry X) → slice_get es i ≡ Some a → a.due ≡ e.due
+      → e.number ≤ a.number
 
 -- one entry more, behind those that are taken before it
 abbrev pub put_entry : {X : Type 0} → Entry X → List (Entry X) → List (Entry X)

@@ -42,7 +42,8 @@ queue_at due (q ∷ qs) = if is_at (nat_cmp due) q.0 then q.1 else queue_at due 
 -- the entries of the queues without the one of a number in one queue
 abbrev pub row_without : {X : Type 0} → ℕ → ℕ → QueuesByTime X → List (Entry X)
 row_without due number [] = []
-row_without due number (q ∷ qs) = if is_at (nat_cmp due) q.0 then without_number number q.1 ++ in_row qs else q.1 ++ row_without due number qs
+row_without due number (q ∷ qs) = if is_at (nat_cmp due) q.0 then without_number number q.1
+    ++ in_row qs else q.1 ++ row_without due number qs
 
 -- entries, the first of them first, put among those that stand in order
 abbrev pub put_all : {X : Type 0} → List (Entry X) → List (Entry X) → List (Entry X)
@@ -100,7 +101,8 @@ IsFirst due (q ∷ qs) = q.0 ≡ due
 pub record IsLeastAt {X : Type 0} (at n : ℕ) (es : List (Entry X)) : Type 0 where
   pub inside : at < n
   pub before : (i : ℕ) (d : Entry X) → i < at → is_before (get_or es i d) (get_or es at d) ≡ false
-  pub behind : (i : ℕ) (d : Entry X) → at < i → i < n → is_before (get_or es at d) (get_or es i d) ≡ true
+  pub behind : (i : ℕ) (d : Entry X) → at < i → i < n
+      → is_before (get_or es at d) (get_or es i d) ≡ true
 
 -- the entry of the inbox at this place is taken before all others
 pub record IsInInbox {X : Type 0} (at : ℕ) (inbox row : List (Entry X)) : Type 0 where
@@ -110,7 +112,8 @@ pub record IsInInbox {X : Type 0} (at : ℕ) (inbox row : List (Entry X)) : Type
 -- the head of the row is taken before all of the inbox
 abbrev pub IsInQueues : {X : Type 0} → List (Entry X) → List (Entry X) → Type 0
 IsInQueues inbox [] = inbox ≡ []
-IsInQueues {X = X} inbox (m ∷ row) = (i : ℕ) (d : Entry X) → i < length inbox → is_before m (get_or inbox i d) ≡ true
+IsInQueues {X = X} inbox (m ∷ row) = (i : ℕ) (d : Entry X) → i < length inbox
+    → is_before m (get_or inbox i d) ≡ true
 
 -- a Turn of the object stands at this place
 pub record IsTurnAt {X : Type 0} (object at : ℕ) (es : List (Entry X)) : Type 0 where
@@ -127,7 +130,8 @@ turning (Unapply o) = None
 -- the Turns of an object under their numbers, each with its due time
 abbrev pub turns_in : {X : Type 0} → ℕ → List (Entry X) → List (ℕ × ℕ)
 turns_in object [] = []
-turns_in object (e ∷ es) = if is_turn_of object e then put e.number e.due (turns_in object es) else turns_in object es
+turns_in object (e ∷ es) = if is_turn_of object e then put e.number e.due
+    (turns_in object es) else turns_in object es
 
 -- the Turns that are listed
 abbrev pub listed : Option (Stamps ℕ) → List (ℕ × ℕ)
@@ -139,40 +143,55 @@ abbrev pub turns_of : ℕ → BTreeMap ℕ (Stamps ℕ) → List (ℕ × ℕ)
 turns_of object index = listed (get nat_cmp index object)
 
 -- an index leads to the Turns of these entries, no two of which have one number
-pub record IsIndexed {X : Type 0} (index : BTreeMap ℕ (Stamps ℕ)) (es : List (Entry X)) : Type 0 where
+pub record IsIndexed {X : Type 0} (index : BTreeMap ℕ (Stamps ℕ))
+    (es : List (Entry X)) : Type 0 where
   pub distinct : AreDistinct es
   pub turns : (object : ℕ) → turns_of object index ≡ turns_in object es
 
 -- an index lists no Turn of this entry's object under its number
 abbrev pub IsNew : {X : Type 0} → Entry X → BTreeMap ℕ (Stamps ℕ) → Type 0
-IsNew e index = (object : ℕ) → turning e.kind ≡ Some object → at e.number (turns_of object index) ≡ None
+IsNew e index = (object : ℕ) → turning e.kind ≡ Some object
+    → at e.number (turns_of object index) ≡ None
 
 -- the second index lists this Turn of the object too
 abbrev pub HasTurnMore : ℕ → ℕ → ℕ → BTreeMap ℕ (Stamps ℕ) → BTreeMap ℕ (Stamps ℕ) → Type 0
-HasTurnMore object number due few more = (other : ℕ) → turns_of other more ≡ (if nat_eq object other then put number due (turns_of other few) else turns_of other few)
+HasTurnMore object number due few more = (other : ℕ)
+    → turns_of other more ≡ (if nat_eq object other then put number due
+    (turns_of other few) else turns_of other few)
 
 -- the second index lists the object's Turn of this number no more
 abbrev pub HasTurnLess : ℕ → ℕ → BTreeMap ℕ (Stamps ℕ) → BTreeMap ℕ (Stamps ℕ) → Type 0
-HasTurnLess object number more few = (other : ℕ) → turns_of other few ≡ (if nat_eq object other then without number (turns_of other more) else turns_of other more)
+HasTurnLess object number more few = (other : ℕ)
+    → turns_of other few ≡ (if nat_eq object other then without number
+    (turns_of other more) else turns_of other more)
 
 -- the second index lists this entry too, if it is a Turn
-abbrev pub HasEntryMore : {X : Type 0} → Entry X → BTreeMap ℕ (Stamps ℕ) → BTreeMap ℕ (Stamps ℕ) → Type 0
-HasEntryMore e few more = (other : ℕ) → turns_of other more ≡ (if is_turn_of other e then put e.number e.due (turns_of other few) else turns_of other few)
+abbrev pub HasEntryMore : {X : Type 0} → Entry X → BTreeMap ℕ (Stamps ℕ) → BTreeMap ℕ (Stamps ℕ)
+    → Type 0
+HasEntryMore e few more = (other : ℕ)
+    → turns_of other more ≡ (if is_turn_of other e then put e.number e.due
+    (turns_of other few) else turns_of other few)
 
 -- the second index lists this entry no more
-abbrev pub HasEntryLess : {X : Type 0} → Entry X → BTreeMap ℕ (Stamps ℕ) → BTreeMap ℕ (Stamps ℕ) → Type 0
-HasEntryLess e more few = (other : ℕ) → turns_of other few ≡ (if is_turn_of other e then without e.number (turns_of other more) else turns_of other more)
+abbrev pub HasEntryLess : {X : Type 0} → Entry X → BTreeMap ℕ (Stamps ℕ) → BTreeMap ℕ (Stamps ℕ)
+    → Type 0
+HasEntryLess e more few = (other : ℕ)
+    → turns_of other few ≡ (if is_turn_of other e then without e.number
+    (turns_of other more) else turns_of other more)
 
 -- the second index lists no Turn of the object, and of all others the same
 abbrev pub HasNoTurn : ℕ → BTreeMap ℕ (Stamps ℕ) → BTreeMap ℕ (Stamps ℕ) → Type 0
-HasNoTurn object more few = (other : ℕ) → turns_of other few ≡ (if nat_eq object other then [] else turns_of other more)
+HasNoTurn object more few = (other : ℕ)
+    → turns_of other few ≡ (if nat_eq object other then [] else turns_of other more)
 
 -- what an agenda keeps of its entries
-pub record IsKept {X : Type 0} (inbox : List (Entry X)) (queues : QueuesByTime X) (next : ℕ) : Type 0 where
+pub record IsKept {X : Type 0} (inbox : List (Entry X)) (queues : QueuesByTime X)
+    (next : ℕ) : Type 0 where
   pub sorted : AreQueues queues
   pub agenda : IsAgenda (record { entries = put_all inbox (in_row queues); next = next })
 
 -- what an agenda keeps of its parts
-pub record IsWhole {X : Type 0} (inbox : List (Entry X)) (queues : QueuesByTime X) (index : BTreeMap ℕ (Stamps ℕ)) (next : ℕ) : Type 0 where
+pub record IsWhole {X : Type 0} (inbox : List (Entry X)) (queues : QueuesByTime X)
+    (index : BTreeMap ℕ (Stamps ℕ)) (next : ℕ) : Type 0 where
   pub kept : IsKept inbox queues next
   pub indexed : IsIndexed index (in_row queues)

@@ -37,7 +37,8 @@ is_turn_of object e = is_turn_kind object e.kind
 -- how many Turns of the object there are
 abbrev pub turn_count : {X : Type 0} → ℕ → List (Entry X) → ℕ
 turn_count object [] = 0
-turn_count object (e ∷ es) = if is_turn_of object e then suc (turn_count object es) else turn_count object es
+turn_count object (e ∷ es) = if is_turn_of object e then suc
+    (turn_count object es) else turn_count object es
 
 -- the entries that are no Turn of the object
 abbrev pub without_turns : {X : Type 0} → ℕ → List (Entry X) → List (Entry X)

@@ -175,7 +175,9 @@ runs_there us ts mid =
     ∙ alike us effect
     ∙ ap (λ (n : ℕ). Some (record { pops = n; pushes = Int ∷ [] })) (sym (length-append us us))
 
-pub stored_there : (gs us ts : List Ty) (mid : List Slot) → stored_types (bytes_of (length gs)) (bytes_of (length us)) (map Of gs) (map Of (us ++ ts) ++ mid) ≡ Some (record { globals = gs; locals = us })
+pub stored_there : (gs us ts : List Ty) (mid : List Slot)
+    → stored_types (bytes_of (length gs)) (bytes_of (length us)) (map Of gs) (map Of (us ++ ts) ++ mid)
+    ≡ Some (record { globals = gs; locals = us })
 unfolding stored_types
 stored_there gs us ts mid =
     let whole : types_on (length gs) (map Of gs) ≡ Some gs = all_there gs in

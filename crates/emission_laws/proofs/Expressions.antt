@@ -699,13 +699,16 @@ module _ (header : EngineTable) (functions : List Function) (x : Site) (bodies t
       ∙ stored_there globals ts [] g.mid in
       record {
         by = with_label header total callee_of own
-            (line_and header total callee_of (store header total callee_of (bytes_of l.globals) (bytes_of depth) n (record { globals = globals; locals = ts }) found (λ spot_of holds. holds.1) (omega arith))
+            (line_and header total callee_of
+            (store header total callee_of (bytes_of l.globals) (bytes_of depth) n
+            (record { globals = globals; locals = ts }) found (λ spot_of holds. holds.1) (omega arith))
             (and_line header total callee_of (each Q inner 0 (n + 1) _ depth scope ts (λ made. refl) sight (inl made) fine is (omega arith) d).by
             (and_line header total callee_of (back header total callee_of {next = Some own} tt) (mark header total callee_of n (λ spot_of holds. holds.1))))) refl refl;
       }
 
   argument_flows : {P : (ℕ → Spot) → Type 0} (g : Ground) (p n place depth : ℕ) (scope : List ℕ) (ts : List Ty) (e : TypedExpr) (b : Bool) → Emits e → is_captured e ≡ b
-      → Reaches g → InSight scope ts → (is_captured e ≡ false → MayCall e) → IsFine header functions x scope e → IsArgument x e → IsExpr bodies l e → n + argument_labels b + labels e ≤ total → depth ≡ length ts
+      → Reaches g → InSight scope ts → (is_captured e ≡ false → MayCall e) → IsFine header functions x scope e
+      → IsArgument x e → IsExpr bodies l e → n + argument_labels b + labels e ≤ total → depth ≡ length ts
       → Code P g p (p + one_if b) n (argument_labels b + labels e) place ts (value (type_of e) ++ ts) (argument_code l n depth b (emit l (n + argument_labels b) depth e))
   argument_flows {P = P} g p n place depth scope ts e true each c reach sight calls fine arg is few d =
       retyped (capture_flows g p n place depth scope ts e each c reach sight (arg.made c) fine is (omega arith) d) (ap (λ (us : List Ty). us ++ ts) (sym (no_cells e c)))

@@ -79,7 +79,9 @@ module _ (header : EngineTable) (total : ℕ) (callee_of : ℕ → Option Callee
     one {way = way} {before = before} {after = after} op on rules = record {
       spots = [];
       many = refl;
-      flow = λ spot_of labels holds. Flow.goes place way before after op [] (Some (record { way = way; shape = after })) on rules (Flow.ends (place + op_size op) (Some (record { way = way; shape = after })));
+      flow = λ spot_of labels holds. Flow.goes place way before after op []
+          (Some (record { way = way; shape = after })) on rules
+          (Flow.ends (place + op_size op) (Some (record { way = way; shape = after })));
     }
 
     pub back : {way : Way} {before : TopShape} {next : Option Spot} → Ends header total callee_of way before
@@ -104,7 +106,9 @@ module _ (header : EngineTable) (total : ℕ) (callee_of : ℕ → Option Callee
     test {way = way} {before = before} {after = after} kind label t rules is lt = record {
       spots = [];
       many = refl;
-      flow = λ spot_of labels holds. Flow.tests place way before after kind label [] (Some (record { way = way; shape = after })) t rules (is spot_of holds) lt (Flow.ends (place + 6) (Some (record { way = way; shape = after })));
+      flow = λ spot_of labels holds. Flow.tests place way before after kind label []
+          (Some (record { way = way; shape = after })) t rules (is spot_of holds) lt
+          (Flow.ends (place + 6) (Some (record { way = way; shape = after })));
     }
 
     pub call : {way : Way} {before after : TopShape} (label : ℕ) → CallsAt header total callee_of label before after

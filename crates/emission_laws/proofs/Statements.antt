@@ -215,7 +215,9 @@ module _ (header : EngineTable) (functions : List Function) (x : Site) (bodies t
         → IsFineMaybe header functions x fn.result scope v → IsSome bodies l v → n + some_labels v ≤ total → depth ≡ length ts → Lines P n (some_labels v) place ts ts (evaluated l n depth v)
     evaluated_flows n place depth scope ts None sight fine is few d = same_types
     evaluated_flows n place depth scope ts (Some e) sight fine is few d =
-        seq_line (expr_flows n place depth scope ts e sight fine is few d) (dropped_flows ground (λ made. refl) (cells l.structs (type_of e)) n _ (value (type_of e)) ts (value_length l.structs (type_of e)))
+        seq_line (expr_flows n place depth scope ts e sight fine is few d)
+        (dropped_flows ground (λ made. refl) (cells l.structs (type_of e)) n _ (value (type_of e)) ts
+        (value_length l.structs (type_of e)))
 
     tested_flows : {P : (ℕ → Spot) → Type 0} (n place depth : ℕ) (scope : List ℕ) (ts : List Ty) (v : Option TypedExpr) → Sighted x scope ts
         → IsFineTest header functions x fn.result scope v → IsSome bodies l v → n + some_labels v ≤ total → depth ≡ length ts → Lines P n (some_labels v) place ts (Int ∷ ts) (tested l n depth v)
@@ -278,7 +280,9 @@ module _ (header : EngineTable) (functions : List Function) (x : Site) (bodies t
     abbrev Exit : ((ℕ → Spot) → Type 0) → Bool → List Ty → ℕ → ℕ → Type 0
     Exit P allowed ts label depth = allowed ≡ true → ExitThere P ts label depth
 
-    exit_in : (P Q : (ℕ → Spot) → Type 0) (allowed : Bool) (ts us : List Ty) (label depth : ℕ) → ((spot_of : ℕ → Spot) → Q spot_of → P spot_of) → Exit P allowed ts label depth → Exit Q allowed (us ++ ts) label depth
+    exit_in : (P Q : (ℕ → Spot) → Type 0) (allowed : Bool) (ts us : List Ty) (label depth : ℕ)
+        → ((spot_of : ℕ → Spot) → Q spot_of → P spot_of) → Exit P allowed ts label depth
+        → Exit Q allowed (us ++ ts) label depth
     exit_in P Q allowed ts us label depth in_it exit h =
         let e = exit h in
         record {
@@ -345,7 +349,8 @@ module _ (header : EngineTable) (functions : List Function) (x : Site) (bodies t
         (seq (int_flows (n + 1) place depth scope ts e sight fine.0.0 fine.0.1 is.0 (omega arith) d)
         (line_seq (tested_by Jz n tt (λ spot_of holds. holds.1) (omega arith))
         (seq_line (bare s fine.2 (each Q (n + 1 + labels e) _ depth scope ts breaks continues a b out sight fine.1 fit is.1 (omega arith) d
-        (exit_in P Q breaks ts [] out.break_to out.break_depth (λ spot_of holds. holds.0) breaking) (exit_in P Q continues ts [] out.continue_to out.continue_depth (λ spot_of holds. holds.0) continuing)))
+        (exit_in P Q breaks ts [] out.break_to out.break_depth (λ spot_of holds. holds.0) breaking)
+        (exit_in P Q continues ts [] out.continue_to out.continue_depth (λ spot_of holds. holds.0) continuing)))
         (marked n (λ spot_of holds. holds.1)))) refl refl) refl (omega arith)
 
     if_else_flows : (m : ℕ) (e : TypedExpr) (s t : TypedStmt) → StmtFlows s → StmtFlows t → StmtFlows (if_else m e s t)
@@ -426,7 +431,9 @@ module _ (header : EngineTable) (functions : List Function) (x : Site) (bodies t
         → Lines P n 0 place (Int ∷ ts) (Int ∷ ts) (top_again ∷ constant k ∷ Instruction (ops.Equal 0x20 0) ∷ JumpTo Jnz at ∷ [])
     test_flows n place at k ts int knows lt =
         line_seq (turn {before = Int ∷ ts} {after = Int ∷ Int ∷ ts} (ops.CpTopSp (beneath 1) (bytes_of 1)) tt (again_turns header ground 0 Int ts))
-        (line_seq (retyped (turn {before = Int ∷ Int ∷ ts} {after = const_type k ∷ Int ∷ Int ∷ ts} (ops.Const (literal_of k)) tt (const_turns header ground 0 k (Int ∷ Int ∷ ts))) (ap (λ (t : Ty). t ∷ Int ∷ Int ∷ ts) int))
+        (line_seq (retyped (turn {before = Int ∷ Int ∷ ts} {after = const_type k ∷ Int ∷ Int ∷ ts}
+        (ops.Const (literal_of k)) tt (const_turns header ground 0 k (Int ∷ Int ∷ ts)))
+        (ap (λ (t : Ty). t ∷ Int ∷ Int ∷ ts) int))
         (line_seq (turn {before = Int ∷ Int ∷ Int ∷ ts} {after = Int ∷ Int ∷ ts} (ops.Equal 0x20 0) tt (case_turns header ground 0 (Int ∷ ts))) (tested_by Jnz at tt knows lt)))
 
     tests_flow : {P : (ℕ → Spot) → Type 0} (xs : TypedStmts) (n place at : ℕ) (ts : List Ty) → AllFitSwitches xs → ((k : ℕ) → k < count_labels xs → Knows P (at + k) (Int ∷ ts))

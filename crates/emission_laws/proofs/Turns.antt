@@ -16,7 +16,8 @@ use Rattle.emission_laws.proofs.Parts.{Flows, both, and_line, line_and, nothing,
 
 -- Lines that take these types and give those, where so many states are pending before them and so
 -- many behind them.
-pub record Turn (header : EngineTable) (total : ℕ) (callee_of : ℕ → Option Callee) (P : (ℕ → Spot) → Type 0) (g : Ground) (p q n count place : ℕ) (before after : List Ty) (lines : List Line) : Type 0 where
+pub record Turn (header : EngineTable) (total : ℕ) (callee_of : ℕ → Option Callee) (P : (ℕ → Spot) → Type 0)
+    (g : Ground) (p q n count place : ℕ) (before after : List Ty) (lines : List Line) : Type 0 where
   pub by : Flows header total callee_of P n count place (Some (spot_over g p before)) (Some (spot_over g q after)) lines
 
 module _ {header : EngineTable} {total : ℕ} {callee_of : ℕ → Option Callee} where
@@ -31,15 +32,21 @@ module _ {header : EngineTable} {total : ℕ} {callee_of : ℕ → Option Callee
       subst (λ c. Turn header total callee_of P g p q n c place ts us lines) same f
 
   pub seq : {P : (ℕ → Spot) → Type 0} {g : Ground} {p q r n k a b c place : ℕ} {ts us vs : List Ty} {xs ys : List Line}
-      → Turn header total callee_of P g p q n a place ts us xs → Turn header total callee_of P g q r k b (place + lines_size xs) us vs ys → k ≡ n + a → c ≡ a + b → Turn header total callee_of P g p r n c place ts vs (xs ++ ys)
+      → Turn header total callee_of P g p q n a place ts us xs
+      → Turn header total callee_of P g q r k b (place + lines_size xs) us vs ys → k ≡ n + a → c ≡ a + b
+      → Turn header total callee_of P g p r n c place ts vs (xs ++ ys)
   seq f h is sum = record { by = both header total callee_of f.by h.by is sum }
 
   pub seq_line : {P : (ℕ → Spot) → Type 0} {g : Ground} {p q r n a place : ℕ} {ts us vs : List Ty} {xs ys : List Line}
-      → Turn header total callee_of P g p q n a place ts us xs → Turn header total callee_of P g q r n 0 (place + lines_size xs) us vs ys → Turn header total callee_of P g p r n a place ts vs (xs ++ ys)
+      → Turn header total callee_of P g p q n a place ts us xs
+      → Turn header total callee_of P g q r n 0 (place + lines_size xs) us vs ys
+      → Turn header total callee_of P g p r n a place ts vs (xs ++ ys)
   seq_line f h = record { by = and_line header total callee_of f.by h.by }
 
   pub line_seq : {P : (ℕ → Spot) → Type 0} {g : Ground} {p q r n a place : ℕ} {ts us vs : List Ty} {xs ys : List Line}
-      → Turn header total callee_of P g p q n 0 place ts us xs → Turn header total callee_of P g q r n a (place + lines_size xs) us vs ys → Turn header total callee_of P g p r n a place ts vs (xs ++ ys)
+      → Turn header total callee_of P g p q n 0 place ts us xs
+      → Turn header total callee_of P g q r n a (place + lines_size xs) us vs ys
+      → Turn header total callee_of P g p r n a place ts vs (xs ++ ys)
   line_seq f h = record { by = line_and header total callee_of f.by h.by }
 
   pub same_types : {P : (ℕ → Spot) → Type 0} {g : Ground} {p n place : ℕ} {ts : List Ty} → Turn header total callee_of P g p p n 0 place ts ts []
@@ -67,7 +74,9 @@ module _ {header : EngineTable} {total : ℕ} {callee_of : ℕ → Option Callee
   one_label own f is sum = record { by = with_label header total callee_of own f.by is sum }
 
   pub two_labels : {P : (ℕ → Spot) → Type 0} {g : Ground} {p q n k a c place : ℕ} {ts us : List Ty} {lines : List Line} (first second : Spot)
-      → Turn header total callee_of (λ spot_of. P spot_of × (spot_of n ≡ first) × (spot_of (n + 1) ≡ second)) g p q k a place ts us lines → k ≡ n + 2 → c ≡ 2 + a → Turn header total callee_of P g p q n c place ts us lines
+      → Turn header total callee_of
+      (λ spot_of. P spot_of × (spot_of n ≡ first) × (spot_of (n + 1) ≡ second)) g p q k a place ts us lines
+      → k ≡ n + 2 → c ≡ 2 + a → Turn header total callee_of P g p q n c place ts us lines
   two_labels first second f is sum = record { by = with_two header total callee_of first second f.by is sum }
 
   pub three_labels : {P : (ℕ → Spot) → Type 0} {g : Ground} {p q n k a c place : ℕ} {ts us : List Ty} {lines : List Line} (first second third : Spot)

@@ -110,7 +110,8 @@ item_file c (unit.constant n t x k) is = is
 item_file c (unit.global n t ds) is = still_file c _ ds is
 item_file c (unit.function n t x ps body) is = is
 
-item_calls : (hs : List Head) (c : Sight) (i : SourceItem) (t : TypedItem) (ts : List TypedItem) → c.at_file ≡ true → TypesItem hs c i t → NamesCallEngine (global_names ts) → NamesCallEngine (global_names (t ∷ ts))
+item_calls : (hs : List Head) (c : Sight) (i : SourceItem) (t : TypedItem) (ts : List TypedItem) → c.at_file ≡ true
+    → TypesItem hs c i t → NamesCallEngine (global_names ts) → NamesCallEngine (global_names (t ∷ ts))
 item_calls hs c i t ts is (TypesItem.structure n x h) rest = rest
 item_calls hs c i t ts is (TypesItem.constant n y x k h) rest = rest
 item_calls hs c i t ts is (TypesItem.global n y {ds = ds} {us = us} l h) rest = names_both us (global_names ts) (names_call hs c _ ds us is h) rest
@@ -177,7 +178,8 @@ label_stands hs c x t late (TypesStmt.break_off d n g) = subst (λ (s : TypedStm
 label_stands hs c x t late (TypesStmt.continue_on d n g) = subst (λ (s : TypedStmt). is_label s ≡ false) (when_is _ _ t g) refl
 label_stands hs c x t late (TypesStmt.return_from d n r h g) = subst (λ (s : TypedStmt). is_label s ≡ false) (when_is _ _ t g) refl
 label_stands hs c x t late (TypesStmt.declaration d n y h k) = refl
-label_stands hs c x t late (TypesStmt.case_label d n {v = v} h g) = let r = case_is (is_again d.labels v) (is_outside d.labels) (is_int (const_type v)) (stmt.case_label n v) t g in absurd (cc (late, r.0))
+label_stands hs c x t late (TypesStmt.case_label d n {v = v} h g) = let r = case_is (is_again d.labels v)
+    (is_outside d.labels) (is_int (const_type v)) (stmt.case_label n v) t g in absurd (cc (late, r.0))
 label_stands hs c x t late (TypesStmt.default_label d n g) = let r = default_is (has_default_label d.labels) (is_outside d.labels) (stmt.default_label n) t g in absurd (cc (late, r.0))
 
 none_behind : (hs : List Head) (c : Sight) (xs : SourceStmts) (ts : TypedStmts) → is_outside c.labels ≡ true → TypesStmts hs c xs ts → count_labels ts ≡ 0
@@ -224,7 +226,8 @@ mutual
   fits hs c x t (TypesStmt.continue_on d n g) = subst FitsSwitches (when_is _ _ t g) tt
   fits hs c x t (TypesStmt.return_from d n r h g) = subst FitsSwitches (when_is _ _ t g) tt
   fits hs c x t (TypesStmt.declaration d n y h k) = tt
-  fits hs c x t (TypesStmt.case_label d n {v = v} h g) = let r = case_is (is_again d.labels v) (is_outside d.labels) (is_int (const_type v)) (stmt.case_label n v) t g in subst FitsSwitches r.2 (int_is (const_type v) r.1)
+  fits hs c x t (TypesStmt.case_label d n {v = v} h g) = let r = case_is (is_again d.labels v) (is_outside d.labels)
+      (is_int (const_type v)) (stmt.case_label n v) t g in subst FitsSwitches r.2 (int_is (const_type v) r.1)
   fits hs c x t (TypesStmt.default_label d n g) = let r = default_is (has_default_label d.labels) (is_outside d.labels) (stmt.default_label n) t g in subst FitsSwitches r.1 tt
 
   all_fit : (hs : List Head) (c : Sight) (xs : SourceStmts) (ts : TypedStmts) → TypesStmts hs c xs ts → AllFitSwitches ts

@@ -249,10 +249,12 @@ module _ (header : EngineTable) (u : TypedUnit) (bounded : IsBounded u) (typed :
       (parameter_names fn.parameters) ps false false false false no_exits None (parameters_seen (site u) fn.parameters fine.parameters) fine.body fine.switches are few deep
       (λ h. absurd (none h)) (λ h. absurd (none h)) tt).by
       (line_and header total callee_of
-      (dropped_flows header fs (site u) bodies total callee_of globals callees seen (λ made. globals_many) (ground header fs (site u) bodies total callee_of globals callees seen (λ made. globals_many) refl f fn is)
+      (dropped_flows header fs (site u) bodies total callee_of globals callees seen (λ made. globals_many)
+      (ground header fs (site u) bodies total callee_of globals callees seen (λ made. globals_many) refl f fn is)
       (λ made. refl) (all_declared_cells l.structs fn.body) n _ (all_declared l.structs fn.body) ps (sym (all_declared_length l.structs fn.body))).by
       (line_and header total callee_of
-      (dropped_all header fs (site u) bodies total callee_of globals callees seen (λ made. globals_many) (ground header fs (site u) bodies total callee_of globals callees seen (λ made. globals_many) refl f fn is)
+      (dropped_all header fs (site u) bodies total callee_of globals callees seen (λ made. globals_many)
+      (ground header fs (site u) bodies total callee_of globals callees seen (λ made. globals_many) refl f fn is)
       (λ made. refl) (params_cells l.structs fn.parameters) n _ ps deep).by
       (back header total callee_of (record { callee = callee_for l.structs globals fn; known = callees f fn is; given = refl; saved = refl; pending = refl })))))
 
@@ -428,7 +430,8 @@ module _ (header : EngineTable) (u : TypedUnit) (bounded : IsBounded u) (typed :
       let n : ℕ = bodies + start_labels b u.items in
       let sum = counted b in
       let first = start_flows b (front 0 u.items) refl (omega arith) in
-      let rest = functions_flow u.items n 0 (header_size + lines_size (emit_start l bodies b u.items u.entry)) (λ i. (let same : 0 + i ≡ i = omega arith in ap (slice_get fs) same)) bounded.items (omega arith) in
+      let rest = functions_flow u.items n 0 (header_size + lines_size (emit_start l bodies b u.items u.entry))
+      (λ i. (let same : 0 + i ≡ i = omega arith in ap (slice_get fs) same)) bounded.items (omega arith) in
       let flow = both header total callee_of first rest (omega (arith, sum)) refl in
       let firsts : List Spot = first_spots l.structs globals 0 fs in
       let spots : List Spot = firsts ++ (own_spots b ++ flow.spots) in

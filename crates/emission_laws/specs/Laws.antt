@@ -14,7 +14,8 @@ use Rattle.emission_laws.specs.WellTyped.{AllFitSwitches, NamesCallEngine, IsWel
 -- For the code of each unit that keeps the bounds and whose values have their types, some table of
 -- shapes meets the rules.
 abbrev pub UnitsAreWellStacked : Type 0
-UnitsAreWellStacked = (header : EngineTable) (u : TypedUnit) → IsBounded u → IsWellTyped header u → WellStacked header (program (unit_code u).lines)
+UnitsAreWellStacked = (header : EngineTable) (u : TypedUnit) → IsBounded u → IsWellTyped header u
+    → WellStacked header (program (unit_code u).lines)
 
 -- The switches of each typed unit fit.
 abbrev pub SwitchesFit : Type 0
@@ -23,4 +24,5 @@ SwitchesFit = (table : EngineTable) (source : SourceTree) (u : TypedUnit) → Ty
 
 -- The first values of its globals call no function of the unit.
 abbrev pub FirstValuesCallEngine : Type 0
-FirstValuesCallEngine = (table : EngineTable) (source : SourceTree) (u : TypedUnit) → TypesUnit table source u → NamesCallEngine (global_names u.items)
+FirstValuesCallEngine = (table : EngineTable) (source : SourceTree) (u : TypedUnit)
+    → TypesUnit table source u → NamesCallEngine (global_names u.items)

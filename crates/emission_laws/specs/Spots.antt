@@ -74,30 +74,46 @@ module _ (header : EngineTable) (total : ℕ) (callee_of : ℕ → Option Callee
   -- spot behind them. Behind RETN and behind a jump the next spot is free.
   pub data Flow (spot_of : ℕ → Spot) : ℕ → Option Spot → List Line → Option Spot → Type 0 where
     ends : (place : ℕ) (spot : Option Spot) → Flow spot_of place spot [] spot
-    goes : (place : ℕ) (way : Way) (before after : TopShape) (op : PlainOp) (lines : List Line) (out : Option Spot)
+    goes : (place : ℕ) (way : Way) (before after : TopShape) (op : PlainOp) (lines : List Line)
+        (out : Option Spot)
         → GoesStraight op → rule header op before ≡ Some after
         → Flow spot_of (place + op_size op) (Some (record { way = way; shape = after })) lines out
-        → Flow spot_of place (Some (record { way = way; shape = before })) (Instruction op ∷ lines) out
-    returns : (place : ℕ) (way : Way) (before : TopShape) (next : Option Spot) (lines : List Line) (out : Option Spot)
+        → Flow spot_of place (Some (record { way = way; shape = before }))
+        (Instruction op ∷ lines) out
+    returns : (place : ℕ) (way : Way) (before : TopShape) (next : Option Spot) (lines : List Line)
+        (out : Option Spot)
         → Ends way before → Flow spot_of (place + 2) next lines out
-        → Flow spot_of place (Some (record { way = way; shape = before })) (Instruction ops.Retn ∷ lines) out
-    jumps : (place : ℕ) (spot : Spot) (next : Option Spot) (label : ℕ) (lines : List Line) (out : Option Spot)
+        → Flow spot_of place (Some (record { way = way; shape = before }))
+        (Instruction ops.Retn ∷ lines) out
+    jumps : (place : ℕ) (spot : Spot) (next : Option Spot) (label : ℕ) (lines : List Line)
+        (out : Option Spot)
         → spot_of label ≡ spot → label < total → Flow spot_of (place + 6) next lines out
         → Flow spot_of place (Some spot) (JumpTo Jmp label ∷ lines) out
-    tests : (place : ℕ) (way : Way) (before after : TopShape) (kind : Jump) (label : ℕ) (lines : List Line) (out : Option Spot)
+    tests : (place : ℕ) (way : Way) (before after : TopShape) (kind : Jump) (label : ℕ)
+        (lines : List Line) (out : Option Spot)
         → IsTest kind → ((offset : ℤ) → rule header (jump_over kind offset) before ≡ Some after)
         → spot_of label ≡ record { way = way; shape = after } → label < total
         → Flow spot_of (place + 6) (Some (record { way = way; shape = after })) lines out
-        → Flow spot_of place (Some (record { way = way; shape = before })) (JumpTo kind label ∷ lines) out
-    calls : (place : ℕ) (way : Way) (before after : TopShape) (label : ℕ) (lines : List Line) (out : Option Spot)
-        → CallsAt label before after → Flow spot_of (place + 6) (Some (record { way = way; shape = after })) lines out
-        → Flow spot_of place (Some (record { way = way; shape = before })) (JumpTo Jsr label ∷ lines) out
+        → Flow spot_of place (Some (record { way = way; shape = before }))
+        (JumpTo kind label ∷ lines) out
+    calls : (place : ℕ) (way : Way) (before after : TopShape) (label : ℕ) (lines : List Line)
+        (out : Option Spot)
+        → CallsAt label before after
+        → Flow spot_of (place + 6) (Some (record { way = way; shape = after })) lines out
+        → Flow spot_of place (Some (record { way = way; shape = before }))
+        (JumpTo Jsr label ∷ lines) out
     marks : (place : ℕ) (spot : Spot) (label : ℕ) (lines : List Line) (out : Option Spot)
         → spot_of label ≡ spot → Flow spot_of (place + 0) (Some spot) lines out
         → Flow spot_of place (Some spot) (Label label ∷ lines) out
     -- A state is stored, with the code behind the jump over it.
-    stores : (place : ℕ) (way : Way) (before : TopShape) (globals locals label : ℕ) (types : StoredTypes) (lines : List Line) (out : Option Spot)
+    stores : (place : ℕ) (way : Way) (before : TopShape) (globals locals label : ℕ)
+        (types : StoredTypes) (lines : List Line) (out : Option Spot)
         → stored_types globals locals before.under before.cells ≡ Some types
-        → spot_of label ≡ record { way = way; shape = record before { pending = before.pending + 1 } } → label < total
-        → Flow spot_of (place + 10 + 6) (Some (record { way = Resumes place; shape = stored_shape types })) lines out
-        → Flow spot_of place (Some (record { way = way; shape = before })) (Instruction (ops.StoreState globals locals) ∷ JumpTo Jmp label ∷ lines) out
+        → spot_of label ≡ record {
+          way = way;
+          shape = record before { pending = before.pending + 1 };
+        } → label < total
+        → Flow spot_of (place + 10 + 6)
+        (Some (record { way = Resumes place; shape = stored_shape types })) lines out
+        → Flow spot_of place (Some (record { way = way; shape = before }))
+        (Instruction (ops.StoreState globals locals) ∷ JumpTo Jmp label ∷ lines) out

@@ -20,11 +20,13 @@ same_entry _ _ = false
 
 abbrev pub shape_there : (ℕ → ℕ) → Entry → Option Spot → Option TopShape
 shape_there places entry None = None
-shape_there places entry (Some s) = if same_entry entry (entry_of places s.way) then Some s.shape else None
+shape_there places entry (Some s) = if same_entry entry
+    (entry_of places s.way) then Some s.shape else None
 
 abbrev pub callee_by : (ℕ → ℕ) → (ℕ → Option Callee) → ℕ → Way → Option Callee
 callee_by places callee_of target Starts = None
-callee_by places callee_of target (Runs label) = if places label == target then callee_of label else None
+callee_by places callee_of target
+    (Runs label) = if places label == target then callee_of label else None
 callee_by places callee_of target (Resumes site) = None
 
 abbrev pub callee_there : (ℕ → ℕ) → (ℕ → Option Callee) → ℕ → Option Spot → Option Callee

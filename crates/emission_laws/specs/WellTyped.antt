@@ -59,7 +59,8 @@ start_site u = record (unit_site 0 u 0 []) { globals = []; bp = 0 }
 
 pub record IsFineFunction (table : EngineTable) (u : TypedUnit) (f : Function) : Type 0 where
   pub parameters : AreParameters (site u) f.parameters
-  pub body : AreFineStmts table (functions u.items) (site u) f.result false false (params_cells (layout_of u).structs f.parameters) (parameter_names f.parameters) f.body
+  pub body : AreFineStmts table (functions u.items) (site u) f.result false false
+      (params_cells (layout_of u).structs f.parameters) (parameter_names f.parameters) f.body
   pub switches : AllFitSwitches f.body
 
 abbrev pub SomeCallsEngine : Option TypedExpr → Type 0
@@ -83,7 +84,8 @@ IsFineEntry fs (Main f) = IsBegin fs f Void
 IsFineEntry fs (Conditional f) = IsBegin fs f Int
 
 pub record IsWellTyped (table : EngineTable) (u : TypedUnit) : Type 0 where
-  pub bodies : (f : ℕ) (fn : Function) → slice_get (functions u.items) f ≡ Some fn → IsFineFunction table u fn
+  pub bodies : (f : ℕ) (fn : Function) → slice_get (functions u.items) f ≡ Some fn
+      → IsFineFunction table u fn
   pub names : AreFineNames table (functions u.items) (start_site u) Void 0 [] (global_names u.items)
   pub calls : NamesCallEngine (global_names u.items)
   pub entry : IsFineEntry (functions u.items) u.entry

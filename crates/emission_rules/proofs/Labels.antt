@@ -267,7 +267,16 @@ module _ (add : PlacementsAdd) (label : ℕ) (up : ℕ → ℕ) (one : (n : ℕ)
 
   mutual
     stmt_counts : (l : Layout) (out : Exits) (n m depth : ℕ) (x : TypedStmt) → m ≡ n + stmt_labels x → Counts (emit_stmt l out n depth x) n m
-    stmt_counts l out n m depth (block i xs) is = record { count = simp add (omega (arith, stmts_counts l out n m depth None xs is, none_placed xs, (dropped_none (all_declared_cells l.structs xs)).none)) }
+    stmt_counts l out n m depth
+        (block i xs) is = record {
+          count = simp add
+              (omega (
+                arith,
+                stmts_counts l out n m depth None xs is,
+                none_placed xs,
+                (dropped_none (all_declared_cells l.structs xs)).none,
+              ));
+        }
     stmt_counts l out n m depth (empty i) is = none_counts (record { none = refl }) is
     stmt_counts l out n m depth (expression i x) is = before_none (emit_counts l n m depth x is) (dropped_none (cells l.structs (type_of x)))
     stmt_counts l out n m depth (if_only i x a) is =

@@ -60,13 +60,43 @@ record Emits (whole : List Line) (op : PlainOp) : Type 0 where
 module _ (whole : List Line) where
   read_emits : (l : Layout) (depth count : ℕ) (h : Home) → depth < 2 ^ 29 → l.globals < 2 ^ 29 → count ≤ struct_cell_limit → Emits whole (read l depth count h)
   unfolding has_type
-  read_emits l depth count (InFrame at) d g c = record { is_op = record { row = record { kind = refl; sizes = tt }; fits = (offset_fits (depth - at) (omega arith), omega arith) }; led = tt; state = refl }
-  read_emits l depth count (InGlobals at) d g c = record { is_op = record { row = record { kind = refl; sizes = tt }; fits = (offset_fits (l.globals - at) (omega arith), omega arith) }; led = tt; state = refl }
+  read_emits l depth count (InFrame at) d g c = record {
+    is_op = record {
+      row = record { kind = refl; sizes = tt };
+      fits = (offset_fits (depth - at) (omega arith), omega arith);
+    };
+    led = tt;
+    state = refl;
+  }
+  read_emits l depth count (InGlobals at) d g c = record {
+    is_op = record {
+      row = record { kind = refl; sizes = tt };
+      fits = (offset_fits (l.globals - at) (omega arith), omega arith);
+    };
+    led = tt;
+    state = refl;
+  }
 
   write_emits : (l : Layout) (depth count : ℕ) (h : Home) → depth < 2 ^ 29 → l.globals < 2 ^ 29 → count ≤ struct_cell_limit → Emits whole (write l depth count h)
   unfolding has_type
-  write_emits l depth count (InFrame at) d g c = record { is_op = record { row = record { kind = refl; sizes = tt }; fits = (offset_fits (depth - at) (omega arith), omega arith) }; led = tt; state = refl }
-  write_emits l depth count (InGlobals at) d g c = record { is_op = record { row = record { kind = refl; sizes = tt }; fits = (offset_fits (l.globals - at) (omega arith), omega arith) }; led = tt; state = refl }
+  write_emits l depth count
+      (InFrame at) d g c = record {
+        is_op = record {
+          row = record { kind = refl; sizes = tt };
+          fits = (offset_fits (depth - at) (omega arith), omega arith);
+        };
+        led = tt;
+        state = refl;
+      }
+  write_emits l depth count
+      (InGlobals at) d g c = record {
+        is_op = record {
+          row = record { kind = refl; sizes = tt };
+          fits = (offset_fits (l.globals - at) (omega arith), omega arith);
+        };
+        led = tt;
+        state = refl;
+      }
 
   increment_emits : (l : Layout) (depth : ℕ) (h : Home) → depth < 2 ^ 29 → l.globals < 2 ^ 29 → Emits whole (increment l depth h)
   unfolding has_type
@@ -152,7 +182,15 @@ module _ (whole : List Line) where
   operation_emits bin.NotEqual Effect count f c = record { is_op = record { row = record { kind = refl; sizes = λ h. refl }; fits = (omega arith, omega arith) }; led = tt; state = refl }
   operation_emits bin.NotEqual Event count f c = record { is_op = record { row = record { kind = refl; sizes = λ h. refl }; fits = (omega arith, omega arith) }; led = tt; state = refl }
   operation_emits bin.NotEqual Action count f c = absurd cc
-  operation_emits bin.NotEqual (Struct n) count f c = record { is_op = record { row = record { kind = refl; sizes = λ h. absurd (h refl) }; fits = (omega arith, omega arith) }; led = tt; state = refl }
+  operation_emits bin.NotEqual
+      (Struct n) count f c = record {
+        is_op = record {
+          row = record { kind = refl; sizes = λ h. absurd (h refl) };
+          fits = (omega arith, omega arith);
+        };
+        led = tt;
+        state = refl;
+      }
   operation_emits bin.NotEqual Refused count f c = absurd cc
   operation_emits bin.Or t count f c = record { is_op = record { row = record { kind = refl; sizes = tt }; fits = tt }; led = tt; state = refl }
   operation_emits bin.And t count f c = record { is_op = record { row = record { kind = refl; sizes = tt }; fits = tt }; led = tt; state = refl }
@@ -285,7 +323,15 @@ module _ (lead : BothLeadOn) (whole : List Line) (total bodies : ℕ) (l : Layou
   called_good : (f : Callee) (count : ℕ) → IsCallee bodies count f → Good (call_line f count ∷ [])
   unfolding has_type
   called_good (InUnit f) count is = good_jump Jsr f (omega arith) good_end
-  called_good (Engine routine) count is = good_op (record { is_op = record { row = record { kind = refl; sizes = tt }; fits = (omega (arith, is.0), omega (arith, is.1)) }; led = tt; state = refl }) good_end
+  called_good (Engine routine) count is = good_op
+      (record {
+        is_op = record {
+          row = record { kind = refl; sizes = tt };
+          fits = (omega (arith, is.0), omega (arith, is.1));
+        };
+        led = tt;
+        state = refl;
+      }) good_end
 
   name_good : (depth : ℕ) (t : Ty) (p : Place) → IsExpr bodies l (name t p) → depth < 2 ^ 29 → Good (name_code l depth t p)
   name_good depth t (Local n) is d = good_op (read_emits whole l depth (cells l.structs t) (InFrame _) d (omega arith) is.0.few) good_end
@@ -481,7 +527,16 @@ module _ (lead : BothLeadOn) (whole : List Line) (total bodies : ℕ) (l : Layou
   test_good p q k count (return_from m e) is f = good_end
   test_good p q k count (declaration m t xs) is f = good_end
   test_good p q k count (case_label m v) is f =
-      good_op (copying_emits whole) (good_op (constant_emits whole v is) (good_op (record { is_op = record { row = record { kind = refl; sizes = λ h. refl }; fits = (omega arith, omega arith) }; led = tt; state = refl })
+      good_op (copying_emits whole)
+      (good_op (constant_emits whole v is)
+      (good_op (record {
+        is_op = record {
+          row = record { kind = refl; sizes = λ h. refl };
+          fits = (omega arith, omega arith);
+        };
+        led = tt;
+        state = refl;
+      })
       (good_jump Jnz k (omega arith) good_end)))
   test_good p q k count (default_label m) is f = good_end
 
@@ -551,7 +606,9 @@ module _ (lead : BothLeadOn) (whole : List Line) (total bodies : ℕ) (l : Layou
     stmt_good out n depth b c (for_loop i x y z a) is to few d =
         good_both (evaluated_good (n + 3) depth x is.0 (omega arith) (omega arith)) (good_label n (omega arith)
         (good_both (tested_good (n + 3 + some_labels x) depth y is.1 (omega arith) (omega arith)) (good_jump Jz (n + 2) (omega arith)
-        (good_both (stmt_good (in_loop (n + 1) (n + 2) depth) (n + 3 + some_labels x + some_labels y) depth true true a is.3 (record { breaks = λ h. omega arith; continues = λ h. omega arith }) (omega arith) (omega arith))
+        (good_both (stmt_good (in_loop (n + 1) (n + 2) depth)
+        (n + 3 + some_labels x + some_labels y) depth true true a is.3
+        (record { breaks = λ h. omega arith; continues = λ h. omega arith }) (omega arith) (omega arith))
         (good_label (n + 1) (omega arith) (good_both (evaluated_good (n + 3 + some_labels x + some_labels y + stmt_labels a) depth z is.2 (omega arith) (omega arith))
         (good_jump Jmp n (omega arith) (good_label (n + 2) (omega arith) good_end))))))))
     stmt_good out n depth b c (switch i x xs) is to few d =

@@ -121,11 +121,14 @@ module _ (bodies : ℕ) (l : Layout) where
     pub IsExpr : TypedExpr → Type 0
     IsExpr (literal k) = IsConstant k
     IsExpr (name t p) = IsType l t × IsPlace p
-    IsExpr (call t f xs ks) = IsType l t × IsCallee bodies (count_arguments xs + length ks) f × AllByRecursion IsConstant ks × AreExprs xs
-    IsExpr (member t x offset) = IsType l t × IsType l (type_of x) × (offset ≤ struct_cell_limit) × IsExpr x
+    IsExpr (call t f xs ks) = IsType l t × IsCallee bodies (count_arguments xs + length ks) f
+        × AllByRecursion IsConstant ks × AreExprs xs
+    IsExpr (member t x offset) = IsType l t × IsType l (type_of x) × (offset ≤ struct_cell_limit)
+        × IsExpr x
     IsExpr (prefix t o x) = IsType l t × IsExpr x
     IsExpr (postfix t o x) = IsType l t × IsExpr x
-    IsExpr (binary t o x y) = IsType l t × IsType l (type_of x) × IsOperator o (type_of x) × IsExpr x × IsExpr y
+    IsExpr (binary t o x y) = IsType l t × IsType l (type_of x) × IsOperator o (type_of x)
+        × IsExpr x × IsExpr y
     IsExpr (assign t o x y) = IsType l t × IsExpr x × IsExpr y
 
     pub AreExprs : TypedExprs → Type 0
@@ -147,10 +150,12 @@ module _ (bodies : ℕ) (l : Layout) where
     IsStmt breaks continues (empty m) = Unit {0}
     IsStmt breaks continues (expression m x) = IsExpr x
     IsStmt breaks continues (if_only m x a) = IsExpr x × IsStmt breaks continues a
-    IsStmt breaks continues (if_else m x a b) = IsExpr x × IsStmt breaks continues a × IsStmt breaks continues b
+    IsStmt breaks continues (if_else m x a b) = IsExpr x × IsStmt breaks continues a
+        × IsStmt breaks continues b
     IsStmt breaks continues (while_loop m x a) = IsExpr x × IsStmt true true a
     IsStmt breaks continues (do_loop m a x) = IsStmt true true a × IsExpr x
-    IsStmt breaks continues (for_loop m x y z a) = IsSome x × IsSome y × IsSome z × IsStmt true true a
+    IsStmt breaks continues (for_loop m x y z a) = IsSome x × IsSome y × IsSome z
+        × IsStmt true true a
     IsStmt breaks continues (switch m x xs) = IsExpr x × AreStmts true continues xs
     IsStmt breaks continues (break_off m) = IsTrue breaks
     IsStmt breaks continues (continue_on m) = IsTrue continues
@@ -161,13 +166,15 @@ module _ (bodies : ℕ) (l : Layout) where
 
     pub AreStmts : Bool → Bool → TypedStmts → Type 0
     AreStmts breaks continues no_stmt = Unit {0}
-    AreStmts breaks continues (more_stmts x xs) = IsStmt breaks continues x × AreStmts breaks continues xs
+    AreStmts breaks continues (more_stmts x xs) = IsStmt breaks continues x
+        × AreStmts breaks continues xs
 
   abbrev pub AreItems : List TypedItem → Type 0
   AreItems [] = Unit {0}
   AreItems (global m t xs ∷ is) = AreNames xs × AreItems is
   AreItems (function m t x ps (Some body) ∷ is) =
-      AreStmts false false body × (params_cells l.structs ps + all_stmt_weight body ≤ frame_limit) × AreItems is
+      AreStmts false false body × (params_cells l.structs ps + all_stmt_weight body ≤ frame_limit)
+      × AreItems is
   AreItems (_ ∷ is) = AreItems is
 
 abbrev pub IsEntry : ℕ → EntryPoint → Type 0

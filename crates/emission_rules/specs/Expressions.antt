@@ -72,14 +72,18 @@ decrement l depth (InGlobals at) = ops.DecIBp (beneath (l.globals - at))
 -- ---- nodes, by the code of their parts
 
 abbrev pub name_code : Layout → ℕ → Ty → Place → List Line
-name_code l depth t (Local n) = Instruction (read l depth (cells l.structs t) (InFrame (position l n))) ∷ []
-name_code l depth t (Global n) = Instruction (read l depth (cells l.structs t) (InGlobals (position l n))) ∷ []
+name_code l depth t (Local n) = Instruction
+    (read l depth (cells l.structs t) (InFrame (position l n))) ∷ []
+name_code l depth t (Global n) = Instruction
+    (read l depth (cells l.structs t) (InGlobals (position l n))) ∷ []
 name_code l depth t (IsConst k) = constant k ∷ []
 
 -- a member of a place is read there, of another value it is cut out
 abbrev pub member_code : Layout → ℕ → ℕ → ℕ → ℕ → Option Home → List Line → List Line
-member_code l depth total offset count None value = value ++ Instruction (ops.Destruct (bytes_of total) (bytes_of offset) (bytes_of count)) ∷ []
-member_code l depth total offset count (Some h) value = Instruction (read l depth count (moved offset h)) ∷ []
+member_code l depth total offset count None value = value
+    ++ Instruction (ops.Destruct (bytes_of total) (bytes_of offset) (bytes_of count)) ∷ []
+member_code l depth total offset count (Some h) value = Instruction
+    (read l depth count (moved offset h)) ∷ []
 
 abbrev pub prefix_code : Layout → ℕ → PrefixOperator → Option Home → List Line → List Line
 prefix_code l depth pre.Minus h value = value ++ Instruction (ops.Neg 0x03) ∷ []
@@ -113,8 +117,10 @@ shortcut_labels Never = 0
 
 abbrev pub binary_code : ℕ → Shortcut → PlainOp → List Line → List Line → List Line
 binary_code n WhereTrue op left right =
-    left ++ (top_again ∷ JumpTo Jz n ∷ int_constant (pos 1) ∷ Instruction op ∷ JumpTo Jmp (n + 1) ∷ Label n ∷ (right ++ Instruction op ∷ Label (n + 1) ∷ []))
-binary_code n WhereFalse op left right = left ++ (top_again ∷ JumpTo Jz n ∷ (right ++ Instruction op ∷ Label n ∷ []))
+    left ++ (top_again ∷ JumpTo Jz n ∷ int_constant (pos 1) ∷ Instruction op ∷ JumpTo Jmp
+    (n + 1) ∷ Label n ∷ (right ++ Instruction op ∷ Label (n + 1) ∷ []))
+binary_code n WhereFalse op left right = left
+    ++ (top_again ∷ JumpTo Jz n ∷ (right ++ Instruction op ∷ Label n ∷ []))
 binary_code n Never op left right = left ++ (right ++ Instruction op ∷ [])
 
 abbrev pub is_set : AssignOperator → Bool
@@ -153,7 +159,8 @@ argument_labels captured = if captured then 1 else 0
 abbrev pub argument_code : Layout → ℕ → ℕ → Bool → List Line → List Line
 argument_code l n depth false value = value
 argument_code l n depth true value =
-    Instruction (ops.StoreState (bytes_of l.globals) (bytes_of depth)) ∷ JumpTo Jmp n ∷ (value ++ Instruction ops.Retn ∷ Label n ∷ [])
+    Instruction (ops.StoreState (bytes_of l.globals) (bytes_of depth)) ∷ JumpTo Jmp n ∷
+    (value ++ Instruction ops.Retn ∷ Label n ∷ [])
 
 -- ---- arguments in numbers
 
@@ -195,7 +202,8 @@ abbrev mutual
       ++ (emit_all l n (depth + length (result_room l f t) + length ks) xs
       ++ call_line f (count_arguments xs + length ks) ∷ []))
   emit l n depth (member t x offset) =
-      member_code l depth (cells l.structs (type_of x)) offset (cells l.structs t) (home l x) (emit l n depth x)
+      member_code l depth (cells l.structs (type_of x)) offset (cells l.structs t) (home l x)
+      (emit l n depth x)
   emit l n depth (prefix t o x) = prefix_code l depth o (home l x) (emit l n depth x)
   emit l n depth (postfix t o x) = postfix_code l depth o (home l x) (emit l n depth x)
   emit l n depth (binary t o x y) =
@@ -214,4 +222,5 @@ abbrev mutual
   emit_all l n depth (more_typed x xs) =
       emit_all l n depth xs
       ++ argument_code l (n + all_labels xs) (depth + arguments_cells l xs) (is_captured x)
-      (emit l (n + all_labels xs + argument_labels (is_captured x)) (depth + arguments_cells l xs) x)
+      (emit l (n + all_labels xs + argument_labels (is_captured x))
+      (depth + arguments_cells l xs) x)

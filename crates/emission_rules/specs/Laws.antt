@@ -23,7 +23,8 @@ pub record IsWhole (code : LabelledCode) : Type 0 where
 
 -- A unit has one file at most.
 abbrev pub OneFile : Type 0
-OneFile = (table : EngineTable) (u : SourceTree) (s t : TypedUnit) → TypesUnit table u s → TypesUnit table u t → unit_file s ≡ unit_file t
+OneFile = (table : EngineTable) (u : SourceTree) (s t : TypedUnit) → TypesUnit table u s
+    → TypesUnit table u t → unit_file s ≡ unit_file t
 
 -- In a typed unit the position of each variable, by its number, is the depth at which it is
 -- declared or pushed.
@@ -33,12 +34,15 @@ PositionsByNumber = (table : EngineTable) (u : SourceTree) (t : TypedUnit) → T
 
 -- Each label that a unit takes is placed exactly once, and no other one is.
 abbrev pub EachPlacedOnce : Type 0
-EachPlacedOnce = (u : TypedUnit) (label : ℕ) → placements (unit_code u).lines label ≡ (if nat_lt label (unit_code u).labels then 1 else 0)
+EachPlacedOnce = (u : TypedUnit) (label : ℕ)
+    → placements (unit_code u).lines label ≡ (if nat_lt label (unit_code u).labels then 1 else 0)
 
 -- So each line stands at its place in the program: an instruction begins there, and a jump leads to
 -- the place of its label.
 abbrev pub CodeStands : Type 0
-CodeStands = (u : TypedUnit) → LinesStand (program (unit_code u).lines) (place_of_label (unit_code u).lines) header_size (unit_code u).lines
+CodeStands = (u : TypedUnit)
+    → LinesStand (program (unit_code u).lines) (place_of_label (unit_code u).lines) header_size
+    (unit_code u).lines
 
 -- The code of a unit that keeps the bounds has spellings, leads on and closes.
 abbrev pub CodeIsWhole : Type 0
@@ -46,4 +50,5 @@ CodeIsWhole = (u : TypedUnit) → IsBounded u → IsWhole (unit_code u)
 
 -- So its file is one that loads, with the same instructions, if it is not too large.
 abbrev pub FileIsCode : Type 0
-FileIsCode = (u : TypedUnit) → IsBounded u → file_length (program (unit_code u).lines) ≤ file_limit → IsCode (program (unit_code u).lines)
+FileIsCode = (u : TypedUnit) → IsBounded u → file_length (program (unit_code u).lines) ≤ file_limit
+    → IsCode (program (unit_code u).lines)

@@ -22,7 +22,8 @@ declared_cells structs _ = 0
 
 abbrev pub all_declared_cells : Structs → TypedStmts → ℕ
 all_declared_cells structs no_stmt = 0
-all_declared_cells structs (more_stmts x xs) = declared_cells structs x + all_declared_cells structs xs
+all_declared_cells structs
+    (more_stmts x xs) = declared_cells structs x + all_declared_cells structs xs
 
 abbrev pub item_cells : Structs → TypedItem → ℕ
 item_cells structs (global n t xs) = names_cells structs xs
@@ -43,7 +44,8 @@ params_positions structs (p ∷ ps) = params_cells structs ps ∷ params_positio
 -- declared one after another at this depth
 abbrev pub names_positions : Structs → ℕ → List TypedName → List ℕ
 names_positions structs depth [] = []
-names_positions structs depth (x ∷ xs) = depth ∷ names_positions structs (depth + cells structs x.name.ty) xs
+names_positions structs depth (x ∷ xs) = depth ∷ names_positions structs
+    (depth + cells structs x.name.ty) xs
 
 abbrev mutual
   pub positions : Structs → ℕ → TypedStmt → List ℕ
@@ -59,7 +61,8 @@ abbrev mutual
 
   pub all_positions : Structs → ℕ → TypedStmts → List ℕ
   all_positions structs depth no_stmt = []
-  all_positions structs depth (more_stmts x xs) = positions structs depth x ++ all_positions structs (depth + declared_cells structs x) xs
+  all_positions structs depth (more_stmts x xs) = positions structs depth x
+      ++ all_positions structs (depth + declared_cells structs x) xs
 
 abbrev pub body_positions : Structs → ℕ → Option TypedStmts → List ℕ
 body_positions structs depth None = []
@@ -68,12 +71,14 @@ body_positions structs depth (Some xs) = all_positions structs depth xs
 -- so many cells of globals stand before the item
 abbrev pub item_positions : Structs → ℕ → TypedItem → List ℕ
 item_positions structs globals (global n t xs) = names_positions structs globals xs
-item_positions structs globals (function n t x ps body) = params_positions structs ps ++ body_positions structs (params_cells structs ps) body
+item_positions structs globals (function n t x ps body) = params_positions structs ps
+    ++ body_positions structs (params_cells structs ps) body
 item_positions structs globals _ = []
 
 abbrev pub items_positions : Structs → ℕ → List TypedItem → List ℕ
 items_positions structs globals [] = []
-items_positions structs globals (i ∷ is) = item_positions structs globals i ++ items_positions structs (globals + item_cells structs i) is
+items_positions structs globals (i ∷ is) = item_positions structs globals i
+    ++ items_positions structs (globals + item_cells structs i) is
 
 -- ---- a unit
 

@@ -24,7 +24,12 @@ no_exits = record { break_to = 0; break_depth = 0; continue_to = 0; continue_dep
 
 -- inside a loop at this depth, whose third part or test and whose end have these labels
 abbrev pub in_loop : ℕ → ℕ → ℕ → Exits
-in_loop next end depth = record { break_to = end; break_depth = depth; continue_to = next; continue_depth = depth }
+in_loop next end depth = record {
+  break_to = end;
+  break_depth = depth;
+  continue_to = next;
+  continue_depth = depth;
+}
 
 -- inside a switch whose selector lies on top at this depth
 abbrev pub in_switch : ℕ → ℕ → Exits → Exits
@@ -48,7 +53,8 @@ tested l n depth (Some e) = emit l n depth e
 
 -- The result's cells lie beneath the frame.
 abbrev pub stored : Layout → ℕ → ℕ → List Line
-stored l depth count = Instruction (ops.CpDownSp (beneath (depth + 2 * count)) (bytes_of count)) ∷ dropped (depth + count)
+stored l depth count = Instruction
+    (ops.CpDownSp (beneath (depth + 2 * count)) (bytes_of count)) ∷ dropped (depth + count)
 
 abbrev pub returned : Layout → ℕ → ℕ → Option TypedExpr → List Line
 returned l n depth None = dropped depth
@@ -67,7 +73,8 @@ names_labels (x ∷ xs) = some_labels x.value + names_labels xs
 abbrev pub emit_names : Layout → ℕ → ℕ → List TypedName → List Line
 emit_names l n depth [] = []
 emit_names l n depth (x ∷ xs) =
-    initial l n depth x.name.ty x.value ++ emit_names l (n + some_labels x.value) (depth + cells l.structs x.name.ty) xs
+    initial l n depth x.name.ty x.value
+    ++ emit_names l (n + some_labels x.value) (depth + cells l.structs x.name.ty) xs
 
 -- ---- the labels of a switch, numbered in a row
 
@@ -86,7 +93,8 @@ behind at x = if is_label x then at + 1 else at
 
 -- compares the selector with the value of a case
 abbrev pub test_of : ℕ → TypedStmt → List Line
-test_of at (case_label n k) = top_again ∷ constant k ∷ Instruction (ops.Equal two_ints 0) ∷ JumpTo Jnz at ∷ []
+test_of at (case_label n k) = top_again ∷ constant k ∷ Instruction
+    (ops.Equal two_ints 0) ∷ JumpTo Jnz at ∷ []
 test_of at _ = []
 
 abbrev pub tests : ℕ → TypedStmts → List Line
@@ -139,11 +147,14 @@ abbrev mutual
 abbrev mutual
   -- with n the next label
   pub emit_stmt : Layout → Exits → ℕ → ℕ → TypedStmt → List Line
-  emit_stmt l out n depth (block m xs) = emit_stmts l out n depth None xs ++ dropped (all_declared_cells l.structs xs)
+  emit_stmt l out n depth (block m xs) = emit_stmts l out n depth None xs
+      ++ dropped (all_declared_cells l.structs xs)
   emit_stmt l out n depth (empty m) = []
-  emit_stmt l out n depth (expression m e) = emit l n depth e ++ dropped (cells l.structs (type_of e))
+  emit_stmt l out n depth (expression m e) = emit l n depth e
+      ++ dropped (cells l.structs (type_of e))
   emit_stmt l out n depth (if_only m e a) =
-      emit l (n + 1) depth e ++ (JumpTo Jz n ∷ (emit_stmt l out (n + 1 + labels e) depth a ++ Label n ∷ []))
+      emit l (n + 1) depth e ++
+      (JumpTo Jz n ∷ (emit_stmt l out (n + 1 + labels e) depth a ++ Label n ∷ []))
   emit_stmt l out n depth (if_else m e a b) =
       emit l (n + 2) depth e
       ++ (JumpTo Jz n ∷ (emit_stmt l out (n + 2 + labels e) depth a
@@ -160,18 +171,23 @@ abbrev mutual
   emit_stmt l out n depth (for_loop m x y z a) =
       evaluated l (n + 3) depth x
       ++ (Label n ∷ (tested l (n + 3 + some_labels x) depth y
-      ++ (JumpTo Jz (n + 2) ∷ (emit_stmt l (in_loop (n + 1) (n + 2) depth) (n + 3 + some_labels x + some_labels y) depth a
-      ++ (Label (n + 1) ∷ (evaluated l (n + 3 + some_labels x + some_labels y + stmt_labels a) depth z
+      ++ (JumpTo Jz (n + 2) ∷ (emit_stmt l (in_loop (n + 1) (n + 2) depth)
+      (n + 3 + some_labels x + some_labels y) depth a
+      ++ (Label (n + 1) ∷ (evaluated l
+      (n + 3 + some_labels x + some_labels y + stmt_labels a) depth z
       ++ JumpTo Jmp n ∷ Label (n + 2) ∷ []))))))
   emit_stmt l out n depth (switch m e xs) =
       emit l (n + 1 + count_labels xs) depth e
       ++ (tests (n + 1) xs
       ++ (JumpTo Jmp (otherwise n (n + 1) xs)
-      ∷ (emit_stmts l (in_switch n (depth + 1) out) (n + 1 + count_labels xs + labels e) (depth + 1) (Some (n + 1)) xs
+      ∷ (emit_stmts l (in_switch n (depth + 1) out) (n + 1 + count_labels xs + labels e) (depth + 1)
+      (Some (n + 1)) xs
       ++ (dropped (all_declared_cells l.structs xs)
       ++ (Label n ∷ dropped 1)))))
-  emit_stmt l out n depth (break_off m) = dropped (depth - out.break_depth) ++ JumpTo Jmp out.break_to ∷ []
-  emit_stmt l out n depth (continue_on m) = dropped (depth - out.continue_depth) ++ JumpTo Jmp out.continue_to ∷ []
+  emit_stmt l out n depth (break_off m) = dropped (depth - out.break_depth)
+      ++ JumpTo Jmp out.break_to ∷ []
+  emit_stmt l out n depth (continue_on m) = dropped (depth - out.continue_depth)
+      ++ JumpTo Jmp out.continue_to ∷ []
   emit_stmt l out n depth (return_from m e) = returned l n depth e ++ Instruction ops.Retn ∷ []
   emit_stmt l out n depth (declaration m t xs) = emit_names l n depth xs
   emit_stmt l out n depth (case_label m k) = []
@@ -183,4 +199,5 @@ abbrev mutual
   emit_stmts l out n depth at (more_stmts x xs) =
       placed at x
       ++ (emit_stmt l out n depth x
-      ++ emit_stmts l out (n + stmt_labels x) (depth + declared_cells l.structs x) (placed_on at x) xs)
+      ++ emit_stmts l out (n + stmt_labels x) (depth + declared_cells l.structs x)
+      (placed_on at x) xs)

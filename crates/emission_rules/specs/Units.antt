@@ -56,7 +56,8 @@ globals_labels (_ ∷ is) = globals_labels is
 abbrev pub emit_globals : Layout → ℕ → ℕ → List TypedItem → List Line
 emit_globals l n depth [] = []
 emit_globals l n depth (global m t xs ∷ is) =
-    emit_names l n depth xs ++ emit_globals l (n + names_labels xs) (depth + item_cells l.structs (global m t xs)) is
+    emit_names l n depth xs ++ emit_globals l (n + names_labels xs)
+    (depth + item_cells l.structs (global m t xs)) is
 emit_globals l n depth (_ ∷ is) = emit_globals l n depth is
 
 -- The result of a condition is taken off: who started it reads it before.
@@ -84,8 +85,10 @@ abbrev pub unit_code : TypedUnit → LabelledCode
 unit_code u = record {
   lines =
       emit_start (layout_of u) (body_count u.items) (has_globals u.items) u.items u.entry
-      ++ emit_functions (layout_of u) (body_count u.items + start_labels (has_globals u.items) u.items) 0 u.items;
-  labels = body_count u.items + start_labels (has_globals u.items) u.items + functions_labels u.items;
+      ++ emit_functions (layout_of u)
+      (body_count u.items + start_labels (has_globals u.items) u.items) 0 u.items;
+  labels = body_count u.items + start_labels
+      (has_globals u.items) u.items + functions_labels u.items;
 }
 
 -- the bytes of its file

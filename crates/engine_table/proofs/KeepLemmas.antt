@@ -293,7 +293,12 @@ constant_keeps : (k : Known) (o : Owner) (p : ℕ) (x : Symbol) (t : Turn) → A
 constant_keeps k o p x t all bounds h e =
     choose (KeepsTurn k t) (is_minus_of_int (type_of o) x) (goes (stage.Minus o)) (got k o (constant_in k.table.constants (type_of o) x) p) t
     (λ is e'. is_turn k (Goes (stage.Minus o)) t e' ((h, minus_type (type_of o) x is), tt))
-    (λ is e'. got_some k o (constant_in k.table.constants (type_of o) x) p t h (λ c e''. (constant_type k.table.constants (type_of o) x c e'', constant_bounds k.table.constants (type_of o) x c all bounds e'')) e') e
+    (λ is e'. got_some k o (constant_in k.table.constants (type_of o) x) p t h
+    (λ c e''. (
+      constant_type k.table.constants (type_of o) x c e'',
+      constant_bounds k.table.constants
+          (type_of o) x c all bounds e'',
+    )) e') e
 
 minus_keeps : (k : Known) (o : Owner) (p : ℕ) (x : Symbol) (t : Turn) → IsSymbol x → KeepsOwner k o → type_of o ≡ ty.Int → minus_turn k o p x ≡ Ok t → KeepsTurn k t
 minus_keeps k o p (symbol.Int n) t bounds h int e = got_keeps k o _ t h (sym int, negative_bounds n bounds) e

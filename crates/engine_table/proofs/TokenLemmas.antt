@@ -172,7 +172,8 @@ broken_at bytes at r t f so first has e =
     let on = so.leads (t ∷ has.tokens) None (token at t has.tokens None first has.are) in
     let rest = placed_all has.tokens in
     answer_err bytes on.all f on.are
-    (on.same ∙ ap (λ (z : TurnResult). run_by z (λ n. declarations_read (length bytes) (known_of r.known) n rest) (λ g. declarations_read (length bytes) (after (known_of r.known) g) stage.Start rest)) e)
+    (on.same ∙ ap (λ (z : TurnResult). run_by z (λ n. declarations_read (length bytes) (known_of r.known) n rest)
+    (λ g. declarations_read (length bytes) (after (known_of r.known) g) stage.Start rest)) e)
 
 -- a token at which it breaks, with no bad byte behind it
 pub read_broken : (bytes : List ℕ) (at : ℕ) (r : Reader) (t : Lexeme) (f : HeaderFault) → IsRead bytes at r → IsFirst bytes 0 at (Found t)

@@ -294,7 +294,8 @@ got_by end k s x xs d r (Ok (Gives g new)) e more is =
       same g d xs r e = (cc, cc)
 got_by end k s x xs d r (Err f) e more is = absurd (got_broke d f r (x ∷ xs) (sym is))
 
-run_got : (end : ℕ) (k : Known) (xs : List Placed) (s : Stage) (d : Declaration) (r : List Placed) → line end k s xs ≡ Got d r → declarations_read end k s xs ≡ declarations_read end (after k d) stage.Start r
+run_got : (end : ℕ) (k : Known) (xs : List Placed) (s : Stage) (d : Declaration) (r : List Placed)
+    → line end k s xs ≡ Got d r → declarations_read end k s xs ≡ declarations_read end (after k d) stage.Start r
 unfolding line
 run_got end k [] s d r e = absurd (got_broke d (Header end) r [] (sym e))
 run_got end k (x ∷ xs) s d r e = got_by end k s x xs d r (turn k s x.place x.symbol) refl (λ next e'. run_got end k xs next d r e') e

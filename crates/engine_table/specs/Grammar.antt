@@ -56,7 +56,8 @@ digit_of _ = None
 unfoldable pub structure_of : List ℕ → Option ℕ
 structure_of name =
     if nat_lt (length name) 17 then None
-    else (if bytes_eq (take 17 name) (codes "ENGINE_STRUCTURE_") then digit_of (drop 17 name) else None)
+    else (if bytes_eq (take 17 name) (codes "ENGINE_STRUCTURE_") then digit_of
+    (drop 17 name) else None)
 
 -- What a define declares whose value is this, of an engine's structure or of something else.
 -- Structure 0 is `effect`, structure 1 is `event`, and any other has a name of its own, which
@@ -118,41 +119,51 @@ brackets d _ = Some d
 -- any tokens, up to a `,`, `)` or `;` outside brackets; so many brackets are still open behind them
 pub data Loose : ℕ → List Placed → Type 0 where
   none : Loose zero []
-  more : (d e : ℕ) (xs : List Placed) (p : ℕ) (s : Symbol) → Loose d xs → brackets d s ≡ Some e → Loose e (xs ++ at p s ∷ [])
+  more : (d e : ℕ) (xs : List Placed) (p : ℕ) (s : Symbol) → Loose d xs → brackets d s ≡ Some e
+      → Loose e (xs ++ at p s ∷ [])
 
 -- A value of a type, and the constant that it stands for; a value of a type without constants is
 -- any tokens, and forgotten.
 pub data Value (constants : List Constant) : Ty → Option Const → List Placed → Type 0 where
-  constant : (t : Ty) (c : Const) (p : ℕ) (s : Symbol) → has_constants t ≡ true → constant_in constants t s ≡ Some c
+  constant : (t : Ty) (c : Const) (p : ℕ) (s : Symbol) → has_constants t ≡ true
+      → constant_in constants t s ≡ Some c
       → Value constants t (Some c) (at p s ∷ [])
-  minus : (p q n : ℕ) → Value constants ty.Int (Some (negative n)) (sign_at p sign.Minus ∷ at q (symbol.Int n) ∷ [])
-  other : (t : Ty) (xs : List Placed) → has_constants t ≡ false → Loose zero xs → Value constants t None xs
+  minus : (p q n : ℕ) → Value constants ty.Int (Some (negative n))
+      (sign_at p sign.Minus ∷ at q (symbol.Int n) ∷ [])
+  other : (t : Ty) (xs : List Placed) → has_constants t ≡ false → Loose zero xs
+      → Value constants t None xs
 
 -- ---- lines
 
 -- [ "const" ] type name
 pub data Heading (k : Known) : Bool → Declared → List Placed → Type 0 where
   plain : (t : Ty) (p q : ℕ) (s : Symbol) (n : List ℕ) → type_in k.words s ≡ Some t
-      → Heading k false (record { ty = t; place = q; name = n }) (at p s ∷ at q (symbol.Name n) ∷ [])
+      → Heading k false (record { ty = t; place = q; name = n })
+      (at p s ∷ at q (symbol.Name n) ∷ [])
   fixed : (t : Ty) (o p q : ℕ) (s : Symbol) (n : List ℕ) → type_in k.words s ≡ Some t
-      → Heading k true (record { ty = t; place = q; name = n }) (at o (symbol.Word word.Const) ∷ at p s ∷ at q (symbol.Name n) ∷ [])
+      → Heading k true (record { ty = t; place = q; name = n })
+      (at o (symbol.Word word.Const) ∷ at p s ∷ at q (symbol.Name n) ∷ [])
 
 -- type [ name ]
 pub data ParameterType (k : Known) : Ty → List Placed → Type 0 where
-  bare : (t : Ty) (p : ℕ) (s : Symbol) → type_in k.words s ≡ Some t → ParameterType k t (at p s ∷ [])
+  bare : (t : Ty) (p : ℕ) (s : Symbol) → type_in k.words s ≡ Some t
+      → ParameterType k t (at p s ∷ [])
   named : (t : Ty) (p q : ℕ) (s : Symbol) (n : List ℕ) → type_in k.words s ≡ Some t
       → ParameterType k t (at p s ∷ at q (symbol.Name n) ∷ [])
 
 -- type [ name ] [ "=" value ]
 pub data Parameter (k : Known) : Param → List Placed → Type 0 where
-  required : (t : Ty) (xs : List Placed) → ParameterType k t xs → Parameter k (record { ty = t; default = None }) xs
-  optional : (t : Ty) (c : Option Const) (xs vs : List Placed) (e : ℕ) → ParameterType k t xs → Value k.table.constants t c vs
+  required : (t : Ty) (xs : List Placed) → ParameterType k t xs
+      → Parameter k (record { ty = t; default = None }) xs
+  optional : (t : Ty) (c : Option Const) (xs vs : List Placed) (e : ℕ) → ParameterType k t xs
+      → Value k.table.constants t c vs
       → Parameter k (record { ty = t; default = c }) (xs ++ sign_at e sign.Equals ∷ vs)
 
 -- one parameter or more with commas between, 255 at most
 pub data Parameters (k : Known) : List Param → List Placed → Type 0 where
   one : (p : Param) (xs : List Placed) → Parameter k p xs → Parameters k (p ∷ []) xs
-  more : (ps : List Param) (p : Param) (xs ys : List Placed) (c : ℕ) → Parameters k ps xs → length ps < parameter_limit → Parameter k p ys
+  more : (ps : List Param) (p : Param) (xs ys : List Placed) (c : ℕ) → Parameters k ps xs
+      → length ps < parameter_limit → Parameter k p ys
       → Parameters k (ps ++ p ∷ []) (xs ++ sign_at c sign.Comma ∷ ys)
 
 pub data ParameterList (k : Known) : List Param → List Placed → Type 0 where
@@ -162,9 +173,15 @@ pub data ParameterList (k : Known) : List Param → List Placed → Type 0 where
 -- "#" "define" name ( name | word | int ), [ "const" ] type name "=" value ";" and type name "(" [
 -- parameters ] ")" ";"
 pub data Line (k : Known) : Declaration → List Placed → Type 0 where
-  define : (h d p q : ℕ) (n : List ℕ) (s : Symbol) (makes : Declaration) → defined (structure_of n) s ≡ Some makes
-      → Line k makes (sign_at h sign.Hash ∷ at d (symbol.Name (codes "define")) ∷ at p (symbol.Name n) ∷ at q s ∷ [])
-  constant : (b : Bool) (d : Declared) (c : Option Const) (hs vs : List Placed) (e s : ℕ) → Heading k b d hs → Value k.table.constants d.ty c vs
-      → Line k (IsConstant d c) (hs ++ sign_at e sign.Equals ∷ (vs ++ sign_at s sign.Semicolon ∷ []))
-  function : (d : Declared) (ps : List Param) (hs xs : List Placed) (o c s : ℕ) → Heading k false d hs → ParameterList k ps xs
-      → Line k (IsFunction (record { head = d; params = ps })) (hs ++ sign_at o sign.Open ∷ (xs ++ sign_at c sign.Close ∷ sign_at s sign.Semicolon ∷ []))
+  define : (h d p q : ℕ) (n : List ℕ) (s : Symbol) (makes : Declaration)
+      → defined (structure_of n) s ≡ Some makes
+      → Line k makes (sign_at h sign.Hash ∷ at d (symbol.Name (codes "define")) ∷ at p
+      (symbol.Name n) ∷ at q s ∷ [])
+  constant : (b : Bool) (d : Declared) (c : Option Const) (hs vs : List Placed) (e s : ℕ)
+      → Heading k b d hs → Value k.table.constants d.ty c vs
+      → Line k (IsConstant d c)
+      (hs ++ sign_at e sign.Equals ∷ (vs ++ sign_at s sign.Semicolon ∷ []))
+  function : (d : Declared) (ps : List Param) (hs xs : List Placed) (o c s : ℕ)
+      → Heading k false d hs → ParameterList k ps xs
+      → Line k (IsFunction (record { head = d; params = ps }))
+      (hs ++ sign_at o sign.Open ∷ (xs ++ sign_at c sign.Close ∷ sign_at s sign.Semicolon ∷ []))

@@ -35,14 +35,25 @@ routine_of f = record {
 
 -- a constant with a value is kept, unless one of its name is there
 abbrev pub with_constant : EngineTable → List ℕ → Option Const → Option Const → EngineTable
-with_constant t n (Some c) None = record t { constants = t.constants ++ record { name = n; value = c } ∷ [] }
+with_constant t n (Some c) None = record t {
+  constants = t.constants
+      ++ record { name = n; value = c } ∷ [];
+}
 with_constant t n _ _ = t
 
 abbrev pub after : Known → Declaration → Known
 after k Passed = k
 after k (TypeWord n) = record k { words = with_word n k.words }
-after k (IsConstant d c) = record k { table = with_constant k.table d.name c (constant_named d.name k.table.constants) }
-after k (IsFunction f) = record k { table = record k.table { routines = k.table.routines ++ routine_of f ∷ [] } }
+after k (IsConstant d c) = record k {
+  table = with_constant k.table d.name c
+      (constant_named d.name k.table.constants);
+}
+after k (IsFunction f) = record k {
+  table = record k.table {
+    routines = k.table.routines
+        ++ routine_of f ∷ [];
+  };
+}
 
 abbrev pub after_all : Known → List Declaration → Known
 after_all k [] = k
@@ -70,7 +81,8 @@ function_fault k d =
 
 -- with a constant as soon as its `=` stands there
 unfoldable pub constant_fault : Known → Declared → Option HeaderFault
-constant_fault k d = if is_some (routine_named d.name k.table.routines) then Some (Twice d.place) else None
+constant_fault k d = if is_some (routine_named d.name k.table.routines) then Some
+    (Twice d.place) else None
 
 abbrev pub fault_unless : Bool → ℕ → Option HeaderFault
 fault_unless true p = None
@@ -95,15 +107,21 @@ IsClear k (IsFunction f) = function_fault k f.head ≡ None
 -- A line that begins with these tokens is at fault, whatever follows. A value of a type without
 -- constants was read where the token stands that ends it.
 pub data Clashes (k : Known) : HeaderFault → List Placed → Type 0 where
-  function : (d : Declared) (f : HeaderFault) (hs : List Placed) (o : ℕ) → Heading k false d hs → function_fault k d ≡ Some f
+  function : (d : Declared) (f : HeaderFault) (hs : List Placed) (o : ℕ) → Heading k false d hs
+      → function_fault k d ≡ Some f
       → Clashes k f (hs ++ sign_at o sign.Open ∷ [])
-  constant : (b : Bool) (d : Declared) (f : HeaderFault) (hs : List Placed) (e : ℕ) → Heading k b d hs → constant_fault k d ≡ Some f
+  constant : (b : Bool) (d : Declared) (f : HeaderFault) (hs : List Placed) (e : ℕ)
+      → Heading k b d hs → constant_fault k d ≡ Some f
       → Clashes k f (hs ++ sign_at e sign.Equals ∷ [])
-  value : (b : Bool) (d : Declared) (c : Option Const) (f : HeaderFault) (hs vs : List Placed) (e : ℕ) → Heading k b d hs
-      → constant_fault k d ≡ None → has_constants d.ty ≡ true → Value k.table.constants d.ty c vs → value_fault k d c ≡ Some f
+  value : (b : Bool) (d : Declared) (c : Option Const) (f : HeaderFault) (hs vs : List Placed)
+      (e : ℕ) → Heading k b d hs
+      → constant_fault k d ≡ None → has_constants d.ty ≡ true → Value k.table.constants d.ty c vs
+      → value_fault k d c ≡ Some f
       → Clashes k f (hs ++ sign_at e sign.Equals ∷ vs)
-  loose : (b : Bool) (d : Declared) (f : HeaderFault) (hs vs : List Placed) (e p : ℕ) (s : Symbol) → Heading k b d hs
-      → constant_fault k d ≡ None → has_constants d.ty ≡ false → Loose zero vs → brackets zero s ≡ None → value_fault k d None ≡ Some f
+  loose : (b : Bool) (d : Declared) (f : HeaderFault) (hs vs : List Placed) (e p : ℕ) (s : Symbol)
+      → Heading k b d hs
+      → constant_fault k d ≡ None → has_constants d.ty ≡ false → Loose zero vs
+      → brackets zero s ≡ None → value_fault k d None ≡ Some f
       → Clashes k f (hs ++ sign_at e sign.Equals ∷ (vs ++ at p s ∷ []))
 
 -- ---- the first place
@@ -121,7 +139,8 @@ AreSpelled (x ∷ xs) = IsSpelled x.symbol × AreSpelled xs
 
 -- some tokens after these make a line
 abbrev pub IsSpelledPrefix : Known → List Placed → Type 0
-IsSpelledPrefix k xs = (more : List Placed) × AreSpelled more × (d : Declaration) × Line k d (xs ++ more)
+IsSpelledPrefix k xs = (more : List Placed) × AreSpelled more × (d : Declaration)
+    × Line k d (xs ++ more)
 
 -- some symbols after these make a line, whether tokens can spell them or not
 abbrev pub IsPrefix : Known → List Placed → Type 0
@@ -145,29 +164,37 @@ pub record IsMisfit (k : Known) (xs : List Placed) (s : Placed) : Type 0 where
 -- the tokens are lines with these declarations, each clear where it stands
 pub data Lines : Known → List Declaration → List Placed → Type 0 where
   none : (k : Known) → Lines k [] []
-  more : (k : Known) (d : Declaration) (ds : List Declaration) (xs ys : List Placed) → Line k d xs → IsClear k d → Lines (after k d) ds ys
+  more : (k : Known) (d : Declaration) (ds : List Declaration) (xs ys : List Placed) → Line k d xs
+      → IsClear k d → Lines (after k d) ds ys
       → Lines k (d ∷ ds) (xs ++ ys)
 
 -- the tokens of a text of so many bytes are clear lines up to one that is at fault
 pub data HeaderFails (end : ℕ) : Known → HeaderFault → List Placed → Type 0 where
-  later : (k : Known) (d : Declaration) (f : HeaderFault) (xs ys : List Placed) → Line k d xs → IsClear k d → HeaderFails end (after k d) f ys
+  later : (k : Known) (d : Declaration) (f : HeaderFault) (xs ys : List Placed) → Line k d xs
+      → IsClear k d → HeaderFails end (after k d) f ys
       → HeaderFails end k f (xs ++ ys)
-  clash : (k : Known) (f : HeaderFault) (xs ys : List Placed) → Clashes k f xs → HeaderFails end k f (xs ++ ys)
-  misfit : (k : Known) (xs : List Placed) (s : Placed) (ys : List Placed) → IsMisfit k xs s → HeaderFails end k (Header s.place) (xs ++ s ∷ ys)
-  short : (k : Known) (xs : List Placed) → xs ≢ [] → IsInside k xs → HeaderFails end k (Header end) xs
+  clash : (k : Known) (f : HeaderFault) (xs ys : List Placed) → Clashes k f xs
+      → HeaderFails end k f (xs ++ ys)
+  misfit : (k : Known) (xs : List Placed) (s : Placed) (ys : List Placed) → IsMisfit k xs s
+      → HeaderFails end k (Header s.place) (xs ++ s ∷ ys)
+  short : (k : Known) (xs : List Placed) → xs ≢ [] → IsInside k xs
+      → HeaderFails end k (Header end) xs
 
 -- the table that tokens stand for, or their first fault
 abbrev pub Comes : ℕ → Known → List Placed → Result EngineTable HeaderFault → Type 0
-Comes end k tokens (Ok table) = (ds : List Declaration) × Lines k ds tokens × (table ≡ (after_all k ds).table)
+Comes end k tokens (Ok table) = (ds : List Declaration) × Lines k ds tokens
+    × (table ≡ (after_all k ds).table)
 Comes end k tokens (Err f) = HeaderFails end k f tokens
 
 -- the text is a header with this table
 abbrev pub HasTable : List ℕ → EngineTable → Type 0
-HasTable bytes table = (tokens : List Lexeme) × AreTokens bytes 0 tokens × Comes (length bytes) nothing (placed_all tokens) (Ok table)
+HasTable bytes table = (tokens : List Lexeme) × AreTokens bytes 0 tokens
+    × Comes (length bytes) nothing (placed_all tokens) (Ok table)
 
 -- the text's tokens are no header, and this is their first fault
 abbrev pub IsFaulty : List ℕ → HeaderFault → Type 0
-IsFaulty bytes f = (tokens : List Lexeme) × AreTokens bytes 0 tokens × Comes (length bytes) nothing (placed_all tokens) (Err f)
+IsFaulty bytes f = (tokens : List Lexeme) × AreTokens bytes 0 tokens
+    × Comes (length bytes) nothing (placed_all tokens) (Err f)
 
 -- A bad byte stands before all else.
 abbrev pub IsRefused : List ℕ → HeaderFault → Type 0
@@ -194,6 +221,9 @@ IsAnswer bytes (Err f) = (f ≢ NoMemory) × IsRefused bytes f
 -- each text has a table or a first fault, and only one
 pub record OneHeader : Type 0 where
   pub one_table : (bytes : List ℕ) (a b : EngineTable) → HasTable bytes a → HasTable bytes b → a ≡ b
-  pub one_fault : (bytes : List ℕ) (f g : HeaderFault) → f ≢ NoMemory → g ≢ NoMemory → IsRefused bytes f → IsRefused bytes g → f ≡ g
-  pub some_answer : (bytes : List ℕ) → (answer : Result EngineTable HeaderFault) × IsAnswer bytes answer
-  pub not_both : (bytes : List ℕ) (a : EngineTable) (f : HeaderFault) → f ≢ NoMemory → HasTable bytes a → IsRefused bytes f → ⊥
+  pub one_fault : (bytes : List ℕ) (f g : HeaderFault) → f ≢ NoMemory → g ≢ NoMemory
+      → IsRefused bytes f → IsRefused bytes g → f ≡ g
+  pub some_answer : (bytes : List ℕ)
+      → (answer : Result EngineTable HeaderFault) × IsAnswer bytes answer
+  pub not_both : (bytes : List ℕ) (a : EngineTable) (f : HeaderFault) → f ≢ NoMemory
+      → HasTable bytes a → IsRefused bytes f → ⊥

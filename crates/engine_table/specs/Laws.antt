@@ -29,7 +29,8 @@ pub record IsNewFunction (t : EngineTable) (f : Function) : Type 0 where
 
 -- what a table may take: no constant has the name of a routine, and its value is within bounds
 abbrev pub IsAdmissible : EngineTable → Declaration → Type 0
-IsAdmissible t (declaration.Constant d c) = (routine_named d.name t.routines ≡ None) × IfSome c IsConstant
+IsAdmissible t (declaration.Constant d c) = (routine_named d.name t.routines ≡ None)
+    × IfSome c IsConstant
 IsAdmissible t (declaration.Function f) = IsNewFunction t f
 IsAdmissible t _ = Unit {0}
 
@@ -37,4 +38,5 @@ IsAdmissible t _ = Unit {0}
 -- within bounds
 abbrev pub ClearLinesAreAdmissible : Type 0
 ClearLinesAreAdmissible =
-    (k : Known) (d : Declaration) (xs : List Placed) → AreConstants k.table.constants → AreSymbols xs → Line k d xs → IsClear k d → IsAdmissible k.table d
+    (k : Known) (d : Declaration) (xs : List Placed) → AreConstants k.table.constants
+    → AreSymbols xs → Line k d xs → IsClear k d → IsAdmissible k.table d

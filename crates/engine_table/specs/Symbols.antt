@@ -16,7 +16,8 @@ use Rattle.engine_table.specs.declared.symbol.Symbol.TheVariants as symbol
 -- the types whose values are left out
 abbrev pub is_other_type : List ℕ → Bool
 is_other_type text =
-    bytes_eq text (codes "float") || bytes_eq text (codes "vector") || bytes_eq text (codes "location") || bytes_eq text (codes "talent")
+    bytes_eq text (codes "float") || bytes_eq text (codes "vector")
+    || bytes_eq text (codes "location") || bytes_eq text (codes "talent")
     || bytes_eq text (codes "itemproperty")
 
 abbrev pub plain_word : List ℕ → Word

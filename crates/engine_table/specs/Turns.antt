@@ -81,8 +81,10 @@ typed_turn b t p (symbol.Name n) = goes (stage.Named b (record { ty = t; place =
 typed_turn b t p _ = misfit p
 
 abbrev pub named_turn : Known → Bool → Declared → ℕ → Symbol → TurnResult
-named_turn k b d p (symbol.Sign sign.Equals) = unless_fault (constant_fault k d) (goes (stage.Value (owner.Constant d)))
-named_turn k false d p (symbol.Sign sign.Open) = unless_fault (function_fault k d) (goes (stage.Params (record { head = d; params = [] })))
+named_turn k b d p (symbol.Sign sign.Equals) = unless_fault (constant_fault k d)
+    (goes (stage.Value (owner.Constant d)))
+named_turn k false d p (symbol.Sign sign.Open) = unless_fault (function_fault k d)
+    (goes (stage.Params (record { head = d; params = [] })))
 named_turn k b d p _ = misfit p
 
 -- ---- values
@@ -94,8 +96,10 @@ type_of (owner.Parameter f t) = t
 -- a parameter is whole where `,` or `)` follows
 abbrev pub param_turn : Function → Param → ℕ → Symbol → TurnResult
 param_turn f x p (symbol.Sign sign.Comma) =
-    if nat_lt (length f.params + 1) parameter_limit then goes (stage.Param (record f { params = f.params ++ x ∷ [] })) else misfit p
-param_turn f x p (symbol.Sign sign.Close) = goes (stage.Closed (record f { params = f.params ++ x ∷ [] }))
+    if nat_lt (length f.params + 1) parameter_limit then goes
+    (stage.Param (record f { params = f.params ++ x ∷ [] })) else misfit p
+param_turn f x p (symbol.Sign sign.Close) = goes
+    (stage.Closed (record f { params = f.params ++ x ∷ [] }))
 param_turn f x p _ = misfit p
 
 abbrev pub constant_end : Declared → Option Const → Bool → ℕ → Symbol → TurnResult
@@ -134,7 +138,8 @@ is_minus_of_int ty.Int (symbol.Sign sign.Minus) = true
 is_minus_of_int t s = false
 
 abbrev pub constant_turn : Known → Owner → Ty → ℕ → Symbol → TurnResult
-constant_turn k o t p s = if is_minus_of_int t s then goes (stage.Minus o) else got k o (constant_in k.table.constants t s) p
+constant_turn k o t p s = if is_minus_of_int t s then goes (stage.Minus o) else got k o
+    (constant_in k.table.constants t s) p
 
 abbrev pub loose_by : Known → Owner → Option ℕ → ℕ → Symbol → TurnResult
 loose_by k o (Some e) p s = goes (stage.Loose o e)
@@ -214,8 +219,10 @@ KeepsDefault (owner.Parameter f t) c = FitsType c t
 
 -- a constant's name is free of functions, and its value is within bounds and clashes with nothing
 abbrev pub KeepsValue : Known → Owner → Option Const → Type 0
-KeepsValue k (owner.Constant d) c = (constant_fault k d ≡ None) × (value_fault k d c ≡ None) × IfSome c IsConstant
-KeepsValue k (owner.Parameter f t) c = IsOpen k f × (length f.params < parameter_limit) × IsNoStruct t × FitsType c t
+KeepsValue k (owner.Constant d) c = (constant_fault k d ≡ None) × (value_fault k d c ≡ None)
+    × IfSome c IsConstant
+KeepsValue k (owner.Parameter f t) c = IsOpen k f × (length f.params < parameter_limit)
+    × IsNoStruct t × FitsType c t
 
 abbrev pub KeepsStage : Known → Stage → Type 0
 KeepsStage k (stage.Typed b t) = IsNoStruct t
@@ -232,7 +239,8 @@ KeepsStage k (stage.Closed f) = IsOpen k f × (length f.params ≤ parameter_lim
 KeepsStage k _ = Unit {0}
 
 abbrev pub KeepsDeclaration : Known → Declaration → Type 0
-KeepsDeclaration k (declaration.Constant d c) = (constant_fault k d ≡ None) × (value_fault k d c ≡ None) × IfSome c IsConstant
+KeepsDeclaration k (declaration.Constant d c) = (constant_fault k d ≡ None)
+    × (value_fault k d c ≡ None) × IfSome c IsConstant
 KeepsDeclaration k (declaration.Function f) = IsOpen k f × (length f.params ≤ parameter_limit)
 KeepsDeclaration k _ = Unit {0}
 
@@ -257,14 +265,17 @@ abbrev pub ended : ℕ → Known → Stage → Result EngineTable HeaderFault
 ended end k stage.Start = Ok k.table
 ended end k _ = Err (Header end)
 
-abbrev pub run_by : TurnResult → (Stage → Result EngineTable HeaderFault) → (Declaration → Result EngineTable HeaderFault) → Result EngineTable HeaderFault
+abbrev pub run_by : TurnResult → (Stage → Result EngineTable HeaderFault)
+    → (Declaration → Result EngineTable HeaderFault) → Result EngineTable HeaderFault
 run_by (Ok (Goes s)) on line = on s
 run_by (Ok (Gives d new)) on line = line d
 run_by (Err f) on line = Err f
 
 unfoldable pub declarations_read : ℕ → Known → Stage → List Placed → Result EngineTable HeaderFault
 declarations_read end k s [] = ended end k s
-declarations_read end k s (x ∷ xs) = run_by (turn k s x.place x.symbol) (λ next. declarations_read end k next xs) (λ d. declarations_read end (after k d) stage.Start xs)
+declarations_read end k s (x ∷ xs) = run_by (turn k s x.place x.symbol)
+    (λ next. declarations_read end k next xs)
+    (λ d. declarations_read end (after k d) stage.Start xs)
 
 -- ---- what code answers
 

@@ -33,7 +33,14 @@ made_symbols n creatures =
 abbrev f_body : SourceStmts
 f_body =
     stmt.more_stmts (stmt.if_only 12 (tree.binary 15 binary.Less (tree.name 14 (codes "k")) (tree.int 16 (pos 2))) (stmt.return_from 18 (Some (tree.name 19 (codes "k")))))
-    (stmt.more_stmts (stmt.return_from 21 (Some (tree.binary 28 binary.Add (tree.call 22 (codes "F") (tree.more_exprs (tree.binary 25 binary.Subtract (tree.name 24 (codes "k")) (tree.int 26 (pos 1))) tree.no_expr)) (tree.call 29 (codes "F") (tree.more_exprs (tree.binary 32 binary.Subtract (tree.name 31 (codes "k")) (tree.int 33 (pos 2))) tree.no_expr)))))
+    (stmt.more_stmts (stmt.return_from 21
+    (Some (tree.binary 28 binary.Add
+    (tree.call 22 (codes "F")
+    (tree.more_exprs (tree.binary 25 binary.Subtract (tree.name 24 (codes "k"))
+    (tree.int 26 (pos 1))) tree.no_expr))
+    (tree.call 29 (codes "F")
+    (tree.more_exprs (tree.binary 32 binary.Subtract (tree.name 31 (codes "k"))
+    (tree.int 33 (pos 2))) tree.no_expr)))))
     stmt.no_stmt)
 
 abbrev tell_body : SourceStmts
@@ -43,13 +50,42 @@ tell_body =
 
 abbrev main_body : ℕ → SourceStmts
 main_body creatures =
-    stmt.more_stmts (stmt.declaration 57 type.Int (record { token = 58; name = codes "n"; value = Some (tree.binary 66 binary.Add (tree.call 60 (codes "GetLocalInt") (tree.more_exprs (tree.object_self 62) (tree.more_exprs (tree.text 64 (codes "n")) tree.no_expr))) (tree.int 67 (pos 1))) } ∷ []))
-    (stmt.more_stmts (stmt.expression 69 (tree.call 69 (codes "SetLocalInt") (tree.more_exprs (tree.object_self 71) (tree.more_exprs (tree.text 73 (codes "n")) (tree.more_exprs (tree.name 75 (codes "n")) tree.no_expr)))))
+    stmt.more_stmts (stmt.declaration 57 type.Int
+    (record {
+      token = 58;
+      name = codes "n";
+      value = Some (tree.binary 66 binary.Add
+          (tree.call 60 (codes "GetLocalInt")
+          (tree.more_exprs (tree.object_self 62) (tree.more_exprs (tree.text 64 (codes "n")) tree.no_expr)))
+          (tree.int 67 (pos 1)));
+    } ∷ []))
+    (stmt.more_stmts (stmt.expression 69
+    (tree.call 69 (codes "SetLocalInt")
+    (tree.more_exprs (tree.object_self 71)
+    (tree.more_exprs (tree.text 73 (codes "n")) (tree.more_exprs (tree.name 75 (codes "n")) tree.no_expr)))))
     (stmt.more_stmts (stmt.expression 78 (tree.assign 79 assign.Set (tree.name 78 (codes "g")) (tree.binary 81 binary.Add (tree.name 80 (codes "g")) (tree.name 82 (codes "n")))))
     (stmt.more_stmts (stmt.expression 84 (tree.call 84 (codes "ActionWait") (tree.more_exprs (tree.int 86 (pos 50)) tree.no_expr)))
-    (stmt.more_stmts (stmt.expression 89 (tree.call 89 (codes "ActionDoCommand") (tree.more_exprs (tree.call 91 (codes "Tell") (tree.more_exprs (tree.call 93 (codes "F") (tree.more_exprs (tree.binary 96 binary.Remainder (tree.name 95 (codes "n")) (tree.int 97 (pos 8))) tree.no_expr)) tree.no_expr)) tree.no_expr)))
-    (stmt.more_stmts (stmt.expression 102 (tree.call 102 (codes "DelayCommand") (tree.more_exprs (tree.binary 105 binary.Multiply (tree.name 104 (codes "n")) (tree.int 106 (pos 100))) (tree.more_exprs (tree.call 108 (codes "Tell") (tree.more_exprs (tree.binary 111 binary.Subtract (tree.int 110 (pos 0)) (tree.name 112 (codes "n"))) tree.no_expr)) tree.no_expr))))
-    (stmt.more_stmts (stmt.expression 116 (tree.call 116 (codes "AssignCommand") (tree.more_exprs (tree.call 118 (codes "GetObjectByTag") (tree.more_exprs (tree.binary 121 binary.Add (tree.text 120 (codes "c")) (tree.call 122 (codes "IntToString") (tree.more_exprs (tree.binary 125 binary.Remainder (tree.name 124 (codes "g")) (tree.int 126 (cast_signed w32 creatures))) tree.no_expr))) tree.no_expr)) (tree.more_exprs (tree.call 130 (codes "Tell") (tree.more_exprs (tree.name 132 (codes "n")) tree.no_expr)) tree.no_expr))))
+    (stmt.more_stmts (stmt.expression 89
+    (tree.call 89 (codes "ActionDoCommand")
+    (tree.more_exprs (tree.call 91 (codes "Tell")
+    (tree.more_exprs (tree.call 93 (codes "F")
+    (tree.more_exprs (tree.binary 96 binary.Remainder (tree.name 95 (codes "n"))
+    (tree.int 97 (pos 8))) tree.no_expr)) tree.no_expr)) tree.no_expr)))
+    (stmt.more_stmts (stmt.expression 102
+    (tree.call 102 (codes "DelayCommand")
+    (tree.more_exprs (tree.binary 105 binary.Multiply (tree.name 104 (codes "n")) (tree.int 106 (pos 100)))
+    (tree.more_exprs (tree.call 108 (codes "Tell")
+    (tree.more_exprs (tree.binary 111 binary.Subtract (tree.int 110 (pos 0))
+    (tree.name 112 (codes "n"))) tree.no_expr)) tree.no_expr))))
+    (stmt.more_stmts (stmt.expression 116
+    (tree.call 116 (codes "AssignCommand")
+    (tree.more_exprs (tree.call 118 (codes "GetObjectByTag")
+    (tree.more_exprs (tree.binary 121 binary.Add (tree.text 120 (codes "c"))
+    (tree.call 122 (codes "IntToString")
+    (tree.more_exprs (tree.binary 125 binary.Remainder (tree.name 124 (codes "g"))
+    (tree.int 126 (cast_signed w32 creatures))) tree.no_expr))) tree.no_expr))
+    (tree.more_exprs (tree.call 130 (codes "Tell")
+    (tree.more_exprs (tree.name 132 (codes "n")) tree.no_expr)) tree.no_expr))))
     stmt.no_stmt))))))
 
 -- the items of the source of a number and so many creatures

@@ -21,4 +21,5 @@ pub record BeatCompiles (c : Contents) : Type 0 where
 
 -- So it is of files that have there the source of a number, whatever else they have.
 abbrev pub SourcesCompile : Type 0
-SourcesCompile = (n : ℕ) (c : Contents) → n ≤ number_limit → content c (codes "beat.nss") ≡ Some (play_of n).source → BeatCompiles c
+SourcesCompile = (n : ℕ) (c : Contents) → n ≤ number_limit
+    → content c (codes "beat.nss") ≡ Some (play_of n).source → BeatCompiles c

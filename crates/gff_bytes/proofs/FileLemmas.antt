@@ -28,8 +28,17 @@ inside bytes Struct none = (passed (passes_end bytes Struct) _ _ none).0
 inside bytes Field none = (passed (passes_end bytes Field) _ _ (passed (passes_end bytes Struct) _ _ none).1).0
 inside bytes Label none = (passed (passes_end bytes Label) _ _ (passed (passes_end bytes Field) _ _ (passed (passes_end bytes Struct) _ _ none).1).1).0
 inside bytes Data none = (passed (passes_end bytes Data) _ _ (passed (passes_end bytes Label) _ _ (passed (passes_end bytes Field) _ _ (passed (passes_end bytes Struct) _ _ none).1).1).1).0
-inside bytes Index none = (passed (passes_end bytes Index) _ _ (passed (passes_end bytes Data) _ _ (passed (passes_end bytes Label) _ _ (passed (passes_end bytes Field) _ _ (passed (passes_end bytes Struct) _ _ none).1).1).1).1).0
-inside bytes ListPart none = (passed (passes_end bytes ListPart) _ _ (passed (passes_end bytes Index) _ _ (passed (passes_end bytes Data) _ _ (passed (passes_end bytes Label) _ _ (passed (passes_end bytes Field) _ _ (passed (passes_end bytes Struct) _ _ none).1).1).1).1).1).0
+inside bytes Index none =
+    (passed (passes_end bytes Index) _ _
+    (passed (passes_end bytes Data) _ _
+    (passed (passes_end bytes Label) _ _
+    (passed (passes_end bytes Field) _ _ (passed (passes_end bytes Struct) _ _ none).1).1).1).1).0
+inside bytes ListPart none =
+    (passed (passes_end bytes ListPart) _ _
+    (passed (passes_end bytes Index) _ _
+    (passed (passes_end bytes Data) _ _
+    (passed (passes_end bytes Label) _ _
+    (passed (passes_end bytes Field) _ _ (passed (passes_end bytes Struct) _ _ none).1).1).1).1).1).0
 
 section_fits : (bytes : List ℕ) (part : Part) → open_fault bytes ≡ None → row_place bytes part (count_of bytes part) ≤ length bytes
 section_fits bytes part clear = ltb-false _ _ (inside bytes part (no_section bytes clear))

@@ -74,14 +74,22 @@ unfoldable pub struct_row : List ℕ → ℕ → Result StructRow Range
 struct_row bytes n =
     let place = row_place bytes Struct n in
     if nat_lt n (count_of bytes Struct)
-    then Ok (record { kind = word_at bytes place; word = word_at bytes (place + 4); count = word_at bytes (place + 8) })
+    then Ok (record {
+      kind = word_at bytes place;
+      word = word_at bytes (place + 4);
+      count = word_at bytes (place + 8);
+    })
     else Err (record { part = Struct; at = n })
 
 unfoldable pub field_row : List ℕ → ℕ → Result FieldRow Range
 field_row bytes n =
     let place = row_place bytes Field n in
     if nat_lt n (count_of bytes Field)
-    then Ok (record { kind = word_at bytes place; label = word_at bytes (place + 4); word = word_at bytes (place + 8) })
+    then Ok (record {
+      kind = word_at bytes place;
+      label = word_at bytes (place + 4);
+      word = word_at bytes (place + 8);
+    })
     else Err (record { part = Field; at = n })
 
 -- the sixteen bytes of a label

@@ -12,7 +12,9 @@ pub rows_charge_push : (rows : List PlainRow) (row : PlainRow) → rows_charge (
 rows_charge_push [] row = omega arith
 rows_charge_push (first ∷ rows) row = omega (arith, rows_charge_push rows row)
 
-pub fields_charge_push : (fields : List Field) (field : Field) → fields_charge (fields_list (fields ++ field ∷ [])) ≡ fields_charge (fields_list fields) + (field_charge + leaf_charge (plain_leaf field.leaf))
+pub fields_charge_push : (fields : List Field) (field : Field)
+    → fields_charge (fields_list (fields ++ field ∷ []))
+    ≡ fields_charge (fields_list fields) + (field_charge + leaf_charge (plain_leaf field.leaf))
 fields_charge_push [] field = omega arith
 fields_charge_push (first ∷ fields) field = omega (arith, fields_charge_push fields field)
 

@@ -81,7 +81,9 @@ are_values : (bytes : List ℕ) (entry : StructRow) (i : ℕ) (rows : List Plain
 are_values bytes entry i [] s = tt
 are_values bytes entry i (row ∷ rows) s = (is_value bytes s.2.of_kind s.2.entry.word row.shape s.2.shape, are_values bytes entry (i + 1) rows s.3)
 
-leaf_counted : (bound : ℕ) (stands : Meaning) → Counted bound stands → (shape : PlainShape) (holds : PlainLeaf) (uses : List ℕ) → IsValue shape → LeafStands stands shape holds uses → Counts bound (leaf_count holds) uses
+leaf_counted : (bound : ℕ) (stands : Meaning) → Counted bound stands
+    → (shape : PlainShape) (holds : PlainLeaf) (uses : List ℕ) → IsValue shape → LeafStands stands shape holds uses
+    → Counts bound (leaf_count holds) uses
 leaf_counted bound stands counted (Value (Holds scalar)) holds uses is s = subst (λ (l : PlainLeaf). Counts bound (leaf_count l) uses) (sym s.0) (no_uses bound uses s.1)
 leaf_counted bound stands counted (Value (Child node)) holds uses is s = absurd is
 leaf_counted bound stands counted (Value (Children nodes)) holds uses is s = absurd is
@@ -92,12 +94,16 @@ leaf_counted bound stands counted (Many ns) (Children nodes) uses is s = nodes_c
 leaf_counted bound stands counted (Many ns) (Holds scalar) uses is s = absurd s
 leaf_counted bound stands counted (Many ns) (Child node) uses is s = absurd s
 
-fields_counted : (bound : ℕ) (stands : Meaning) → Counted bound stands → (rows : List PlainRow) (fields : PlainFields) (uses : List ℕ) → AreValues rows → FieldsStand stands rows fields uses → Counts bound (fields_count fields) uses
+fields_counted : (bound : ℕ) (stands : Meaning) → Counted bound stands
+    → (rows : List PlainRow) (fields : PlainFields) (uses : List ℕ) → AreValues rows
+    → FieldsStand stands rows fields uses → Counts bound (fields_count fields) uses
 fields_counted bound stands counted [] NoField uses are s = no_uses bound uses s
 fields_counted bound stands counted [] (MoreFields label holds fields) uses are s = absurd s
 fields_counted bound stands counted (row ∷ rows) NoField uses are s = absurd s
 fields_counted bound stands counted (row ∷ rows) (MoreFields label holds fields) uses are s =
-    joined bound (leaf_count holds) (fields_count fields) s.0 s.1 uses s.5 (leaf_counted bound stands counted row.shape holds s.0 are.0 s.3) (fields_counted bound stands counted rows fields s.1 are.1 s.4)
+    joined bound (leaf_count holds) (fields_count fields) s.0 s.1 uses s.5
+    (leaf_counted bound stands counted row.shape holds s.0 are.0 s.3)
+    (fields_counted bound stands counted rows fields s.1 are.1 s.4)
 
 row_below : (bytes : List ℕ) (n : ℕ) (entry : StructRow) → struct_row bytes n ≡ Ok entry → n < struct_count bytes
 unfolding struct_row
@@ -107,11 +113,18 @@ row_below bytes n entry e = by_test (nat_lt n (count_of bytes part.Struct)) _ _ 
     by_test true row range is h = ltb-true n (count_of bytes part.Struct) is
     by_test false row range is h = absurd cc
 
-struct_counted : (bytes : List ℕ) (depth : ℕ) → Counted (struct_count bytes) (NodeStands depth bytes) → (n : ℕ) (node : PlainNode) (uses : List ℕ) → NodeStands (suc depth) bytes n node uses → Counts (struct_count bytes) (node_count node) uses
+struct_counted : (bytes : List ℕ) (depth : ℕ) → Counted (struct_count bytes) (NodeStands depth bytes)
+    → (n : ℕ) (node : PlainNode) (uses : List ℕ) → NodeStands (suc depth) bytes n node uses
+    → Counts (struct_count bytes) (node_count node) uses
 struct_counted bytes depth counted n (Struct kind fields) uses s =
     let below = fields_counted (struct_count bytes) (NodeStands depth bytes) counted s.rows fields s.below (are_values bytes s.entry 0 s.rows s.rows-stand) s.fields-stand in
     let lt = row_below bytes n s.entry s.entry-is in
-    joined (struct_count bytes) 1 (fields_count fields) (n ∷ []) s.below uses s.uses-is (record { long = refl; below = first_below (struct_count bytes) n [] lt (none_below (struct_count bytes)) }) below
+    joined (struct_count bytes) 1 (fields_count fields) (n ∷ []) s.below uses s.uses-is
+    (record {
+      long = refl;
+      below = first_below (struct_count bytes) n [] lt
+          (none_below (struct_count bytes));
+    }) below
 
 node_counted : (bytes : List ℕ) (depth : ℕ) → Counted (struct_count bytes) (NodeStands depth bytes)
 node_counted bytes zero = record { by = λ n node uses s. absurd s }

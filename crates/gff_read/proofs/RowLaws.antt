@@ -65,7 +65,8 @@ shape_stands bytes field kind.Loc word s e = value_stands bytes field kind.Loc w
 shape_stands bytes field kind.Void word s e = value_stands bytes field kind.Void word s e
 
 -- a type of value is read as one
-scalar_shape : (bytes : List ℕ) (field : ℕ) (k : FieldKind) (word : ℕ) (s : Scalar) → ScalarStands bytes k word s → shape_for bytes field k word ≡ (leaf_for bytes field k word >>= λ holds. Ok (Value holds))
+scalar_shape : (bytes : List ℕ) (field : ℕ) (k : FieldKind) (word : ℕ) (s : Scalar) → ScalarStands bytes k word s
+    → shape_for bytes field k word ≡ (leaf_for bytes field k word >>= λ holds. Ok (Value holds))
 unfolding shape_for
 scalar_shape bytes field kind.Struct word s is = absurd is
 scalar_shape bytes field kind.List word s is = absurd is

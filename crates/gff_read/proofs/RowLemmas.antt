@@ -61,7 +61,8 @@ words_end e bytes place k j front whole before more here =
 
 -- one more field is read
 pub rows_step : (bytes : List ℕ) (row : StructRow) (i k j field : ℕ) (front now : List PlainRow) (next : PlainRow) (whole : Result (List PlainRow) TreeFault) →
-    rows_from bytes row i k front ≡ whole → k ≡ suc j → placed (field_number bytes row i) ≡ Ok field → row_for bytes front field ≡ Ok next → now ≡ front ++ next ∷ [] → rows_from bytes row (i + 1) j now ≡ whole
+    rows_from bytes row i k front ≡ whole → k ≡ suc j → placed (field_number bytes row i) ≡ Ok field
+    → row_for bytes front field ≡ Ok next → now ≡ front ++ next ∷ [] → rows_from bytes row (i + 1) j now ≡ whole
 rows_step bytes row i k j field front now next whole before more numbered read grown =
     let at : rows_from bytes row i (suc j) front ≡ whole = subst (λ (m : ℕ). rows_from bytes row i m front ≡ whole) more before in
     rw grown (rw (numbered, read) at at)

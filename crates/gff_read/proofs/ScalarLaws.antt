@@ -91,7 +91,9 @@ localized_read : (field : ℕ) (body : List ℕ) (loc : Loc) → LocalizedStands
 unfolding localized_in
 localized_read field body loc s =
     let head : nat_lt (length body) 8 ≡ false = le-ltb _ _ s.head in
-    let parts : parts_in field (number_in 4 (drop 4 body)) (drop 8 body) ≡ Ok loc.parts = subst (λ (n : ℕ). parts_in field n (drop 8 body) ≡ Ok loc.parts) s.count (parts_read field (drop 8 body) loc.parts s.parts) in
+    let parts : parts_in field (number_in 4 (drop 4 body)) (drop 8 body)
+    ≡ Ok loc.parts = subst (λ (n : ℕ). parts_in field n (drop 8 body) ≡ Ok loc.parts) s.count
+    (parts_read field (drop 8 body) loc.parts s.parts) in
     rw (head, parts, ← s.str_ref) refl
 
 pub scalar_stands : (bytes : List ℕ) (field : ℕ) (k : FieldKind) (word : ℕ) (s : Scalar) → scalar_for bytes field k word ≡ Ok s → ScalarStands bytes k word s

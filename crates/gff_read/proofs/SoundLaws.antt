@@ -17,7 +17,9 @@ use Rattle.gff_read.proofs.RowLaws.{labels}
 
 data_short : (bytes : List ℕ) (place count : ℕ) (text : List ℕ) → data_at bytes place count ≡ Ok text → length text ≤ count
 unfolding data_at
-data_short bytes place count text e = by_test (nat_le (place + count) (count_of bytes part.Data)) (take count (drop (start_of bytes part.Data + place) bytes)) _ e (omega (arith, length-take count (drop (start_of bytes part.Data + place) bytes)))
+data_short bytes place count text e = by_test (nat_le (place + count) (count_of bytes part.Data))
+    (take count (drop (start_of bytes part.Data + place) bytes)) _ e
+    (omega (arith, length-take count (drop (start_of bytes part.Data + place) bytes)))
   where
     by_test : (b : Bool) (read : List ℕ) (range : Range) → cond b (Ok read) (Err range) ≡ Ok text → length read ≤ count → length text ≤ count
     by_test true read range h short = let is : read ≡ text = cc in subst (λ (t : List ℕ). length t ≤ count) is short
@@ -80,7 +82,9 @@ nodes_sound depth stands sound [] (MoreNodes node nodes) uses s = absurd s
 nodes_sound depth stands sound (n ∷ ns) NoNode uses s = absurd s
 nodes_sound depth stands sound (n ∷ ns) (MoreNodes node nodes) uses s = and_true _ _ (sound.by n node s.0 s.2) (nodes_sound depth stands sound ns nodes s.1 s.3)
 
-leaf_sound : (depth : ℕ) (stands : Meaning) → SoundBelow depth stands → (shape : PlainShape) (holds : PlainLeaf) (uses : List ℕ) → sound_shape shape ≡ true → LeafStands stands shape holds uses → is_sound_leaf depth holds ≡ true
+leaf_sound : (depth : ℕ) (stands : Meaning) → SoundBelow depth stands
+    → (shape : PlainShape) (holds : PlainLeaf) (uses : List ℕ) → sound_shape shape ≡ true
+    → LeafStands stands shape holds uses → is_sound_leaf depth holds ≡ true
 leaf_sound depth stands sound (Value (Holds s')) holds uses ok s = ap (is_sound_leaf depth) s.0 ∙ ok
 leaf_sound depth stands sound (Value (Child node)) holds uses ok s = absurd cc
 leaf_sound depth stands sound (Value (Children nodes)) holds uses ok s = absurd cc
@@ -102,7 +106,9 @@ fields_sound depth stands sound (row ∷ rows) (MoreFields label holds fields) u
       ap (λ (l : List ℕ). l ∷ labels rows) s.2 ∙ ap (λ (ls : List (List ℕ)). label ∷ ls) rest.1,
     )
 
-struct_sound : (bytes : List ℕ) (depth : ℕ) → SoundBelow depth (NodeStands depth bytes) → (n : ℕ) (node : PlainNode) (uses : List ℕ) → NodeStands (suc depth) bytes n node uses → is_sound_node (suc depth) node ≡ true
+struct_sound : (bytes : List ℕ) (depth : ℕ) → SoundBelow depth (NodeStands depth bytes)
+    → (n : ℕ) (node : PlainNode) (uses : List ℕ) → NodeStands (suc depth) bytes n node uses
+    → is_sound_node (suc depth) node ≡ true
 struct_sound bytes depth sound n (Struct kind fields) uses s =
     let below = fields_sound depth (NodeStands depth bytes) sound s.rows fields s.below (rows_sound bytes s.entry 0 s.rows s.rows-stand) s.fields-stand in
     let distinct : are_distinct bytes_eq (labels_of fields) ≡ true = subst (λ (ls : List (List ℕ)). are_distinct bytes_eq ls ≡ true) below.1 s.distinct in

@@ -26,7 +26,8 @@ read_few bytes marks node after is e few =
     let s = (node_agrees bytes 64).sound 0 (replicate (struct_count bytes) false) [] node after (marked_none (struct_count bytes)) start in
     omega (arith, few, count_within bytes node s.0 s.1 s.2)
 
-pub stands_read : (bytes : List ℕ) (marks : Marks) (node : PlainNode) (after : Marks) (file_type : List ℕ) → marks ≡ replicate (struct_count bytes) false → node_at 64 bytes 0 marks ≡ Ok (node, after) →
+pub stands_read : (bytes : List ℕ) (marks : Marks) (node : PlainNode) (after : Marks) (file_type : List ℕ)
+    → marks ≡ replicate (struct_count bytes) false → node_at 64 bytes 0 marks ≡ Ok (node, after) →
     open_fault bytes ≡ None → file_type ≡ take 4 bytes → Stands bytes (record { file_type = file_type; top = node })
 stands_read bytes marks node after file_type is e clear typed =
     let start : node_at 64 bytes 0 (replicate (struct_count bytes) false) ≡ Ok (node, after) = subst (λ (m : Marks). node_at 64 bytes 0 m ≡ Ok (node, after)) is e in

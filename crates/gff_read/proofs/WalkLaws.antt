@@ -160,7 +160,8 @@ leaf_sound count one stands agrees (Many ns) marks seen holds after m e =
     subst (λ (r : PlainLeaf × Marks). (uses : List ℕ) × LeafStands stands (Many ns) r.0 uses × Seen count seen uses r.1) is s
 
 leaf_complete : (count : ℕ) (one : Reading) (stands : Meaning) → Agrees count one stands → (shape : PlainShape) (marks : Marks) (seen : List ℕ) (holds : PlainLeaf) (uses : List ℕ) →
-    Marked count marks seen → LeafStands stands shape holds uses → differ_after nat_eq seen uses ≡ true → (after : Marks) × (leaf_at one shape marks ≡ Ok (holds, after)) × Marked count after (seen ++ uses)
+    Marked count marks seen → LeafStands stands shape holds uses → differ_after nat_eq seen uses ≡ true
+    → (after : Marks) × (leaf_at one shape marks ≡ Ok (holds, after)) × Marked count after (seen ++ uses)
 leaf_complete count one stands agrees (Value value) marks seen holds uses m s d =
     (marks, ap (λ (h : PlainLeaf). Ok (h, marks)) (sym s.0), subst (λ (us : List ℕ). Marked count marks (seen ++ us)) (sym s.1) (seen_none count seen marks m).1)
 leaf_complete count one stands agrees (One n) marks seen (Holds s') uses m s d = absurd s
@@ -189,7 +190,8 @@ fields_sound count one stands agrees (row ∷ rows) marks seen fields after m e 
     (first.0 ++ rest.0, (first.0, rest.0, refl, first.1, rest.1, refl), seen_join count seen first.0 rest.0 r.0.1 first.2.0 rest.2)
 
 fields_complete : (count : ℕ) (one : Reading) (stands : Meaning) → Agrees count one stands → (rows : List PlainRow) (marks : Marks) (seen : List ℕ) (fields : PlainFields) (uses : List ℕ) →
-    Marked count marks seen → FieldsStand stands rows fields uses → differ_after nat_eq seen uses ≡ true → (after : Marks) × (fields_at one rows marks ≡ Ok (fields, after)) × Marked count after (seen ++ uses)
+    Marked count marks seen → FieldsStand stands rows fields uses → differ_after nat_eq seen uses ≡ true
+    → (after : Marks) × (fields_at one rows marks ≡ Ok (fields, after)) × Marked count after (seen ++ uses)
 fields_complete count one stands agrees [] marks seen NoField uses m s d =
     (marks, refl, subst (λ (us : List ℕ). Marked count marks (seen ++ us)) (sym s) (seen_none count seen marks m).1)
 fields_complete count one stands agrees [] marks seen (MoreFields label holds fields) uses m s d = absurd s
@@ -211,7 +213,9 @@ row_inside bytes n row e = in_test (nat_lt n (count_of bytes part.Struct)) _ _ e
     in_test true x y h is = ltb-true _ _ is
     in_test false x y h is = absurd cc
 
-entered_ok : (depth : ℕ) (bytes : List ℕ) (n : ℕ) (marks : Marks) (row : StructRow) → struct_entered depth bytes n marks ≡ Ok row → (struct_row bytes n ≡ Ok row) × (get_or marks n false ≡ false) × (0 < depth)
+entered_ok : (depth : ℕ) (bytes : List ℕ) (n : ℕ) (marks : Marks) (row : StructRow)
+    → struct_entered depth bytes n marks ≡ Ok row
+    → (struct_row bytes n ≡ Ok row) × (get_or marks n false ≡ false) × (0 < depth)
 unfolding struct_entered
 entered_ok depth bytes n marks row e =
     let b = bind_ok (placed (struct_row bytes n)) _ row e in
@@ -255,7 +259,8 @@ node_sound bytes depth agrees n marks seen node after m e =
     (n ∷ fields.0, stands, rw fresh fields.2.0, subst (Marked count f.0.1) (append_assoc seen (n ∷ []) fields.0) fields.2.1)
 
 node_complete : (bytes : List ℕ) (depth : ℕ) → Agrees (struct_count bytes) (node_at depth bytes) (NodeStands depth bytes) →
-    (n : ℕ) (marks : Marks) (seen : List ℕ) (node : PlainNode) (uses : List ℕ) → Marked (struct_count bytes) marks seen → NodeStands (suc depth) bytes n node uses → differ_after nat_eq seen uses ≡ true →
+    (n : ℕ) (marks : Marks) (seen : List ℕ) (node : PlainNode) (uses : List ℕ) → Marked (struct_count bytes) marks seen
+    → NodeStands (suc depth) bytes n node uses → differ_after nat_eq seen uses ≡ true →
     (after : Marks) × (node_at (suc depth) bytes n marks ≡ Ok (node, after)) × Marked (struct_count bytes) after (seen ++ uses)
 unfolding node_at rows_of
 node_complete bytes depth agrees n marks seen (Struct kind fields) uses m s d =

@@ -42,17 +42,23 @@ pub node_refused : (e : TreeFault) (depth : ℕ) (bytes : List ℕ) (n : ℕ) (m
 node_refused e depth bytes n marks here =
     fault_of e (struct_entered depth bytes n marks) (node_at depth bytes n marks) here (λ failed. node_step depth bytes n marks ∙ rw failed refl)
 
-pub node_rows_fail : (e : TreeFault) (depth : ℕ) (bytes : List ℕ) (n : ℕ) (marks : Marks) (row : StructRow) → struct_entered depth bytes n marks ≡ Ok row → TreeFails e (rows_of bytes row) → TreeFails e (node_at depth bytes n marks)
+pub node_rows_fail : (e : TreeFault) (depth : ℕ) (bytes : List ℕ) (n : ℕ) (marks : Marks) (row : StructRow)
+    → struct_entered depth bytes n marks ≡ Ok row → TreeFails e (rows_of bytes row)
+    → TreeFails e (node_at depth bytes n marks)
 node_rows_fail e depth bytes n marks row in_row here =
     fault_of e (rows_of bytes row) (node_at depth bytes n marks) here (λ failed. node_step depth bytes n marks ∙ rw (in_row, failed) refl)
 
 pub node_fields_fail : (e : TreeFault) (depth : ℕ) (bytes : List ℕ) (n : ℕ) (marks : Marks) (row : StructRow) (rows : List PlainRow) →
-    struct_entered depth bytes n marks ≡ Ok row → rows_of bytes row ≡ Ok rows → TreeFails e (fields_at (node_at (depth - 1) bytes) rows (slice_set marks n true)) → TreeFails e (node_at depth bytes n marks)
+    struct_entered depth bytes n marks ≡ Ok row → rows_of bytes row ≡ Ok rows
+    → TreeFails e (fields_at (node_at (depth - 1) bytes) rows (slice_set marks n true))
+    → TreeFails e (node_at depth bytes n marks)
 node_fields_fail e depth bytes n marks row rows in_row all here =
     fault_of e (fields_at (node_at (depth - 1) bytes) rows (slice_set marks n true)) (node_at depth bytes n marks) here (λ failed. node_step depth bytes n marks ∙ rw (in_row, all, failed) refl)
 
 pub node_made : (depth : ℕ) (bytes : List ℕ) (n : ℕ) (marks after : Marks) (row : StructRow) (rows : List PlainRow) (fields : PlainFields) (node : PlainNode) →
-    struct_entered depth bytes n marks ≡ Ok row → rows_of bytes row ≡ Ok rows → fields_at (node_at (depth - 1) bytes) rows (slice_set marks n true) ≡ Ok (fields, after) → node ≡ Struct row.kind fields →
+    struct_entered depth bytes n marks ≡ Ok row → rows_of bytes row ≡ Ok rows
+    → fields_at (node_at (depth - 1) bytes) rows (slice_set marks n true) ≡ Ok (fields, after)
+    → node ≡ Struct row.kind fields →
     node_at depth bytes n marks ≡ Ok (node, after)
 node_made depth bytes n marks after row rows fields node in_row all read made = node_step depth bytes n marks ∙ rw (in_row, all, read, made) refl
 

@@ -13,11 +13,13 @@ TreesAreRead = (bytes : List ℕ) (gff : PlainGff) → Stands bytes gff → tree
 
 -- where the sections lie right, bytes stand for the tree that is read
 abbrev pub ReadTreesStand : Type 0
-ReadTreesStand = (bytes : List ℕ) (gff : PlainGff) → open_fault bytes ≡ None → tree_of bytes ≡ Ok gff → Stands bytes gff
+ReadTreesStand = (bytes : List ℕ) (gff : PlainGff) → open_fault bytes ≡ None
+    → tree_of bytes ≡ Ok gff → Stands bytes gff
 
 -- a tree that bytes stand for can be written, and has no more structs than they
 abbrev pub TreesAreSound : Type 0
 TreesAreSound = (bytes : List ℕ) (gff : PlainGff) → Stands bytes gff → is_sound gff.top ≡ true
 
 abbrev pub TreesAreFew : Type 0
-TreesAreFew = (bytes : List ℕ) (gff : PlainGff) → Stands bytes gff → node_count gff.top ≤ struct_count bytes
+TreesAreFew = (bytes : List ℕ) (gff : PlainGff) → Stands bytes gff
+    → node_count gff.top ≤ struct_count bytes

@@ -20,7 +20,8 @@ use Rattle.gff_tree.specs.Tree as tree
 use Rattle.gff_tree.specs.Tree.{Scalar, PlainLeaf}
 
 infixl 10 ◌>>=◌
-abbrev pub ◌>>=◌ : {A B : Type 0} → Result A TreeFault → (A → Result B TreeFault) → Result B TreeFault
+abbrev pub ◌>>=◌ : {A B : Type 0} → Result A TreeFault → (A → Result B TreeFault)
+    → Result B TreeFault
 (Ok x) >>= f = f x
 (Err e) >>= f = Err e
 
@@ -63,16 +64,20 @@ abbrev pub bytes_for : List ℕ → ℕ → ℕ → ℕ → Result (List ℕ) Tr
 bytes_for bytes field place count = for_field field (data_at bytes place count)
 
 unfoldable pub number_for : List ℕ → ℕ → ℕ → ℕ → Result ℕ TreeFault
-number_for bytes field place width = bytes_for bytes field place width >>= λ read. Ok (number_in width read)
+number_for bytes field place width = bytes_for bytes field place width >>= λ read. Ok
+    (number_in width read)
 
 -- a length of four bytes and so many bytes
 unfoldable pub counted_for : List ℕ → ℕ → ℕ → Result (List ℕ) TreeFault
-counted_for bytes field place = number_for bytes field place 4 >>= λ count. bytes_for bytes field (place + 4) count
+counted_for bytes field place = number_for bytes field place 4 >>= λ count. bytes_for bytes field
+    (place + 4) count
 
 -- a length of one byte, at most that of a resource's name, and so many bytes
 unfoldable pub name_for : List ℕ → ℕ → ℕ → Result (List ℕ) TreeFault
 name_for bytes field place =
-    number_for bytes field place 1 >>= λ count. (if nat_lt tree.resource_limit count then bad_data field else bytes_for bytes field (place + 1) count)
+    number_for bytes field place 1 >>= λ count.
+    (if nat_lt tree.resource_limit count then bad_data field else bytes_for bytes field
+    (place + 1) count)
 
 -- one text of a localized string and the bytes after it: its number, its length, its bytes
 unfoldable pub part_in : ℕ → List ℕ → Result (LocPart × List ℕ) TreeFault
@@ -80,18 +85,23 @@ part_in field bytes =
     let count = number_in 4 (drop 4 bytes) in
     if nat_lt (length bytes) 8 then bad_data field
     else (if nat_lt (length bytes) (8 + count) then bad_data field
-    else Ok (record { id = cast_signed w32 (number_in 4 bytes); text = take count (drop 8 bytes) }, drop (8 + count) bytes))
+    else Ok (
+      record { id = cast_signed w32 (number_in 4 bytes); text = take count (drop 8 bytes) },
+      drop (8 + count) bytes,
+    ))
 
 abbrev pub parts_in : ℕ → ℕ → List ℕ → Result (List LocPart) TreeFault
 parts_in field zero bytes = Ok []
-parts_in field (suc n) bytes = part_in field bytes >>= λ p. (parts_in field n p.1 >>= λ parts. Ok (p.0 ∷ parts))
+parts_in field (suc n) bytes = part_in field bytes >>= λ p.
+    (parts_in field n p.1 >>= λ parts. Ok (p.0 ∷ parts))
 
 -- a localized string in the bytes that its total size counts; what is left behind its texts is
 -- passed over
 unfoldable pub localized_in : ℕ → List ℕ → Result Loc TreeFault
 localized_in field bytes =
     if nat_lt (length bytes) 8 then bad_data field
-    else (parts_in field (number_in 4 (drop 4 bytes)) (drop 8 bytes) >>= λ parts. Ok (record { str_ref = number_in 4 bytes; parts = parts }))
+    else (parts_in field (number_in 4 (drop 4 bytes)) (drop 8 bytes) >>= λ parts. Ok
+    (record { str_ref = number_in 4 bytes; parts = parts }))
 
 -- the value of a field, by its type and its DataOrDataOffset
 unfoldable pub scalar_for : List ℕ → ℕ → FieldKind → ℕ → Result Scalar TreeFault
@@ -101,13 +111,17 @@ scalar_for bytes field kind.Word word = Ok (tree.Word (word % 65536))
 scalar_for bytes field kind.Short word = Ok (tree.Short (cast_signed w16 (word % 65536)))
 scalar_for bytes field kind.Dword word = Ok (tree.Dword word)
 scalar_for bytes field kind.Int word = Ok (tree.Int (cast_signed w32 word))
-scalar_for bytes field kind.Dword64 word = number_for bytes field word 8 >>= λ n. Ok (tree.Dword64 n)
-scalar_for bytes field kind.Int64 word = number_for bytes field word 8 >>= λ n. Ok (tree.Int64 (cast_signed w64 n))
+scalar_for bytes field kind.Dword64 word = number_for bytes field word 8 >>= λ n. Ok
+    (tree.Dword64 n)
+scalar_for bytes field kind.Int64 word = number_for bytes field word 8 >>= λ n. Ok
+    (tree.Int64 (cast_signed w64 n))
 scalar_for bytes field kind.Float word = Ok (tree.Float (to_le_bytes w32 word))
-scalar_for bytes field kind.Double word = bytes_for bytes field word 8 >>= λ bits. Ok (tree.Double bits)
+scalar_for bytes field kind.Double word = bytes_for bytes field word 8 >>= λ bits. Ok
+    (tree.Double bits)
 scalar_for bytes field kind.Str word = counted_for bytes field word >>= λ text. Ok (tree.Str text)
 scalar_for bytes field kind.Res word = name_for bytes field word >>= λ text. Ok (tree.Res text)
-scalar_for bytes field kind.Loc word = counted_for bytes field word >>= λ body. (localized_in field body >>= λ loc. Ok (tree.Localized loc))
+scalar_for bytes field kind.Loc word = counted_for bytes field word >>= λ body.
+    (localized_in field body >>= λ loc. Ok (tree.Localized loc))
 scalar_for bytes field kind.Void word = counted_for bytes field word >>= λ raw. Ok (tree.Void raw)
 scalar_for bytes field _ word = bad_data field
 
@@ -117,7 +131,8 @@ leaf_for bytes field k word = scalar_for bytes field k word >>= λ scalar. Ok (t
 -- so many numbers of the list indices
 abbrev pub words_from : List ℕ → ℕ → ℕ → Result (List ℕ) TreeFault
 words_from bytes place zero = Ok []
-words_from bytes place (suc n) = placed (list_word bytes place) >>= λ word. (words_from bytes (place + 4) n >>= λ words. Ok (word ∷ words))
+words_from bytes place (suc n) = placed (list_word bytes place) >>= λ word.
+    (words_from bytes (place + 4) n >>= λ words. Ok (word ∷ words))
 
 -- what a field of the file holds: a value, the number of a struct, or those of a list's structs
 pub data PlainShape : Type 0 where
@@ -132,13 +147,15 @@ pub record PlainRow : Type 0 where
 unfoldable pub shape_for : List ℕ → ℕ → FieldKind → ℕ → Result PlainShape TreeFault
 shape_for bytes field kind.Struct word = Ok (One word)
 shape_for bytes field kind.List word =
-    placed (list_word bytes word) >>= λ count. (words_from bytes (word + 4) count >>= λ words. Ok (Many words))
+    placed (list_word bytes word) >>= λ count.
+    (words_from bytes (word + 4) count >>= λ words. Ok (Many words))
 shape_for bytes field k word = leaf_for bytes field k word >>= λ holds. Ok (Value holds)
 
 abbrev pub has_label : List PlainRow → List ℕ → Bool
 has_label rows label = list_any (bytes_eq label) (map (λ row. row.label) rows)
 
-abbrev pub of_kind : {X : Type 0} → ℕ → Option FieldKind → (FieldKind → Result X TreeFault) → Result X TreeFault
+abbrev pub of_kind : {X : Type 0} → ℕ → Option FieldKind → (FieldKind → Result X TreeFault)
+    → Result X TreeFault
 of_kind field None next = Err (fault.Kind field)
 of_kind field (Some k) next = next k
 
@@ -149,7 +166,8 @@ row_for bytes rows field =
     of_kind field (slice_get kinds row.kind) (λ k.
     placed (label_row bytes row.label) >>= λ label.
     (if has_label rows (label_text label) then Err (fault.Label field)
-    else (shape_for bytes field k row.word >>= λ holds. Ok (record { label = label_text label; shape = holds }))))
+    else (shape_for bytes field k row.word >>= λ holds. Ok
+    (record { label = label_text label; shape = holds }))))
 
 -- the number of a struct's field by its place: a single one stands in the struct itself
 unfoldable pub field_number : List ℕ → StructRow → ℕ → Result ℕ Range
@@ -158,7 +176,8 @@ field_number bytes row i = if row.count == 1 then Ok row.word else index_at byte
 abbrev pub rows_from : List ℕ → StructRow → ℕ → ℕ → List PlainRow → Result (List PlainRow) TreeFault
 rows_from bytes row i zero rows = Ok rows
 rows_from bytes row i (suc n) rows =
-    placed (field_number bytes row i) >>= λ field. (row_for bytes rows field >>= λ next. rows_from bytes row (i + 1) n (rows ++ next ∷ []))
+    placed (field_number bytes row i) >>= λ field.
+    (row_for bytes rows field >>= λ next. rows_from bytes row (i + 1) n (rows ++ next ∷ []))
 
 -- all fields of a struct
 unfoldable pub rows_of : List ℕ → StructRow → Result (List PlainRow) TreeFault

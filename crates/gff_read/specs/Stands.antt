@@ -17,11 +17,13 @@ use Rattle.gff_read.specs.Rows.{PlainShape, PlainRow, Value, One, Many, number_i
 
 -- a number of so many bytes stands at a place of the field data
 abbrev pub NumberStands : List ℕ → ℕ → ℕ → ℕ → Type 0
-NumberStands bytes place width n = (read : List ℕ) × (data_at bytes place width ≡ Ok read) × (n ≡ number_in width read)
+NumberStands bytes place width n = (read : List ℕ) × (data_at bytes place width ≡ Ok read)
+    × (n ≡ number_in width read)
 
 -- a length of so many bytes, and a text of that length behind it
 abbrev pub CountedStands : List ℕ → ℕ → ℕ → ℕ → List ℕ → Type 0
-CountedStands bytes place width count text = NumberStands bytes place width count × (data_at bytes (place + width) count ≡ Ok text)
+CountedStands bytes place width count text = NumberStands bytes place width count
+    × (data_at bytes (place + width) count ≡ Ok text)
 
 -- texts in a row, each behind its number and its length; bytes may follow them. A length whose sign
 -- is set is greater than any file.
@@ -29,7 +31,8 @@ abbrev pub PartsStand : List ℕ → List LocPart → Type 0
 PartsStand bytes [] = Unit {0}
 PartsStand bytes (part ∷ parts) =
     (count : ℕ) × (count ≡ number_in 4 (drop 4 bytes)) × (8 + count ≤ length bytes)
-    × (part.id ≡ cast_signed w32 (number_in 4 bytes)) × (part.text ≡ take count (drop 8 bytes)) × PartsStand (drop (8 + count) bytes) parts
+    × (part.id ≡ cast_signed w32 (number_in 4 bytes)) × (part.text ≡ take count (drop 8 bytes))
+    × PartsStand (drop (8 + count) bytes) parts
 
 -- a localized string in the bytes that its total size counts
 pub record LocalizedStands (body : List ℕ) (loc : Loc) : Type 0 where
@@ -46,14 +49,21 @@ ScalarStands bytes kind.Word word s = s ≡ tree.Word (word % 65536)
 ScalarStands bytes kind.Short word s = s ≡ tree.Short (cast_signed w16 (word % 65536))
 ScalarStands bytes kind.Dword word s = s ≡ tree.Dword word
 ScalarStands bytes kind.Int word s = s ≡ tree.Int (cast_signed w32 word)
-ScalarStands bytes kind.Dword64 word s = (n : ℕ) × NumberStands bytes word 8 n × (s ≡ tree.Dword64 n)
-ScalarStands bytes kind.Int64 word s = (n : ℕ) × NumberStands bytes word 8 n × (s ≡ tree.Int64 (cast_signed w64 n))
+ScalarStands bytes kind.Dword64 word s = (n : ℕ) × NumberStands bytes word 8 n
+    × (s ≡ tree.Dword64 n)
+ScalarStands bytes kind.Int64 word s = (n : ℕ) × NumberStands bytes word 8 n
+    × (s ≡ tree.Int64 (cast_signed w64 n))
 ScalarStands bytes kind.Float word s = s ≡ tree.Float (to_le_bytes w32 word)
-ScalarStands bytes kind.Double word s = (bits : List ℕ) × (data_at bytes word 8 ≡ Ok bits) × (s ≡ tree.Double bits)
-ScalarStands bytes kind.Str word s = (count : ℕ) × (text : List ℕ) × CountedStands bytes word 4 count text × (s ≡ tree.Str text)
-ScalarStands bytes kind.Res word s = (count : ℕ) × (text : List ℕ) × CountedStands bytes word 1 count text × (count ≤ tree.resource_limit) × (s ≡ tree.Res text)
-ScalarStands bytes kind.Loc word s = (count : ℕ) × (body : List ℕ) × (loc : Loc) × CountedStands bytes word 4 count body × LocalizedStands body loc × (s ≡ tree.Localized loc)
-ScalarStands bytes kind.Void word s = (count : ℕ) × (text : List ℕ) × CountedStands bytes word 4 count text × (s ≡ tree.Void text)
+ScalarStands bytes kind.Double word s = (bits : List ℕ) × (data_at bytes word 8 ≡ Ok bits)
+    × (s ≡ tree.Double bits)
+ScalarStands bytes kind.Str word s = (count : ℕ) × (text : List ℕ)
+    × CountedStands bytes word 4 count text × (s ≡ tree.Str text)
+ScalarStands bytes kind.Res word s = (count : ℕ) × (text : List ℕ)
+    × CountedStands bytes word 1 count text × (count ≤ tree.resource_limit) × (s ≡ tree.Res text)
+ScalarStands bytes kind.Loc word s = (count : ℕ) × (body : List ℕ) × (loc : Loc)
+    × CountedStands bytes word 4 count body × LocalizedStands body loc × (s ≡ tree.Localized loc)
+ScalarStands bytes kind.Void word s = (count : ℕ) × (text : List ℕ)
+    × CountedStands bytes word 4 count text × (s ≡ tree.Void text)
 ScalarStands bytes kind.Struct word s = ⊥
 ScalarStands bytes kind.List word s = ⊥
 
@@ -68,7 +78,8 @@ ShapeStands bytes k word (Value (Holds s)) = ScalarStands bytes k word s
 ShapeStands bytes k word (Value (Child node)) = ⊥
 ShapeStands bytes k word (Value (Children nodes)) = ⊥
 ShapeStands bytes k word (One n) = (k ≡ kind.Struct) × (n ≡ word)
-ShapeStands bytes k word (Many ns) = (k ≡ kind.List) × (list_word bytes word ≡ Ok (length ns)) × WordsStand bytes (word + 4) ns
+ShapeStands bytes k word (Many ns) = (k ≡ kind.List) × (list_word bytes word ≡ Ok (length ns))
+    × WordsStand bytes (word + 4) ns
 
 -- a field of the file
 pub record RowStands (bytes : List ℕ) (field : ℕ) (row : PlainRow) : Type 0 where
@@ -84,7 +95,8 @@ pub record RowStands (bytes : List ℕ) (field : ℕ) (row : PlainRow) : Type 0 
 -- the fields that a struct lists, from one of its places on
 abbrev pub RowsStand : List ℕ → StructRow → ℕ → List PlainRow → Type 0
 RowsStand bytes row i [] = Unit {0}
-RowsStand bytes row i (next ∷ rows) = (field : ℕ) × (field_number bytes row i ≡ Ok field) × RowStands bytes field next × RowsStand bytes row (i + 1) rows
+RowsStand bytes row i (next ∷ rows) = (field : ℕ) × (field_number bytes row i ≡ Ok field)
+    × RowStands bytes field next × RowsStand bytes row (i + 1) rows
 
 -- what it means that the struct of a number stands for a node, and uses these structs of the file
 abbrev pub Meaning : Type 1
@@ -95,7 +107,8 @@ NodesStand stands [] NoNode uses = uses ≡ []
 NodesStand stands [] (MoreNodes node nodes) uses = ⊥
 NodesStand stands (n ∷ ns) NoNode uses = ⊥
 NodesStand stands (n ∷ ns) (MoreNodes node nodes) uses =
-    (first : List ℕ) × (rest : List ℕ) × stands n node first × NodesStand stands ns nodes rest × (uses ≡ first ++ rest)
+    (first : List ℕ) × (rest : List ℕ) × stands n node first × NodesStand stands ns nodes rest
+    × (uses ≡ first ++ rest)
 
 abbrev pub LeafStands : Meaning → PlainShape → PlainLeaf → List ℕ → Type 0
 LeafStands stands (Value value) holds uses = (holds ≡ value) × (uses ≡ [])
@@ -111,10 +124,13 @@ FieldsStand stands [] NoField uses = uses ≡ []
 FieldsStand stands [] (MoreFields label holds fields) uses = ⊥
 FieldsStand stands (row ∷ rows) NoField uses = ⊥
 FieldsStand stands (row ∷ rows) (MoreFields label holds fields) uses =
-    (first : List ℕ) × (rest : List ℕ) × (row.label ≡ label) × LeafStands stands row.shape holds first × FieldsStand stands rows fields rest × (uses ≡ first ++ rest)
+    (first : List ℕ) × (rest : List ℕ) × (row.label ≡ label)
+    × LeafStands stands row.shape holds first × FieldsStand stands rows fields rest
+    × (uses ≡ first ++ rest)
 
 -- a struct of the file: its type, its fields in order with distinct labels, and what they hold
-pub record StructStands (stands : Meaning) (bytes : List ℕ) (n kind : ℕ) (fields : PlainFields) (uses : List ℕ) : Type 0 where
+pub record StructStands (stands : Meaning) (bytes : List ℕ) (n kind : ℕ) (fields : PlainFields)
+    (uses : List ℕ) : Type 0 where
   pub entry : StructRow
   pub rows : List PlainRow
   pub below : List ℕ
@@ -129,7 +145,8 @@ pub record StructStands (stands : Meaning) (bytes : List ℕ) (n kind : ℕ) (fi
 -- the struct of a number stands for a node, within so many levels
 abbrev pub NodeStands : ℕ → List ℕ → Meaning
 NodeStands zero bytes n node uses = ⊥
-NodeStands (suc depth) bytes n (Struct kind fields) uses = StructStands (NodeStands depth bytes) bytes n kind fields uses
+NodeStands (suc depth) bytes n (Struct kind fields) uses = StructStands
+    (NodeStands depth bytes) bytes n kind fields uses
 
 -- the bytes are a GFF file, and its struct 0 stands for the top, within the levels that a tree may
 -- have; no struct is used twice
@@ -142,4 +159,5 @@ pub record Stands (bytes : List ℕ) (gff : PlainGff) : Type 0 where
 
 -- bytes stand for one tree at most
 abbrev pub OneTree : Type 0
-OneTree = (bytes : List ℕ) (first second : PlainGff) → Stands bytes first → Stands bytes second → first ≡ second
+OneTree = (bytes : List ℕ) (first second : PlainGff) → Stands bytes first → Stands bytes second
+    → first ≡ second

@@ -16,4 +16,5 @@ HasLabels used rows = (label : Bor (List ℕ)) → has_text used label ≡ has_l
 
 -- the set has one label more
 abbrev pub AddsLabel : BTreeSet (Bor (List ℕ)) → List ℕ → BTreeSet (Bor (List ℕ)) → Type 0
-AddsLabel before text after = (label : Bor (List ℕ)) → has_text after label ≡ (bytes_eq label.now text || has_text before label)
+AddsLabel before text after = (label : Bor (List ℕ))
+    → has_text after label ≡ (bytes_eq label.now text || has_text before label)

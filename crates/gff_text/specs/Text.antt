@@ -36,7 +36,8 @@ scalar_text (Float bits) = codes "float " ++ number_digits bits
 scalar_text (Double bits) = codes "double " ++ number_digits bits
 scalar_text (Str text) = codes "string " ++ quoted text
 scalar_text (Res name) = codes "resref " ++ quoted name
-scalar_text (Localized loc) = codes "locstring " ++ decimal loc.str_ref ++ 32 ∷ decimal (length loc.parts)
+scalar_text (Localized loc) = codes "locstring " ++ decimal loc.str_ref
+    ++ 32 ∷ decimal (length loc.parts)
 scalar_text (Void bytes) = codes "void " ++ digits bytes
 
 -- a struct has no value, and a list the number of its structs
@@ -56,13 +57,15 @@ scalar_lines depth _ = []
 abbrev mutual
   -- a struct: its type, and its fields two spaces deeper
   pub struct_lines : ℕ → PlainNode → List ℕ
-  struct_lines depth (Struct kind fields) = line depth (codes "struct " ++ decimal kind) ++ field_lines (depth + 2) fields
+  struct_lines depth (Struct kind fields) = line depth (codes "struct " ++ decimal kind)
+      ++ field_lines (depth + 2) fields
 
   -- a field, what stands in it two spaces deeper, and the other fields
   pub field_lines : ℕ → PlainFields → List ℕ
   field_lines depth NoField = []
   field_lines depth (MoreFields label leaf rest) =
-      line depth (escaped label ++ 32 ∷ leaf_text leaf) ++ (lines_below (depth + 2) leaf ++ field_lines depth rest)
+      line depth (escaped label ++ 32 ∷ leaf_text leaf)
+      ++ (lines_below (depth + 2) leaf ++ field_lines depth rest)
 
   pub lines_below : ℕ → PlainLeaf → List ℕ
   lines_below depth (Holds scalar) = scalar_lines depth scalar

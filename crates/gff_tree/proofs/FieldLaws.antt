@@ -60,7 +60,8 @@ replaced_labels label leaf [] = refl
 replaced_labels label leaf (field ∷ fields) =
     label_kept (bytes_eq label field.label) leaf field fields (replaced label leaf fields) (replaced_labels label leaf fields)
 
-one_sound : (depth : ℕ) (b : Bool) (leaf : PlainLeaf) (field : PlainField) (fields rest : List PlainField) → is_sound_leaf depth field.leaf ≡ true → are_sound_fields depth (fields_from fields) ≡ true →
+one_sound : (depth : ℕ) (b : Bool) (leaf : PlainLeaf) (field : PlainField) (fields rest : List PlainField)
+    → is_sound_leaf depth field.leaf ≡ true → are_sound_fields depth (fields_from fields) ≡ true →
     is_sound_leaf depth leaf ≡ true → are_sound_fields depth (fields_from rest) ≡ true → are_sound_fields depth (fields_from (cond b (record field { leaf = leaf } ∷ fields) (field ∷ rest))) ≡ true
 one_sound depth true leaf field fields rest here others new done = and_true _ _ new others
 one_sound depth false leaf field fields rest here others new done = and_true _ _ here done
@@ -118,12 +119,16 @@ appended_is_sound depth kind label leaf fields sound new none =
     let differ = more_differ [] (labels_of (fields_from fields)) label parts.0 refl (new_label label fields none) in
     and_true _ _ (ap (are_distinct bytes_eq) (appended_labels label leaf fields) ∙ differ) (fields_appended depth label leaf fields parts.1 new)
 
-here_or_later : (depth : ℕ) (b : Bool) (first leaf : PlainLeaf) (rest : Option PlainLeaf) → cond b (Some first) rest ≡ Some leaf → is_sound_leaf depth first ≡ true → (rest ≡ Some leaf → is_sound_leaf depth leaf ≡ true) →
+here_or_later : (depth : ℕ) (b : Bool) (first leaf : PlainLeaf) (rest : Option PlainLeaf)
+    → cond b (Some first) rest ≡ Some leaf → is_sound_leaf depth first ≡ true
+    → (rest ≡ Some leaf → is_sound_leaf depth leaf ≡ true) →
     is_sound_leaf depth leaf ≡ true
 here_or_later depth true first leaf rest e sound later = ap (is_sound_leaf depth) (sym (some_is first leaf e)) ∙ sound
 here_or_later depth false first leaf rest e sound later = later e
 
-found_among : (depth : ℕ) (label : List ℕ) (leaf : PlainLeaf) (fields : List PlainField) → are_sound_fields depth (fields_from fields) ≡ true → found label fields ≡ Some leaf → is_sound_leaf depth leaf ≡ true
+found_among : (depth : ℕ) (label : List ℕ) (leaf : PlainLeaf) (fields : List PlainField)
+    → are_sound_fields depth (fields_from fields) ≡ true → found label fields ≡ Some leaf
+    → is_sound_leaf depth leaf ≡ true
 found_among depth label leaf [] sound e = absurd cc
 found_among depth label leaf (field ∷ fields) sound e =
     let parts = both (is_sound_leaf depth field.leaf) (are_sound_fields depth (fields_from fields)) sound in

@@ -44,7 +44,8 @@ fields_out node fields are =
 pub node_out : (node : Node) (fields : List Field) → fields ≡ (out-Node node).fields.items → plain_node node ≡ node_from (kind_of (plain_node node)) (map plain_field fields)
 node_out node fields are =
     let kind : (out-Node node).kind ≡ kind_of (plain_node node) = sym (ap kind_of (plain_node_out node)) in
-    plain_node_out node ∙ (ap (λ (k : ℕ). node_from k (map plain_field (out-Node node).fields.items)) kind ∙ ap (λ (fs : List Field). node_from (kind_of (plain_node node)) (map plain_field fs)) (sym are))
+    plain_node_out node ∙ (ap (λ (k : ℕ). node_from k (map plain_field (out-Node node).fields.items)) kind
+    ∙ ap (λ (fs : List Field). node_from (kind_of (plain_node node)) (map plain_field fs)) (sym are))
 
 pub nodes_of_list : (leaf : Leaf) (nodes : Vec Node Global) (items : List Node) → leaf ≡ views.List nodes → items ≡ nodes.items → list_in (plain_leaf leaf) ≡ Some (map plain_node items)
 nodes_of_list leaf nodes items is are =
@@ -101,7 +102,8 @@ pub place_none : (label : List ℕ) (leaf : PlainLeaf) (fields : List PlainField
 place_none label leaf [] e = (refl, refl)
 place_none label leaf (field ∷ fields) e = by_test (bytes_eq label field.label) e (place_none label leaf fields)
   where
-    by_test : (b : Bool) → cond b (Some 0) (option_map suc (place_of_field label fields)) ≡ None → (place_of_field label fields ≡ None → (found label fields ≡ None) × (fields ≡ replaced label leaf fields)) →
+    by_test : (b : Bool) → cond b (Some 0) (option_map suc (place_of_field label fields)) ≡ None
+        → (place_of_field label fields ≡ None → (found label fields ≡ None) × (fields ≡ replaced label leaf fields)) →
         (cond b (Some field.leaf) (found label fields) ≡ None) × (field ∷ fields ≡ cond b (record field { leaf = leaf } ∷ fields) (field ∷ replaced label leaf fields))
     by_test true h more = absurd cc
     by_test false h more = let rest = more (absent_later (place_of_field label fields) h) in (rest.0, ap (λ (fs : List PlainField). field ∷ fs) rest.1)
@@ -117,17 +119,23 @@ place_some label leaf [] i d e = absurd cc
 place_some label leaf (field ∷ fields) i d e = by_test (bytes_eq label field.label) e (λ j. place_some label leaf fields j d)
   where
     by_test : (b : Bool) → cond b (Some 0) (option_map suc (place_of_field label fields)) ≡ Some i →
-        ((j : ℕ) → place_of_field label fields ≡ Some j → (j < length fields) × (found label fields ≡ Some (get_or fields j d).leaf) × (set fields j (record { label = (get_or fields j d).label; leaf = leaf }) ≡ replaced label leaf fields)) →
+        ((j : ℕ) → place_of_field label fields ≡ Some j
+        → (j < length fields) × (found label fields ≡ Some (get_or fields j d).leaf)
+        × (set fields j (record { label = (get_or fields j d).label; leaf = leaf }) ≡ replaced label leaf fields)) →
         (i < suc (length fields)) × (cond b (Some field.leaf) (found label fields) ≡ Some (get_or (field ∷ fields) i d).leaf)
         × (set (field ∷ fields) i (record { label = (get_or (field ∷ fields) i d).label; leaf = leaf }) ≡ cond b (record field { leaf = leaf } ∷ fields) (field ∷ replaced label leaf fields))
     by_test true h more =
         let zero_is : 0 ≡ i = cc in
-        subst (λ (k : ℕ). (k < suc (length fields)) × (Some field.leaf ≡ Some (get_or (field ∷ fields) k d).leaf) × (set (field ∷ fields) k (record { label = (get_or (field ∷ fields) k d).label; leaf = leaf }) ≡ record field { leaf = leaf } ∷ fields)) zero_is
+        subst (λ (k : ℕ). (k < suc (length fields)) × (Some field.leaf ≡ Some (get_or (field ∷ fields) k d).leaf)
+        × (set (field ∷ fields) k (record { label = (get_or (field ∷ fields) k d).label; leaf = leaf })
+        ≡ record field { leaf = leaf } ∷ fields)) zero_is
         (omega arith, refl, refl)
     by_test false h more =
         let later = later_is i (place_of_field label fields) h in
         let rest = more later.0 later.1 in
-        subst (λ (k : ℕ). (k < suc (length fields)) × (found label fields ≡ Some (get_or (field ∷ fields) k d).leaf) × (set (field ∷ fields) k (record { label = (get_or (field ∷ fields) k d).label; leaf = leaf }) ≡ field ∷ replaced label leaf fields)) (sym later.2)
+        subst (λ (k : ℕ). (k < suc (length fields)) × (found label fields ≡ Some (get_or (field ∷ fields) k d).leaf)
+        × (set (field ∷ fields) k (record { label = (get_or (field ∷ fields) k d).label; leaf = leaf })
+        ≡ field ∷ replaced label leaf fields)) (sym later.2)
         (omega (arith, rest.0), rest.1, ap (λ (fs : List PlainField). field ∷ fs) rest.2)
 
 pub replace_some : (label : List ℕ) (leaf : PlainLeaf) (items : List Field) (i : ℕ) (held : Field) → place_of_field label (map plain_field items) ≡ Some i → held ≡ get_or items i held →

@@ -28,7 +28,8 @@ abbrev mutual
 
   pub fields_steps : PlainFields → List Step → List Step
   fields_steps NoField more = MakesNoField ∷ more
-  fields_steps (MoreFields label holds rest) more = leaf_steps holds (fields_steps rest (MakesField label ∷ more))
+  fields_steps (MoreFields label holds rest) more = leaf_steps holds
+      (fields_steps rest (MakesField label ∷ more))
 
   pub leaf_steps : PlainLeaf → List Step → List Step
   leaf_steps (Holds scalar) more = MakesScalar scalar ∷ more
@@ -74,21 +75,25 @@ all_made [] p = p
 all_made (s ∷ ss) p = all_made ss (made s p)
 
 mutual
-  pub node_back : (x : PlainNode) (more : List Step) (p : Parts) → all_made (node_steps x more) p ≡ all_made more (record p { nodes = x ∷ p.nodes })
+  pub node_back : (x : PlainNode) (more : List Step) (p : Parts)
+      → all_made (node_steps x more) p ≡ all_made more (record p { nodes = x ∷ p.nodes })
   node_back (Struct kind fields) more p = fields_back fields (MakesStruct kind ∷ more) p
 
-  fields_back : (x : PlainFields) (more : List Step) (p : Parts) → all_made (fields_steps x more) p ≡ all_made more (record p { fields = x ∷ p.fields })
+  fields_back : (x : PlainFields) (more : List Step) (p : Parts)
+      → all_made (fields_steps x more) p ≡ all_made more (record p { fields = x ∷ p.fields })
   fields_back NoField more p = refl
   fields_back (MoreFields label holds rest) more p =
       leaf_back holds (fields_steps rest (MakesField label ∷ more)) p
       ∙ fields_back rest (MakesField label ∷ more) (record p { leaves = holds ∷ p.leaves })
 
-  leaf_back : (x : PlainLeaf) (more : List Step) (p : Parts) → all_made (leaf_steps x more) p ≡ all_made more (record p { leaves = x ∷ p.leaves })
+  leaf_back : (x : PlainLeaf) (more : List Step) (p : Parts)
+      → all_made (leaf_steps x more) p ≡ all_made more (record p { leaves = x ∷ p.leaves })
   leaf_back (Holds scalar) more p = refl
   leaf_back (Child node) more p = node_back node (MakesChild ∷ more) p
   leaf_back (Children nodes) more p = nodes_back nodes (MakesChildren ∷ more) p
 
-  nodes_back : (x : PlainNodes) (more : List Step) (p : Parts) → all_made (nodes_steps x more) p ≡ all_made more (record p { lists = x ∷ p.lists })
+  nodes_back : (x : PlainNodes) (more : List Step) (p : Parts)
+      → all_made (nodes_steps x more) p ≡ all_made more (record p { lists = x ∷ p.lists })
   nodes_back NoNode more p = refl
   nodes_back (MoreNodes node rest) more p =
       node_back node (nodes_steps rest (MakesNode ∷ more)) p
@@ -105,5 +110,6 @@ pub steps_code : Coded (List Step)
 steps_code = Prim.hlevel codes
 
 abbrev pub node_code : Coded PlainNode
-node_code = code_by (List Step) steps_code (λ x. node_steps x []) (λ ss. first_or_none (all_made ss none).nodes)
+node_code = code_by (List Step) steps_code (λ x. node_steps x [])
+    (λ ss. first_or_none (all_made ss none).nodes)
     (λ x. ap (λ p. first_or_none p.nodes) (node_back x [] none))

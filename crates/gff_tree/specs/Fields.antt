@@ -49,27 +49,32 @@ ReplacedIsSound = (depth kind : ℕ) (label : List ℕ) (leaf : PlainLeaf) (fiel
 
 abbrev pub AppendedIsSound : Type 0
 AppendedIsSound = (depth kind : ℕ) (label : List ℕ) (leaf : PlainLeaf) (fields : List PlainField)
-    → is_sound_node (suc depth) (node_from kind fields) ≡ true → is_sound_leaf depth leaf ≡ true → found label fields ≡ None
+    → is_sound_node (suc depth) (node_from kind fields) ≡ true → is_sound_leaf depth leaf ≡ true
+    → found label fields ≡ None
     → is_sound_node (suc depth) (node_from kind (appended label leaf fields)) ≡ true
 
 -- what a sound struct's field holds is sound one level below
 abbrev pub FoundIsSound : Type 0
 FoundIsSound = (depth kind : ℕ) (label : List ℕ) (leaf : PlainLeaf) (fields : List PlainField)
-    → is_sound_node (suc depth) (node_from kind fields) ≡ true → found label fields ≡ Some leaf → is_sound_leaf depth leaf ≡ true
+    → is_sound_node (suc depth) (node_from kind fields) ≡ true → found label fields ≡ Some leaf
+    → is_sound_leaf depth leaf ≡ true
 
 -- a list is sound where each of its structs is
 abbrev pub ListIsSound : Type 0
-ListIsSound = (depth : ℕ) (nodes : List PlainNode) → is_sound_leaf depth (list_from nodes) ≡ list_all (is_sound_node depth) nodes
+ListIsSound = (depth : ℕ) (nodes : List PlainNode)
+    → is_sound_leaf depth (list_from nodes) ≡ list_all (is_sound_node depth) nodes
 
 -- a struct is that of its fields, and a list that of its structs
 abbrev pub NodeIsItsFields : Type 0
 NodeIsItsFields = (node : PlainNode) → node_from (kind_of node) (fields_of node) ≡ node
 
 abbrev pub FieldsAreTheNodes : Type 0
-FieldsAreTheNodes = (kind : ℕ) (fields : List PlainField) → fields_of (node_from kind fields) ≡ fields
+FieldsAreTheNodes = (kind : ℕ) (fields : List PlainField)
+    → fields_of (node_from kind fields) ≡ fields
 
 abbrev pub ListIsItsNodes : Type 0
-ListIsItsNodes = (leaf : PlainLeaf) (nodes : List PlainNode) → list_in leaf ≡ Some nodes → list_from nodes ≡ leaf
+ListIsItsNodes = (leaf : PlainLeaf) (nodes : List PlainNode) → list_in leaf ≡ Some nodes
+    → list_from nodes ≡ leaf
 
 abbrev pub NodesAreTheLists : Type 0
 NodesAreTheLists = (nodes : List PlainNode) → list_in (list_from nodes) ≡ Some nodes

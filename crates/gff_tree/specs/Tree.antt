@@ -60,7 +60,8 @@ abbrev mutual
 
   pub plain_fields : {m : _} → Row_of-Field m → PlainFields
   plain_fields end_of-Field = NoField
-  plain_fields (more_of-Field label holds rest) = MoreFields label (plain_leaf holds) (plain_fields rest)
+  plain_fields (more_of-Field label holds rest) = MoreFields label (plain_leaf holds)
+      (plain_fields rest)
 
   pub plain_leaf : Leaf → PlainLeaf
   plain_leaf (leaf.Byte n) = Holds (Byte n)
@@ -126,7 +127,8 @@ nodes_list nodes = nodes_from (map plain_node nodes)
 -- does each item differ from those before it and from these first ones, by this test?
 abbrev pub differ_after : {X : Type 0} → (X → X → Bool) → List X → List X → Bool
 differ_after same first [] = true
-differ_after same first (x ∷ xs) = not (list_any (same x) first) && differ_after same (first ++ x ∷ []) xs
+differ_after same first (x ∷ xs) = not (list_any (same x) first)
+    && differ_after same (first ++ x ∷ []) xs
 
 abbrev pub are_distinct : {X : Type 0} → (X → X → Bool) → List X → Bool
 are_distinct same xs = differ_after same [] xs
@@ -145,11 +147,13 @@ is_sound_scalar _ = true
 abbrev mutual
   pub is_sound_node : ℕ → PlainNode → Bool
   is_sound_node zero (Struct kind fields) = false
-  is_sound_node (suc depth) (Struct kind fields) = are_distinct bytes_eq (labels_of fields) && are_sound_fields depth fields
+  is_sound_node (suc depth) (Struct kind fields) = are_distinct bytes_eq (labels_of fields)
+      && are_sound_fields depth fields
 
   pub are_sound_fields : ℕ → PlainFields → Bool
   are_sound_fields depth NoField = true
-  are_sound_fields depth (MoreFields label holds rest) = is_sound_leaf depth holds && are_sound_fields depth rest
+  are_sound_fields depth (MoreFields label holds rest) = is_sound_leaf depth holds
+      && are_sound_fields depth rest
 
   pub is_sound_leaf : ℕ → PlainLeaf → Bool
   is_sound_leaf depth (Holds scalar) = is_sound_scalar scalar
@@ -158,7 +162,8 @@ abbrev mutual
 
   pub are_sound_nodes : ℕ → PlainNodes → Bool
   are_sound_nodes depth NoNode = true
-  are_sound_nodes depth (MoreNodes node rest) = is_sound_node depth node && are_sound_nodes depth rest
+  are_sound_nodes depth (MoreNodes node rest) = is_sound_node depth node
+      && are_sound_nodes depth rest
 
 -- the top has depth 1, and a struct the limit at most
 unfoldable pub is_sound : PlainNode → Bool

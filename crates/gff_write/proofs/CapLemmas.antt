@@ -74,7 +74,8 @@ pub parts_turn : (total mid now whole i : ℕ) (items : List LocPart) (item : Lo
 unfolding capped
 parts_turn total mid now whole i items item lt is before first third =
     let next : drop i items ≡ item ∷ drop (i + 1) items = rw (add-one, drop-cons items i item) (ap (λ (p : LocPart). p ∷ drop (suc i) items) (sym is)) in
-    let at : capped (total + length (part_bytes item ++ flat_map part_bytes (drop (i + 1) items))) ≡ whole = subst (λ (ps : List LocPart). capped (total + length (flat_map part_bytes ps)) ≡ whole) next before in
+    let at : capped (total + length (part_bytes item ++ flat_map part_bytes (drop (i + 1) items)))
+    ≡ whole = subst (λ (ps : List LocPart). capped (total + length (flat_map part_bytes ps)) ≡ whole) next before in
     omega (arith, at, first, third, part_length item, length-append (part_bytes item) (flat_map part_bytes (drop (i + 1) items)))
 
 labels_turn : (total now whole i : ℕ) (items : List (List ℕ)) (item : List ℕ) → i < length items → item ≡ get_or items i item

@@ -28,7 +28,9 @@ mutual
       omega (arith, length-append (rows_of n node) (list_rows (n + node_count node) rest), rows_length n node, list_length (n + node_count node) rest)
 
 pub below_step : (rows now : List FlatStruct) (items : List Field) (i : ℕ) (item : Field) (whole : List FlatStruct) → i < length items → item ≡ get_or items i item →
-    rows ++ rows_below (length rows) (fields_list (drop i items)) ≡ whole → now ≡ rows ++ leaf_rows (length rows) (plain_leaf item.leaf) → now ++ rows_below (length now) (fields_list (drop (i + 1) items)) ≡ whole
+    rows ++ rows_below (length rows) (fields_list (drop i items)) ≡ whole
+    → now ≡ rows ++ leaf_rows (length rows) (plain_leaf item.leaf)
+    → now ++ rows_below (length now) (fields_list (drop (i + 1) items)) ≡ whole
 below_step rows now items i item whole lt is before grown =
     let next : drop i items ≡ item ∷ drop (i + 1) items = rw (add-one, drop-cons items i item) (ap (λ (f : Field). f ∷ drop (suc i) items) (sym is)) in
     let at : rows ++ (leaf_rows (length rows) (plain_leaf item.leaf) ++ rows_below (length rows + leaf_count (plain_leaf item.leaf)) (fields_list (drop (i + 1) items))) ≡ whole =
@@ -40,7 +42,9 @@ below_step rows now items i item whole lt is before grown =
     ∙ (ap (λ (rs : List FlatStruct). rs ++ rest) grown ∙ (append_assoc rows (leaf_rows (length rows) (plain_leaf item.leaf)) rest ∙ at))
 
 pub list_step : (rows now : List FlatStruct) (items : List Node) (i : ℕ) (item : Node) (whole : List FlatStruct) → i < length items → item ≡ get_or items i item →
-    rows ++ list_rows (length rows) (nodes_list (drop i items)) ≡ whole → now ≡ rows ++ rows_of (length rows) (plain_node item) → now ++ list_rows (length now) (nodes_list (drop (i + 1) items)) ≡ whole
+    rows ++ list_rows (length rows) (nodes_list (drop i items)) ≡ whole
+    → now ≡ rows ++ rows_of (length rows) (plain_node item)
+    → now ++ list_rows (length now) (nodes_list (drop (i + 1) items)) ≡ whole
 list_step rows now items i item whole lt is before grown =
     let next : drop i items ≡ item ∷ drop (i + 1) items = rw (add-one, drop-cons items i item) (ap (λ (f : Node). f ∷ drop (suc i) items) (sym is)) in
     let at : rows ++ (rows_of (length rows) (plain_node item) ++ list_rows (length rows + node_count (plain_node item)) (nodes_list (drop (i + 1) items))) ≡ whole =
@@ -58,11 +62,14 @@ node_done old pushed rows node kind entries items walked grown read made =
     let row : FlatStruct = record { kind = kind; fields = entries } in
     let long : length pushed ≡ length old + 1 = ap length grown ∙ length-append old (row ∷ []) in
     let below = rows_below (length old + 1) (fields_list items) in
-    let all : rows ≡ old ++ (row ∷ below) = walked ∙ (ap (λ (k : ℕ). pushed ++ rows_below k (fields_list items)) long ∙ (ap (λ (rs : List FlatStruct). rs ++ below) grown ∙ append_assoc old (row ∷ []) below)) in
+    let all : rows ≡ old ++ (row ∷ below) = walked
+    ∙ (ap (λ (k : ℕ). pushed ++ rows_below k (fields_list items)) long
+    ∙ (ap (λ (rs : List FlatStruct). rs ++ below) grown ∙ append_assoc old (row ∷ []) below)) in
     all ∙ (ap (λ (es : List Entry). old ++ (record { kind = kind; fields = es } ∷ below)) read ∙ ap (λ (x : PlainNode). old ++ rows_of (length old) x) (sym made))
 
 -- one more field index is put
-pub indices_step : (before now : List ℕ) (first next k j : ℕ) (whole : List ℕ) → before ++ words_up first k ≡ whole → k ≡ suc j → now ≡ before ++ word first → next ≡ first + 1 → now ++ words_up next j ≡ whole
+pub indices_step : (before now : List ℕ) (first next k j : ℕ) (whole : List ℕ) → before ++ words_up first k ≡ whole
+    → k ≡ suc j → now ≡ before ++ word first → next ≡ first + 1 → now ++ words_up next j ≡ whole
 indices_step before now first next k j whole so more grown up =
     let at : before ++ (word first ++ words_up (first + 1) j) ≡ whole = subst (λ (i : ℕ). before ++ words_up first i ≡ whole) more so in
     ap (λ (n : ℕ). now ++ words_up n j) up ∙ (ap (λ (bs : List ℕ). bs ++ words_up (first + 1) j) grown ∙ (append_assoc before (word first) (words_up (first + 1) j) ∙ at))

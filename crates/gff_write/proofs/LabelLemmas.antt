@@ -105,7 +105,9 @@ module _ (rows : List (ℕ × List ℕ)) (numbers : List (List ℕ × ℕ)) (lab
   pub values_grow : (grown : List (ℕ × List ℕ)) (n : ℕ) → n ≡ length rows → grown ≡ insert_entry ◌==◌ rows n label → values_of grown ≡ values_of rows ++ label ∷ []
   values_grow grown n len is = ap values_of (is ∙ put_new label rows n (subst (λ (m : ℕ). AllByRecursion (λ (k : ℕ). k < m) (keys_of rows)) (sym len) table.below)) ∙ values_last label rows n
 
-  pub table_grows : (grown : List (ℕ × List ℕ)) (new : List (List ℕ × ℕ)) (n : ℕ) → n ≡ length rows → grown ≡ insert_entry ◌==◌ rows n label → number_under label numbers ≡ None → Puts label (Some n) numbers new → IsTable grown new
+  pub table_grows : (grown : List (ℕ × List ℕ)) (new : List (List ℕ × ℕ)) (n : ℕ) → n ≡ length rows
+      → grown ≡ insert_entry ◌==◌ rows n label → number_under label numbers ≡ None → Puts label (Some n) numbers new
+      → IsTable grown new
   table_grows grown new n len is lacks put = record {
     below =
         let last = is ∙ put_new label rows n (subst (λ (m : ℕ). AllByRecursion (λ (k : ℕ). k < m) (keys_of rows)) (sym len) table.below) in

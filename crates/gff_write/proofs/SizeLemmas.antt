@@ -33,7 +33,9 @@ entry_length table d l entry =
       word_length (third_of d l entry.content),
     )
 
-entries_length : (table : List (List ℕ)) (d l : ℕ) (entries : List Entry) → length (entries_bytes table d l entries) + length (entries_data entries) + length (entries_lists entries) ≡ entries_total entries
+entries_length : (table : List (List ℕ)) (d l : ℕ) (entries : List Entry)
+    → length (entries_bytes table d l entries) + length (entries_data entries) + length (entries_lists entries)
+    ≡ entries_total entries
 entries_length table d l [] = refl
 entries_length table d l (entry ∷ entries) =
     omega (

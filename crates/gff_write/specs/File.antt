@@ -20,7 +20,8 @@ label_index (first ∷ labels) label = if bytes_eq first label then 0 else 1 + l
 
 -- these labels, with a label behind them if it is new
 abbrev pub with_label : List (List ℕ) → List ℕ → List (List ℕ)
-with_label table label = if nat_lt (label_index table label) (length table) then table else table ++ label ∷ []
+with_label table label = if nat_lt (label_index table label) (length table) then table else table
+    ++ label ∷ []
 
 -- the labels of fields once each, in the order of their first use
 abbrev pub entry_labels : List (List ℕ) → List Entry → List (List ℕ)
@@ -52,7 +53,8 @@ third_of datum list (Number n) = n
 third_of datum list (Numbers ns) = list
 
 abbrev pub entry_bytes : List (List ℕ) → ℕ → ℕ → Entry → List ℕ
-entry_bytes table datum list entry = word entry.kind ++ word (label_index table entry.label) ++ word (third_of datum list entry.content)
+entry_bytes table datum list entry = word entry.kind ++ word (label_index table entry.label)
+    ++ word (third_of datum list entry.content)
 
 abbrev pub entries_data : List Entry → List ℕ
 entries_data [] = []
@@ -65,7 +67,9 @@ entries_lists (entry ∷ entries) = list_of entry.content ++ entries_lists entri
 abbrev pub entries_bytes : List (List ℕ) → ℕ → ℕ → List Entry → List ℕ
 entries_bytes table datum list [] = []
 entries_bytes table datum list (entry ∷ entries) =
-    entry_bytes table datum list entry ++ entries_bytes table (datum + length (data_of entry.content)) (list + length (list_of entry.content)) entries
+    entry_bytes table datum list entry
+    ++ entries_bytes table (datum + length (data_of entry.content))
+    (list + length (list_of entry.content)) entries
 
 -- the field data, list indices and fields of structs
 abbrev pub rows_data : List FlatStruct → List ℕ
@@ -79,7 +83,9 @@ rows_lists (row ∷ rows) = entries_lists row.fields ++ rows_lists rows
 abbrev pub rows_fields : List (List ℕ) → ℕ → ℕ → List FlatStruct → List ℕ
 rows_fields table datum list [] = []
 rows_fields table datum list (row ∷ rows) =
-    entries_bytes table datum list row.fields ++ rows_fields table (datum + length (entries_data row.fields)) (list + length (entries_lists row.fields)) rows
+    entries_bytes table datum list row.fields
+    ++ rows_fields table (datum + length (entries_data row.fields))
+    (list + length (entries_lists row.fields)) rows
 
 -- the numbers of so many fields in a row
 abbrev pub words_up : ℕ → ℕ → List ℕ
@@ -92,19 +98,24 @@ indices_of first count = if nat_lt count 2 then [] else words_up first count
 
 -- the second number of a struct behind so many field indices
 abbrev pub second_of : ℕ → ℕ → ℕ → ℕ
-second_of first index count = if count == 0 then 4294967295 else (if count == 1 then first else index)
+second_of first index count = if count == 0 then 4294967295 else
+    (if count == 1 then first else index)
 
 abbrev pub row_bytes : ℕ → ℕ → FlatStruct → List ℕ
-row_bytes first index row = word row.kind ++ word (second_of first index (length row.fields)) ++ word (length row.fields)
+row_bytes first index row = word row.kind ++ word (second_of first index (length row.fields))
+    ++ word (length row.fields)
 
 abbrev pub rows_indices : ℕ → List FlatStruct → List ℕ
 rows_indices first [] = []
-rows_indices first (row ∷ rows) = indices_of first (length row.fields) ++ rows_indices (first + length row.fields) rows
+rows_indices first (row ∷ rows) = indices_of first (length row.fields)
+    ++ rows_indices (first + length row.fields) rows
 
 abbrev pub rows_structs : ℕ → ℕ → List FlatStruct → List ℕ
 rows_structs first index [] = []
 rows_structs first index (row ∷ rows) =
-    row_bytes first index row ++ rows_structs (first + length row.fields) (index + length (indices_of first (length row.fields))) rows
+    row_bytes first index row
+    ++ rows_structs (first + length row.fields)
+    (index + length (indices_of first (length row.fields))) rows
 
 abbrev pub joined : List (List ℕ) → List ℕ
 joined [] = []
@@ -141,8 +152,10 @@ header_of file_type s structs fields labels =
     let data_place = label_place + length s.labels in
     let index_place = data_place + length s.data_bytes in
     let list_place = index_place + length s.indices in
-    file_type ++ codes "V3.2" ++ section_words 56 structs ++ section_words field_place fields ++ section_words label_place labels
-    ++ section_words data_place (length s.data_bytes) ++ section_words index_place (length s.indices) ++ section_words list_place (length s.lists)
+    file_type ++ codes "V3.2" ++ section_words 56 structs ++ section_words field_place fields
+    ++ section_words label_place labels
+    ++ section_words data_place (length s.data_bytes)
+    ++ section_words index_place (length s.indices) ++ section_words list_place (length s.lists)
 
 abbrev pub body_of : Sections → List ℕ
 body_of s = s.structs ++ s.fields ++ s.labels ++ s.data_bytes ++ s.indices ++ s.lists
@@ -150,7 +163,8 @@ body_of s = s.structs ++ s.fields ++ s.labels ++ s.data_bytes ++ s.indices ++ s.
 -- the one file of a tree
 unfoldable pub written_rows : List ℕ → List FlatStruct → List ℕ
 written_rows file_type rows =
-    header_of file_type (parts_of rows) (length rows) (field_count rows) (length (row_labels [] rows)) ++ body_of (parts_of rows)
+    header_of file_type (parts_of rows) (length rows) (field_count rows)
+    (length (row_labels [] rows)) ++ body_of (parts_of rows)
 
 abbrev pub written : PlainGff → List ℕ
 written gff = written_rows gff.file_type (rows_of 0 gff.top)
@@ -158,10 +172,12 @@ written gff = written_rows gff.file_type (rows_of 0 gff.top)
 -- what writing gives: the file, or that it would be too large, with its size as a number of 64 bits
 -- can tell it
 unfoldable pub outcome_of : List ℕ → Result (List ℕ) WriteFault
-outcome_of bytes = if nat_lt file_limit (length bytes) then Err (fault.Large (min (length bytes) (2 ^ 64 - 1))) else Ok bytes
+outcome_of bytes = if nat_lt file_limit (length bytes) then Err
+    (fault.Large (min (length bytes) (2 ^ 64 - 1))) else Ok bytes
 
 -- what a call returned is what writing gives, unless memory ran out
-abbrev pub Gives : {X : Type 0} → (X → List ℕ) → Result X WriteFault → Result (List ℕ) WriteFault → Type 0
+abbrev pub Gives : {X : Type 0} → (X → List ℕ) → Result X WriteFault → Result (List ℕ) WriteFault
+    → Type 0
 Gives view (Ok x) outcome = outcome ≡ Ok (view x)
 Gives view (Err (fault.Large n)) outcome = outcome ≡ Err (fault.Large n)
 Gives view (Err fault.NoMemory) outcome = Unit {0}

@@ -55,7 +55,8 @@ part_bytes part = word (cast_unsigned w32 part.id) ++ length_prefixed part.text
 
 -- a localized string behind its total size
 abbrev pub localized_bytes : Loc → List ℕ
-localized_bytes loc = length_prefixed (word loc.str_ref ++ word (length loc.parts) ++ flat_map part_bytes loc.parts)
+localized_bytes loc = length_prefixed
+    (word loc.str_ref ++ word (length loc.parts) ++ flat_map part_bytes loc.parts)
 
 abbrev pub scalar_kind : Scalar → ℕ
 scalar_kind (tree.Byte n) = 0
@@ -113,16 +114,24 @@ padded label = label ++ replicate (16 - length label) 0
 abbrev pub entries_from : ℕ → PlainFields → List Entry
 entries_from n NoField = []
 entries_from n (MoreFields label holds rest) =
-    record { label = padded label; kind = leaf_kind holds; content = leaf_content n holds } ∷ entries_from (n + leaf_count holds) rest
+    record {
+      label = padded label;
+      kind = leaf_kind holds;
+      content = leaf_content n holds;
+    } ∷ entries_from (n + leaf_count holds) rest
 
 -- a struct and all below it in preorder, from the struct's number on
 abbrev mutual
   pub rows_of : ℕ → PlainNode → List FlatStruct
-  rows_of n (Struct kind fields) = record { kind = kind; fields = entries_from (n + 1) fields } ∷ rows_below (n + 1) fields
+  rows_of n (Struct kind fields) = record {
+    kind = kind;
+    fields = entries_from (n + 1) fields;
+  } ∷ rows_below (n + 1) fields
 
   pub rows_below : ℕ → PlainFields → List FlatStruct
   rows_below n NoField = []
-  rows_below n (MoreFields label holds rest) = leaf_rows n holds ++ rows_below (n + leaf_count holds) rest
+  rows_below n (MoreFields label holds rest) = leaf_rows n holds
+      ++ rows_below (n + leaf_count holds) rest
 
   pub leaf_rows : ℕ → PlainLeaf → List FlatStruct
   leaf_rows n (Holds scalar) = []

@@ -66,4 +66,5 @@ pub record IsTree (gff : PlainGff) : Type 0 where
 
 -- the file of each tree stands for the tree, where it is no larger than a file may be
 abbrev pub WrittenStands : Type 0
-WrittenStands = (gff : PlainGff) → IsTree gff → length (written gff) ≤ file_limit → Stands (written gff) gff
+WrittenStands = (gff : PlainGff) → IsTree gff → length (written gff) ≤ file_limit
+    → Stands (written gff) gff

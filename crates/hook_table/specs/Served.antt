@@ -38,28 +38,35 @@ pub record AreFirst (n : ℕ) (hooks : List Known) : Type 0 where
 -- the functions are those of the built-in header that have a Pure role, with its names and types
 abbrev pub AreTheHeaders : Type 0
 AreTheHeaders = (n : ℕ) (f : Function) → slice_get standard n ≡ Some f
-    → slice_get header_signatures (28 + n) ≡ Some (record { name = f.name; gives = f.result; takes = f.params; role = Some (Pure n) })
+    → slice_get header_signatures (28 + n)
+    ≡ Some (record { name = f.name; gives = f.result; takes = f.params; role = Some (Pure n) })
 
 -- a hook for a function, whose answers are what the function of a number gives
-pub record Serves (tables : List Named) (n : ℕ) (takes : List Ty) (gives : Ty) (h : Known) : Type 0 where
+pub record Serves (tables : List Named) (n : ℕ) (takes : List Ty) (gives : Ty)
+    (h : Known) : Type 0 where
   pub params : h.params ≡ takes
   pub result : h.result ≡ gives
-  pub answers : (args : List Value) (v : Value) → IsAnswer h.tables h.name h.result args v → pure (cell_of tables) n args ≡ Some v
+  pub answers : (args : List Value) (v : Value) → IsAnswer h.tables h.name h.result args v
+      → pure (cell_of tables) n args ≡ Some v
 
 -- for a routine with the role Pure n there is a hook n that takes its arguments, and answers what
 -- the definition gives
 abbrev pub StandardServe : Type 0
-StandardServe = (hooks : List Known) (tables : List Named) (n : ℕ) (name : List ℕ) (gives : Ty) (takes : List Ty)
+StandardServe = (hooks : List Known) (tables : List Named) (n : ℕ) (name : List ℕ) (gives : Ty)
+    (takes : List Ty)
     → AreStandard hooks tables
-    → slice_get header_signatures (28 + n) ≡ Some (record { name = name; gives = gives; takes = takes; role = Some (Pure n) })
+    → slice_get header_signatures (28 + n)
+    ≡ Some (record { name = name; gives = gives; takes = takes; role = Some (Pure n) })
     → (h : Known) × (slice_get hooks n ≡ Some h) × Serves tables n takes gives h
 
 -- with a hook for the next function there is one more
 abbrev pub FirstGrow : Type 0
-FirstGrow = (n : ℕ) (f : Function) (hooks : List Known) (h : Known) → slice_get standard n ≡ Some f → AreFirst n hooks → StandsFor f h
+FirstGrow = (n : ℕ) (f : Function) (hooks : List Known) (h : Known) → slice_get standard n ≡ Some f
+    → AreFirst n hooks → StandsFor f h
     → AreFirst (n + 1) (hooks ++ h ∷ [])
 
 -- with one for the function that looks cells up, the hooks are standard ones with its tables
 abbrev pub LastCompletes : Type 0
-LastCompletes = (hooks : List Known) (h : Known) → AreFirst cell_function hooks → StandsFor (function_numbered cell_function) h
+LastCompletes = (hooks : List Known) (h : Known) → AreFirst cell_function hooks
+    → StandsFor (function_numbered cell_function) h
     → AreStandard (hooks ++ h ∷ []) h.tables

@@ -22,8 +22,10 @@ ty_parts ty.Refused = (8, 0)
 
 abbrev pub ty_of_parts : ℕ × ℕ → Ty
 ty_of_parts p =
-    if p.0 == 0 then ty.Void else (if p.0 == 1 then ty.Int else (if p.0 == 2 then ty.Text else (if p.0 == 3 then ty.Object
-    else (if p.0 == 4 then ty.Effect else (if p.0 == 5 then ty.Event else (if p.0 == 6 then ty.Action
+    if p.0 == 0 then ty.Void else
+    (if p.0 == 1 then ty.Int else (if p.0 == 2 then ty.Text else (if p.0 == 3 then ty.Object
+    else (if p.0 == 4 then ty.Effect else
+    (if p.0 == 5 then ty.Event else (if p.0 == 6 then ty.Action
     else (if p.0 == 7 then ty.Struct p.1 else ty.Refused)))))))
 
 pub ty_back : (t : Ty) → ty_of_parts (ty_parts t) ≡ t
@@ -68,7 +70,9 @@ value_back (Event n) = refl
 
 abbrev pub value_code : Coded Value
 value_code =
-    code_by ValueParts (coded⊎ coded_ℤ (coded⊎ (coded_list coded_ℕ) (coded⊎ coded_ℕ (coded⊎ (coded× coded_ℕ (coded_list coded_ℤ)) coded_ℤ))))
+    code_by ValueParts (coded⊎ coded_ℤ
+    (coded⊎ (coded_list coded_ℕ)
+    (coded⊎ coded_ℕ (coded⊎ (coded× coded_ℕ (coded_list coded_ℤ)) coded_ℤ))))
     value_parts value_of_parts value_back
 
 -- ---- what equations between them are

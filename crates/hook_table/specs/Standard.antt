@@ -64,6 +64,7 @@ types_of_values args = map type_of args
 
 -- the value is what the function of this name gives for these arguments, and it has the result's
 -- type
-pub record IsAnswer (tables : List Named) (name : List ℕ) (gives : Ty) (args : List Value) (v : Value) : Type 0 where
+pub record IsAnswer (tables : List Named) (name : List ℕ) (gives : Ty) (args : List Value)
+    (v : Value) : Type 0 where
   pub value : pure_named tables name args ≡ Some v
   pub ty : type_of v ≡ gives

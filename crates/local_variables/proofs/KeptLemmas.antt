@@ -101,7 +101,9 @@ same_place test low (e ∷ slots) up = by_test (has test e.1) (stamp_of test slo
         let above = stamp_low test (e.0 + 1) slots s up.1 is in
         rw (not_eq e.0 s (λ same. omega (arith, above, same))) (ap (option_map (λ (i : ℕ). i + 1)) more)
 
-place_under : (is : List ℕ → Variable → Bool) (slots : List Slot) (stamps : List (List ℕ × ℕ)) (name : List ℕ) → Ascend 0 (keys_of slots) → Stamps is slots stamps → at_stamp (number_under name stamps) (keys_of slots) ≡ place_seen (is name) slots
+place_under : (is : List ℕ → Variable → Bool) (slots : List Slot) (stamps : List (List ℕ × ℕ)) (name : List ℕ)
+    → Ascend 0 (keys_of slots) → Stamps is slots stamps
+    → at_stamp (number_under name stamps) (keys_of slots) ≡ place_seen (is name) slots
 place_under is slots stamps name up under = ap (λ (o : Option ℕ). at_stamp o (keys_of slots)) (under name) ∙ same_place (is name) 0 slots up
 
 any_before : (test : Variable → Bool) (slot : Option Held) (vars : List Variable) → list_any test (seen_before slot vars) ≡ (has test slot || list_any test vars)
@@ -116,7 +118,8 @@ known test (e ∷ slots) = by_test (has test e.1) (known test slots) ∙ sym (an
     by_test true more = refl
     by_test false more = more
 
-pub known_under : (is : List ℕ → Variable → Bool) (slots : List Slot) (stamps : List (List ℕ × ℕ)) (name : List ℕ) → Stamps is slots stamps → is_some (number_under name stamps) ≡ list_any (is name) (seen slots)
+pub known_under : (is : List ℕ → Variable → Bool) (slots : List Slot) (stamps : List (List ℕ × ℕ)) (name : List ℕ)
+    → Stamps is slots stamps → is_some (number_under name stamps) ≡ list_any (is name) (seen slots)
 known_under is slots stamps name under = ap is_some (under name) ∙ known (is name) slots
 
 -- ---- what stands at a place
@@ -166,7 +169,9 @@ module _ (test : Variable → Bool) where
 
 -- ---- what is put last
 
-stamp_last : (test : Variable → Bool) (slots : List Slot) (s : ℕ) (h : Held) → stamp_of test (slots ++ (s, Some h) ∷ []) ≡ option_or (stamp_of test slots) (if test (variable_in h) then Some s else None)
+stamp_last : (test : Variable → Bool) (slots : List Slot) (s : ℕ) (h : Held)
+    → stamp_of test (slots ++ (s, Some h) ∷ [])
+    ≡ option_or (stamp_of test slots) (if test (variable_in h) then Some s else None)
 stamp_last test [] s h = refl
 stamp_last test (e ∷ slots) s h = by_test (has test e.1) (stamp_last test slots s h)
   where
@@ -180,7 +185,9 @@ or_none None = refl
 or_none (Some s) = refl
 
 -- a name that is new has the stamp
-stamps_put : (is : List ℕ → Variable → Bool) (slots : List Slot) (s : ℕ) (h : Held) (name : List ℕ) (old new : List (List ℕ × ℕ)) → ((x : List ℕ) → is x (variable_in h) ≡ bytes_eq x name) → list_any (is name) (seen slots) ≡ false →
+stamps_put : (is : List ℕ → Variable → Bool) (slots : List Slot) (s : ℕ) (h : Held) (name : List ℕ)
+    (old new : List (List ℕ × ℕ)) → ((x : List ℕ) → is x (variable_in h) ≡ bytes_eq x name)
+    → list_any (is name) (seen slots) ≡ false →
     Stamps is slots old → Puts name (Some s) old new → Stamps is (slots ++ (s, Some h) ∷ []) new
 stamps_put is slots s h name old new like none under puts x = puts x ∙ by_name (bytes_eq x name) refl ∙ sym (stamp_last (is x) slots s h)
   where
@@ -193,14 +200,19 @@ stamps_put is slots s h name old new like none under puts x = puts x ∙ by_name
     by_name false e = rw (like x, e) (under x ∙ or_none (stamp_of (is x) slots))
 
 -- the names of the other type keep theirs
-stamps_stay : (is : List ℕ → Variable → Bool) (slots : List Slot) (s : ℕ) (h : Held) (stamps : List (List ℕ × ℕ)) → ((x : List ℕ) → is x (variable_in h) ≡ false) → Stamps is slots stamps → Stamps is (slots ++ (s, Some h) ∷ []) stamps
+stamps_stay : (is : List ℕ → Variable → Bool) (slots : List Slot) (s : ℕ) (h : Held) (stamps : List (List ℕ × ℕ))
+    → ((x : List ℕ) → is x (variable_in h) ≡ false) → Stamps is slots stamps
+    → Stamps is (slots ++ (s, Some h) ∷ []) stamps
 stamps_stay is slots s h stamps other under x = under x ∙ sym (stamp_last (is x) slots s h ∙ rw (other x) (sym (or_none (stamp_of (is x) slots))))
 
-ascend_last : (low : ℕ) (slots : List Slot) (s : ℕ) (h : Held) → low ≤ s → Ascend low (keys_of slots) → AllByRecursion (λ (x : ℕ). x < s) (keys_of slots) → Ascend low (keys_of (slots ++ (s, Some h) ∷ []))
+ascend_last : (low : ℕ) (slots : List Slot) (s : ℕ) (h : Held) → low ≤ s → Ascend low (keys_of slots)
+    → AllByRecursion (λ (x : ℕ). x < s) (keys_of slots) → Ascend low (keys_of (slots ++ (s, Some h) ∷ []))
 ascend_last low [] s h le up below = (le, tt)
 ascend_last low (e ∷ slots) s h le up below = (up.0, ascend_last (e.0 + 1) slots s h (omega (arith, below.0)) up.1 below.1)
 
-below_last : (next more : ℕ) (slots : List Slot) (s : ℕ) (h : Held) → next < more → s < more → AllByRecursion (λ (x : ℕ). x < next) (keys_of slots) → AllByRecursion (λ (x : ℕ). x < more) (keys_of (slots ++ (s, Some h) ∷ []))
+below_last : (next more : ℕ) (slots : List Slot) (s : ℕ) (h : Held) → next < more → s < more
+    → AllByRecursion (λ (x : ℕ). x < next) (keys_of slots)
+    → AllByRecursion (λ (x : ℕ). x < more) (keys_of (slots ++ (s, Some h) ∷ []))
 below_last next more [] s h lt one below = (one, tt)
 below_last next more (e ∷ slots) s h lt one below = (omega (arith, below.0, lt), below_last next more slots s h lt one below.1)
 
@@ -212,7 +224,9 @@ pub seen_last : (slots : List Slot) (s : ℕ) (h : Held) → seen (slots ++ (s, 
 seen_last [] s h = refl
 seen_last (e ∷ slots) s h = ap (seen_before e.1) (seen_last slots s h) ∙ before_last e.1 (seen slots) (variable_in h)
 
-distinct_last : (slots : List Slot) (s : ℕ) (h : Held) → IsDistinct same_variable (seen slots) → list_any (same_variable (variable_in h)) (seen slots) ≡ false → IsDistinct same_variable (seen (slots ++ (s, Some h) ∷ []))
+distinct_last : (slots : List Slot) (s : ℕ) (h : Held) → IsDistinct same_variable (seen slots)
+    → list_any (same_variable (variable_in h)) (seen slots) ≡ false
+    → IsDistinct same_variable (seen (slots ++ (s, Some h) ∷ []))
 distinct_last slots s h d new = subst (IsDistinct same_variable) (sym (seen_last slots s h)) (IsDistinct-push same_equiv (seen slots) (variable_in h) d new)
 
 -- ---- what is written in its place
@@ -225,7 +239,9 @@ keys_stay (e ∷ slots) (suc i) new = ap (λ ss. e.0 ∷ ss) (keys_stay slots i 
 ascend_stays : (slots : List Slot) (i : ℕ) (new : Option Held) → Ascend 0 (keys_of slots) → Ascend 0 (keys_of (set_value_at slots i new))
 ascend_stays slots i new up = subst (Ascend 0) (sym (keys_stay slots i new)) up
 
-below_stays : (next : ℕ) (slots : List Slot) (i : ℕ) (new : Option Held) → AllByRecursion (λ (s : ℕ). s < next) (keys_of slots) → AllByRecursion (λ (s : ℕ). s < next) (keys_of (set_value_at slots i new))
+below_stays : (next : ℕ) (slots : List Slot) (i : ℕ) (new : Option Held)
+    → AllByRecursion (λ (s : ℕ). s < next) (keys_of slots)
+    → AllByRecursion (λ (s : ℕ). s < next) (keys_of (set_value_at slots i new))
 below_stays next slots i new below = subst (AllByRecursion (λ (s : ℕ). s < next)) (sym (keys_stay slots i new)) below
 
 module _ (v : Variable) where
@@ -242,7 +258,9 @@ module _ (v : Variable) where
   put_here (e ∷ slots) i new is at = by_test (has (same_variable v) e.1) refl at (λ j. put_here slots j new is)
     where
       by_test : (b : Bool) → has (same_variable v) e.1 ≡ b → cond b (Some 0) (option_map (λ k. k + 1) (place_seen (same_variable v) slots)) ≡ Some i →
-          ((j : ℕ) → place_seen (same_variable v) slots ≡ Some j → seen (set_value_at slots j (Some new)) ≡ put v (seen slots)) → seen (set_value_at (e ∷ slots) i (Some new)) ≡ put v (seen (e ∷ slots))
+          ((j : ℕ) → place_seen (same_variable v) slots ≡ Some j
+          → seen (set_value_at slots j (Some new)) ≡ put v (seen slots))
+          → seen (set_value_at (e ∷ slots) i (Some new)) ≡ put v (seen (e ∷ slots))
       by_test true found here more =
           let zero_is : 0 ≡ i = cc in
           subst (λ (k : ℕ). seen (set_value_at (e ∷ slots) k (Some new)) ≡ put v (seen (e ∷ slots))) zero_is (ap (λ (w : Variable). w ∷ seen slots) is ∙ put_first e.1 (seen slots) found)
@@ -260,7 +278,9 @@ module _ (h new : Held) where
   as_many_seen (e ∷ slots) zero at = let same : e.1 ≡ Some h = cc in rw same refl
   as_many_seen (e ∷ slots) (suc i) at = as_long e.1 (seen (set_value_at slots i (Some new))) (seen slots) (as_many_seen slots i at)
 
-  stamps_same : (test : Variable → Bool) (slots : List Slot) (i : ℕ) → slice_get (values_of slots) i ≡ Some (Some h) → test (variable_in new) ≡ test (variable_in h) → stamp_of test (set_value_at slots i (Some new)) ≡ stamp_of test slots
+  stamps_same : (test : Variable → Bool) (slots : List Slot) (i : ℕ) → slice_get (values_of slots) i ≡ Some (Some h)
+      → test (variable_in new) ≡ test (variable_in h)
+      → stamp_of test (set_value_at slots i (Some new)) ≡ stamp_of test slots
   stamps_same test [] i at alike = absurd cc
   stamps_same test (e ∷ slots) zero at alike = let same : e.1 ≡ Some h = cc in rw (same, alike) refl
   stamps_same test (e ∷ slots) (suc i) at alike = ap (cond (has test e.1) (Some e.0)) (stamps_same test slots i at alike)
@@ -279,9 +299,13 @@ emptied : (test : Variable → Bool) (slots : List Slot) (i : ℕ) → place_see
 emptied test [] i at = absurd cc
 emptied test (e ∷ slots) i at = by_test (has test e.1) refl at (λ j. emptied test slots j)
   where
-    by_test : (b : Bool) → has test e.1 ≡ b → cond b (Some 0) (option_map (λ k. k + 1) (place_seen test slots)) ≡ Some i → ((j : ℕ) → place_seen test slots ≡ Some j → seen (set_value_at slots j None) ≡ without_first test (seen slots)) →
+    by_test : (b : Bool) → has test e.1 ≡ b → cond b (Some 0) (option_map (λ k. k + 1) (place_seen test slots)) ≡ Some i
+        → ((j : ℕ) → place_seen test slots ≡ Some j
+        → seen (set_value_at slots j None) ≡ without_first test (seen slots)) →
         seen (set_value_at (e ∷ slots) i None) ≡ without_first test (seen (e ∷ slots))
-    by_test true found here more = let zero_is : 0 ≡ i = cc in subst (λ (k : ℕ). seen (set_value_at (e ∷ slots) k None) ≡ without_first test (seen (e ∷ slots))) zero_is (without_here test e.1 (seen slots) found)
+    by_test true found here more = let zero_is : 0
+        ≡ i = cc in subst (λ (k : ℕ). seen (set_value_at (e ∷ slots) k None)
+        ≡ without_first test (seen (e ∷ slots))) zero_is (without_here test e.1 (seen slots) found)
     by_test false lacks here more =
         let p = later_place i (place_seen test slots) here in
         subst (λ (k : ℕ). seen (set_value_at (e ∷ slots) k None) ≡ without_first test (seen (e ∷ slots))) (sym p.2) (ap (seen_before e.1) (more p.0 p.1) ∙ without_later test e.1 (seen slots) lacks)
@@ -298,9 +322,13 @@ one_less : (test : Variable → Bool) (slots : List Slot) (i : ℕ) → place_se
 one_less test [] i at = absurd cc
 one_less test (e ∷ slots) i at = by_test (has test e.1) refl at (λ j. one_less test slots j)
   where
-    by_test : (b : Bool) → has test e.1 ≡ b → cond b (Some 0) (option_map (λ k. k + 1) (place_seen test slots)) ≡ Some i → ((j : ℕ) → place_seen test slots ≡ Some j → length (seen (set_value_at slots j None)) + 1 ≡ length (seen slots)) →
+    by_test : (b : Bool) → has test e.1 ≡ b → cond b (Some 0) (option_map (λ k. k + 1) (place_seen test slots)) ≡ Some i
+        → ((j : ℕ) → place_seen test slots ≡ Some j
+        → length (seen (set_value_at slots j None)) + 1 ≡ length (seen slots)) →
         length (seen (set_value_at (e ∷ slots) i None)) + 1 ≡ length (seen (e ∷ slots))
-    by_test true found here more = let zero_is : 0 ≡ i = cc in subst (λ (k : ℕ). length (seen (set_value_at (e ∷ slots) k None)) + 1 ≡ length (seen (e ∷ slots))) zero_is (one_here test e.1 (seen slots) found)
+    by_test true found here more = let zero_is : 0
+        ≡ i = cc in subst (λ (k : ℕ). length (seen (set_value_at (e ∷ slots) k None)) + 1
+        ≡ length (seen (e ∷ slots))) zero_is (one_here test e.1 (seen slots) found)
     by_test false lacks here more =
         let p = later_place i (place_seen test slots) here in
         subst (λ (k : ℕ). length (seen (set_value_at (e ∷ slots) k None)) + 1 ≡ length (seen (e ∷ slots))) (sym p.2) (one_before e.1 (seen (set_value_at slots p.0 None)) (seen slots) (more p.0 p.1))
@@ -309,13 +337,19 @@ lacks_other : (test other : Variable → Bool) (slot : Option Held) → ((v : Va
 lacks_other test other None apart found = refl
 lacks_other test other (Some h) apart found = apart (variable_in h) found
 
-others_stay : (test other : Variable → Bool) (slots : List Slot) (i : ℕ) → ((v : Variable) → test v ≡ true → other v ≡ false) → place_seen test slots ≡ Some i → stamp_of other (set_value_at slots i None) ≡ stamp_of other slots
+others_stay : (test other : Variable → Bool) (slots : List Slot) (i : ℕ)
+    → ((v : Variable) → test v ≡ true → other v ≡ false) → place_seen test slots ≡ Some i
+    → stamp_of other (set_value_at slots i None) ≡ stamp_of other slots
 others_stay test other [] i apart at = absurd cc
 others_stay test other (e ∷ slots) i apart at = by_test (has test e.1) refl at (λ j. others_stay test other slots j apart)
   where
-    by_test : (b : Bool) → has test e.1 ≡ b → cond b (Some 0) (option_map (λ k. k + 1) (place_seen test slots)) ≡ Some i → ((j : ℕ) → place_seen test slots ≡ Some j → stamp_of other (set_value_at slots j None) ≡ stamp_of other slots) →
+    by_test : (b : Bool) → has test e.1 ≡ b → cond b (Some 0) (option_map (λ k. k + 1) (place_seen test slots)) ≡ Some i
+        → ((j : ℕ) → place_seen test slots ≡ Some j
+        → stamp_of other (set_value_at slots j None) ≡ stamp_of other slots) →
         stamp_of other (set_value_at (e ∷ slots) i None) ≡ stamp_of other (e ∷ slots)
-    by_test true found here more = let zero_is : 0 ≡ i = cc in subst (λ (k : ℕ). stamp_of other (set_value_at (e ∷ slots) k None) ≡ stamp_of other (e ∷ slots)) zero_is (rw (lacks_other test other e.1 apart found) refl)
+    by_test true found here more = let zero_is : 0
+        ≡ i = cc in subst (λ (k : ℕ). stamp_of other (set_value_at (e ∷ slots) k None)
+        ≡ stamp_of other (e ∷ slots)) zero_is (rw (lacks_other test other e.1 apart found) refl)
     by_test false lacks here more =
         let p = later_place i (place_seen test slots) here in
         subst (λ (k : ℕ). stamp_of other (set_value_at (e ∷ slots) k None) ≡ stamp_of other (e ∷ slots)) (sym p.2) (ap (cond (has other e.1) (Some e.0)) (more p.0 p.1))
@@ -324,7 +358,8 @@ none_left : (test : Variable → Bool) (vars : List Variable) → list_any test 
 none_left test [] = refl
 none_left test (v ∷ vars) = by_test (test v) refl (none_left test vars)
   where
-    by_test : (b : Bool) → test v ≡ b → list_any test (filter (λ w. not (test w)) vars) ≡ false → list_any test (cond (not b) (v ∷ filter (λ w. not (test w)) vars) (filter (λ w. not (test w)) vars)) ≡ false
+    by_test : (b : Bool) → test v ≡ b → list_any test (filter (λ w. not (test w)) vars) ≡ false
+        → list_any test (cond (not b) (v ∷ filter (λ w. not (test w)) vars) (filter (λ w. not (test w)) vars)) ≡ false
     by_test true is more = more
     by_test false is more = rw is more
 
@@ -384,7 +419,9 @@ stamp_full : (test : Variable → Bool) (slots : List Slot) → stamp_of test (f
 stamp_full test [] = refl
 stamp_full test (e ∷ slots) = by_slot e.0 e.1 (stamp_full test slots)
   where
-    by_slot : (s : ℕ) (slot : Option Held) → stamp_of test (full slots) ≡ stamp_of test slots → stamp_of test (cond (is_some slot) ((s, slot) ∷ full slots) (full slots)) ≡ cond (has test slot) (Some s) (stamp_of test slots)
+    by_slot : (s : ℕ) (slot : Option Held) → stamp_of test (full slots) ≡ stamp_of test slots
+        → stamp_of test (cond (is_some slot) ((s, slot) ∷ full slots) (full slots))
+        ≡ cond (has test slot) (Some s) (stamp_of test slots)
     by_slot s None more = more
     by_slot s (Some h) more = ap (cond (test (variable_in h)) (Some s)) more
 
@@ -404,7 +441,8 @@ below_full : (next : ℕ) (slots : List Slot) → AllByRecursion (λ (s : ℕ). 
 below_full next [] below = tt
 below_full next (e ∷ slots) below = by_slot e.0 e.1 below.0 (below_full next slots below.1)
   where
-    by_slot : (s : ℕ) (slot : Option Held) → s < next → AllByRecursion (λ (x : ℕ). x < next) (keys_of (full slots)) → AllByRecursion (λ (x : ℕ). x < next) (keys_of (cond (is_some slot) ((s, slot) ∷ full slots) (full slots)))
+    by_slot : (s : ℕ) (slot : Option Held) → s < next → AllByRecursion (λ (x : ℕ). x < next) (keys_of (full slots))
+        → AllByRecursion (λ (x : ℕ). x < next) (keys_of (cond (is_some slot) ((s, slot) ∷ full slots) (full slots)))
     by_slot s None lt more = more
     by_slot s (Some h) lt more = (lt, more)
 
@@ -413,7 +451,8 @@ pub record Left (next live : ℕ) (slots : List Slot) (ints texts : List (List �
   pub kept : AreKept next live slots ints texts
   pub view : seen slots ≡ vars
 
-pub settled : {next live : ℕ} {slots fewer : List Slot} {ints texts : List (List ℕ × ℕ)} {vars : List Variable} → AreKept next live slots ints texts → seen slots ≡ vars → fewer ≡ full slots → Left next live fewer ints texts vars
+pub settled : {next live : ℕ} {slots fewer : List Slot} {ints texts : List (List ℕ × ℕ)} {vars : List Variable}
+    → AreKept next live slots ints texts → seen slots ≡ vars → fewer ≡ full slots → Left next live fewer ints texts vars
 settled {next} {live} {slots} {fewer} {ints} {texts} {vars} kept view is = rw is (record {
   kept = record {
     ascend = ascend_full 0 slots kept.ascend;
@@ -430,7 +469,8 @@ settled {next} {live} {slots} {fewer} {ints} {texts} {vars} kept view is = rw is
 -- ---- what is read, and what a change leaves
 
 module _ (name : List ℕ) {next live : ℕ} {slots : List Slot} {ints texts : List (List ℕ × ℕ)} (kept : AreKept next live slots ints texts) {vars : List Variable} (view : seen slots ≡ vars) where
-  place_is : (is : List ℕ → Variable → Bool) (stamps : List (List ℕ × ℕ)) → Stamps is slots stamps → {i : ℕ} → Some i ≡ at_stamp (number_under name stamps) (keys_of slots) → place_seen (is name) slots ≡ Some i
+  place_is : (is : List ℕ → Variable → Bool) (stamps : List (List ℕ × ℕ)) → Stamps is slots stamps → {i : ℕ}
+      → Some i ≡ at_stamp (number_under name stamps) (keys_of slots) → place_seen (is name) slots ≡ Some i
   place_is is stamps under e = sym (place_under is slots stamps name kept.ascend under) ∙ sym e
 
   seen_at : (test : Variable → Bool) (i : ℕ) (slot : Option Held) → place_seen test slots ≡ Some i → slice_get (values_of slots) i ≡ Some slot → IsAt test (first test vars) slot
@@ -439,10 +479,12 @@ module _ (name : List ℕ) {next live : ℕ} {slots : List Slot} {ints texts : L
   missing : (test : Variable → Bool) → place_seen test slots ≡ None → (first test vars ≡ None) × (list_any test vars ≡ false)
   missing test e = subst (λ (vs : List Variable). (first test vs ≡ None) × (list_any test vs ≡ false)) view (not_there test slots e)
 
-  pub int_at : {i : ℕ} {slot : Option Held} → Some i ≡ at_stamp (number_under name ints) (keys_of slots) → slice_get (values_of slots) i ≡ Some slot → IsAt (is_int name) (first (is_int name) vars) slot
+  pub int_at : {i : ℕ} {slot : Option Held} → Some i ≡ at_stamp (number_under name ints) (keys_of slots)
+      → slice_get (values_of slots) i ≡ Some slot → IsAt (is_int name) (first (is_int name) vars) slot
   int_at {i} {slot} e at = seen_at (is_int name) i slot (place_is is_int ints kept.ints e) at
 
-  pub text_at : {i : ℕ} {slot : Option Held} → Some i ≡ at_stamp (number_under name texts) (keys_of slots) → slice_get (values_of slots) i ≡ Some slot → IsAt (is_text name) (first (is_text name) vars) slot
+  pub text_at : {i : ℕ} {slot : Option Held} → Some i ≡ at_stamp (number_under name texts) (keys_of slots)
+      → slice_get (values_of slots) i ≡ Some slot → IsAt (is_text name) (first (is_text name) vars) slot
   text_at {i} {slot} e at = seen_at (is_text name) i slot (place_is is_text texts kept.texts e) at
 
   pub no_int : None ≡ at_stamp (number_under name ints) (keys_of slots) → (first (is_int name) vars ≡ None) × (list_any (is_int name) vars ≡ false)
@@ -454,7 +496,8 @@ module _ (name : List ℕ) {next live : ℕ} {slots : List Slot} {ints texts : L
   one_more : (h : Held) → live + 1 ≡ length (seen (slots ++ (next, Some h) ∷ []))
   one_more h = omega (arith, kept.counted, length_push (seen slots) (variable_in h), ap length (seen_last slots next h))
 
-  pub int_pushed : (n : ℤ) {more now : ℕ} (h : Held) {grown : List Slot} {new : List (List ℕ × ℕ)} → variable_in h ≡ IntVar name n → next + 1 ≡ more → live + 1 ≡ now → grown ≡ slots ++ (next, Some h) ∷ [] →
+  pub int_pushed : (n : ℤ) {more now : ℕ} (h : Held) {grown : List Slot} {new : List (List ℕ × ℕ)}
+      → variable_in h ≡ IntVar name n → next + 1 ≡ more → live + 1 ≡ now → grown ≡ slots ++ (next, Some h) ∷ [] →
       list_any (is_int name) vars ≡ false → Puts name (Some next) ints new → Left more now grown new texts (vars ++ IntVar name n ∷ [])
   int_pushed n {more} {now} h {grown} {new} is lt many grows lacks puts =
       let none : list_any (is_int name) (seen slots) ≡ false = ap (list_any (is_int name)) view ∙ lacks in
@@ -479,7 +522,9 @@ module _ (name : List ℕ) {next live : ℕ} {slots : List Slot} {ints texts : L
       let h' = with_content (Int m) h in
       let there : slice_get (values_of slots) i ≡ Some (Some h) = at ∙ ap Some here.slot_is in
       let own : name ≡ h.name = int_name name h.name h.content here.passes in
-      let puts : seen (set_value_at slots i (Some h')) ≡ put (IntVar name n) (seen slots) = put_here (IntVar name n) slots i h' (ap (IntVar h.name) same ∙ ap (λ x. IntVar x n) (sym own)) (place_is is_int ints kept.ints found) in
+      let puts : seen (set_value_at slots i (Some h'))
+      ≡ put (IntVar name n) (seen slots) = put_here (IntVar name n) slots i h'
+      (ap (IntVar h.name) same ∙ ap (λ x. IntVar x n) (sym own)) (place_is is_int ints kept.ints found) in
       let is : new ≡ Some h' = written ∙ ap (option_map (with_content (Int m))) here.slot_is in
       subst (λ (o : Option Held). Left next live (set_value_at slots i o) ints texts (put (IntVar name n) vars)) (sym is) (record {
         kept = record {
@@ -498,7 +543,9 @@ module _ (name : List ℕ) {next live : ℕ} {slots : List Slot} {ints texts : L
       Left next less (set_value_at slots i None) new texts (filter (λ v. not (is_int name v)) vars)
   int_removed {i} {less} {new} found few puts =
       let at : place_seen (is_int name) slots ≡ Some i = place_is is_int ints kept.ints found in
-      let out : seen (set_value_at slots i None) ≡ filter (λ v. not (is_int name v)) (seen slots) = emptied (is_int name) slots i at ∙ filter_without (is_int name) (seen slots) (int_like name) kept.distinct in
+      let out : seen (set_value_at slots i None)
+      ≡ filter (λ v. not (is_int name v)) (seen slots) = emptied (is_int name) slots i at
+      ∙ filter_without (is_int name) (seen slots) (int_like name) kept.distinct in
       let none : list_any (is_int name) (seen (set_value_at slots i None)) ≡ false = ap (list_any (is_int name)) out ∙ none_left (is_int name) (seen slots) in
       record {
         kept = record {
@@ -516,7 +563,8 @@ module _ (name : List ℕ) {next live : ℕ} {slots : List Slot} {ints texts : L
   pub int_counts : {i : ℕ} → Some i ≡ at_stamp (number_under name ints) (keys_of slots) → 1 ≤ live
   int_counts {i} found = omega (arith, kept.counted, one_less (is_int name) slots i (place_is is_int ints kept.ints found))
 
-  pub text_pushed : (n : List ℕ) {more now : ℕ} (h : Held) {grown : List Slot} {new : List (List ℕ × ℕ)} → variable_in h ≡ TextVar name n → next + 1 ≡ more → live + 1 ≡ now → grown ≡ slots ++ (next, Some h) ∷ [] →
+  pub text_pushed : (n : List ℕ) {more now : ℕ} (h : Held) {grown : List Slot} {new : List (List ℕ × ℕ)}
+      → variable_in h ≡ TextVar name n → next + 1 ≡ more → live + 1 ≡ now → grown ≡ slots ++ (next, Some h) ∷ [] →
       list_any (is_text name) vars ≡ false → Puts name (Some next) texts new → Left more now grown ints new (vars ++ TextVar name n ∷ [])
   text_pushed n {more} {now} h {grown} {new} is lt many grows lacks puts =
       let none : list_any (is_text name) (seen slots) ≡ false = ap (list_any (is_text name)) view ∙ lacks in
@@ -541,7 +589,9 @@ module _ (name : List ℕ) {next live : ℕ} {slots : List Slot} {ints texts : L
       let h' = with_content (Text m) h in
       let there : slice_get (values_of slots) i ≡ Some (Some h) = at ∙ ap Some here.slot_is in
       let own : name ≡ h.name = text_name name h.name h.content here.passes in
-      let puts : seen (set_value_at slots i (Some h')) ≡ put (TextVar name n) (seen slots) = put_here (TextVar name n) slots i h' (ap (TextVar h.name) same ∙ ap (λ x. TextVar x n) (sym own)) (place_is is_text texts kept.texts found) in
+      let puts : seen (set_value_at slots i (Some h'))
+      ≡ put (TextVar name n) (seen slots) = put_here (TextVar name n) slots i h'
+      (ap (TextVar h.name) same ∙ ap (λ x. TextVar x n) (sym own)) (place_is is_text texts kept.texts found) in
       let is : new ≡ Some h' = written ∙ ap (option_map (with_content (Text m))) here.slot_is in
       subst (λ (o : Option Held). Left next live (set_value_at slots i o) ints texts (put (TextVar name n) vars)) (sym is) (record {
         kept = record {
@@ -560,7 +610,9 @@ module _ (name : List ℕ) {next live : ℕ} {slots : List Slot} {ints texts : L
       Left next less (set_value_at slots i None) ints new (filter (λ v. not (is_text name v)) vars)
   text_removed {i} {less} {new} found few puts =
       let at : place_seen (is_text name) slots ≡ Some i = place_is is_text texts kept.texts found in
-      let out : seen (set_value_at slots i None) ≡ filter (λ v. not (is_text name v)) (seen slots) = emptied (is_text name) slots i at ∙ filter_without (is_text name) (seen slots) (text_like name) kept.distinct in
+      let out : seen (set_value_at slots i None)
+      ≡ filter (λ v. not (is_text name v)) (seen slots) = emptied (is_text name) slots i at
+      ∙ filter_without (is_text name) (seen slots) (text_like name) kept.distinct in
       let none : list_any (is_text name) (seen (set_value_at slots i None)) ≡ false = ap (list_any (is_text name)) out ∙ none_left (is_text name) (seen slots) in
       record {
         kept = record {

@@ -52,7 +52,9 @@ unfolding IsDistinct
 put_distinct_at v w true vars rest is d all done = (like_old v w vars is d.0, d.1)
 put_distinct_at v w false vars rest is d all done = (all, done)
 
-apart_put : (v w : Variable) (b : Bool) (vars : List Variable) → same_variable v w ≡ b → AllByRecursion (λ y. same_variable w y ≡ false) vars → b ≡ false → AllByRecursion (λ y. same_variable w y ≡ false) (put v vars)
+apart_put : (v w : Variable) (b : Bool) (vars : List Variable) → same_variable v w ≡ b
+    → AllByRecursion (λ y. same_variable w y ≡ false) vars → b ≡ false
+    → AllByRecursion (λ y. same_variable w y ≡ false) (put v vars)
 apart_put v w b vars is all none = all_put (λ y. same_variable w y ≡ false) v vars all (same_symm w v ∙ (is ∙ none))
 
 pub put_distinct : (v : Variable) (vars : List Variable) → IsDistinct same_variable vars → IsDistinct same_variable (put v vars)
@@ -79,7 +81,9 @@ pub all_kept : (P : Variable → Type 0) (test : Variable → Bool) (vars : List
 all_kept P test [] all = tt
 all_kept P test (v ∷ vars) all = one_kept P (test v) v (filter test vars) all.0 (all_kept P test vars all.1)
 
-distinct_kept_at : (b : Bool) (v : Variable) (rest : List Variable) → AllByRecursion (λ y. same_variable v y ≡ false) rest → IsDistinct same_variable rest → IsDistinct same_variable (cond b (v ∷ rest) rest)
+distinct_kept_at : (b : Bool) (v : Variable) (rest : List Variable)
+    → AllByRecursion (λ y. same_variable v y ≡ false) rest → IsDistinct same_variable rest
+    → IsDistinct same_variable (cond b (v ∷ rest) rest)
 unfolding IsDistinct
 distinct_kept_at true v rest all done = (all, done)
 distinct_kept_at false v rest all done = done
@@ -98,7 +102,9 @@ all_pass : (test : Variable → Bool) (vars : List Variable) → AllByRecursion 
 all_pass test [] all = refl
 all_pass test (v ∷ vars) all = rw all.0 (ap (λ (vs : List Variable). v ∷ vs) (all_pass test vars all.1))
 
-like_test : (test : Variable → Bool) (w : Variable) (vars : List Variable) → ((y : Variable) → same_variable w y ≡ test y) → AllByRecursion (λ y. same_variable w y ≡ false) vars → AllByRecursion (λ y. test y ≡ false) vars
+like_test : (test : Variable → Bool) (w : Variable) (vars : List Variable)
+    → ((y : Variable) → same_variable w y ≡ test y) → AllByRecursion (λ y. same_variable w y ≡ false) vars
+    → AllByRecursion (λ y. test y ≡ false) vars
 like_test test w [] like all = tt
 like_test test w (x ∷ vars) like all = (sym (like x) ∙ all.0, like_test test w vars like all.1)
 
@@ -109,7 +115,9 @@ unfolding IsDistinct
 filter_without test [] like d = refl
 filter_without test (v ∷ vars) like d = by_test (test v) refl (filter_without test vars like d.1)
   where
-    by_test : (b : Bool) → test v ≡ b → without_first test vars ≡ filter (λ w. not (test w)) vars → cond b vars (v ∷ without_first test vars) ≡ cond (not b) (v ∷ filter (λ w. not (test w)) vars) (filter (λ w. not (test w)) vars)
+    by_test : (b : Bool) → test v ≡ b → without_first test vars ≡ filter (λ w. not (test w)) vars
+        → cond b vars (v ∷ without_first test vars)
+        ≡ cond (not b) (v ∷ filter (λ w. not (test w)) vars) (filter (λ w. not (test w)) vars)
     by_test true is more = sym (all_pass test vars (like_test test v vars (λ y. like v y is) d.0))
     by_test false is more = ap (λ (vs : List Variable). v ∷ vs) more
 

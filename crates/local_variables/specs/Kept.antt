@@ -78,7 +78,8 @@ abbrev pub Stamps : (List ℕ → Variable → Bool) → List Slot → List (Lis
 Stamps is slots stamps = (name : List ℕ) → number_under name stamps ≡ stamp_of (is name) slots
 
 -- what is kept of an object's variables, where so many slots aren't empty
-pub record AreKept (next live : ℕ) (slots : List Slot) (under_ints under_texts : List (List ℕ × ℕ)) : Type 0 where
+pub record AreKept (next live : ℕ) (slots : List Slot)
+    (under_ints under_texts : List (List ℕ × ℕ)) : Type 0 where
   pub ascend : Ascend 0 (keys_of slots)
   pub below : AllByRecursion (λ (s : ℕ). s < next) (keys_of slots)
   pub counted : live ≡ length (seen slots)

@@ -105,7 +105,8 @@ restored_is (Base kept ∷ cells) f bp h = ap (λ bp. Some (Moves (record f { pl
     same : bp_on_top (Base kept ∷ cells) ≡ Some bp → kept ≡ bp
     same h = cc
 
-pub restored_deep : (cells : List Cell) (f : Frame) (bp : ℕ) → bp_on_top cells ≡ Some bp → ((g : Frame) → restored cells f ≡ Some (Moves g) → g.stack.bp ≤ length g.stack.cells) → bp ≤ length (drop 1 cells)
+pub restored_deep : (cells : List Cell) (f : Frame) (bp : ℕ) → bp_on_top cells ≡ Some bp
+    → ((g : Frame) → restored cells f ≡ Some (Moves g) → g.stack.bp ≤ length g.stack.cells) → bp ≤ length (drop 1 cells)
 restored_deep cells f bp h deep = deep (record f { place = next_place f.place RestoreBp; stack = record { cells = drop 1 cells; bp = bp } }) (restored_is cells f bp h)
 
 pub ruleset restored_lemmas = (restored_lies, restored_is, restored_deep)
@@ -134,7 +135,8 @@ captures_as globals locals f true e h =
     (values_on locals f.stack.cells)) (values_on globals (cells_beneath f.stack.bp f.stack.cells)) =
     ap (λ (b : Bool). if b then option_and_then (λ _. option_map (λ _. captured f.script (resume_place f.place) globals locals f.stack)
     (values_on locals f.stack.cells)) (values_on globals (cells_beneath f.stack.bp f.stack.cells)) else None) e in
-    let g = then_some (λ _. option_map (λ _. captured f.script (resume_place f.place) globals locals f.stack) (values_on locals f.stack.cells)) (values_on globals (cells_beneath f.stack.bp f.stack.cells))
+    let g = then_some (λ _. option_map (λ _. captured f.script (resume_place f.place) globals locals f.stack)
+    (values_on locals f.stack.cells)) (values_on globals (cells_beneath f.stack.bp f.stack.cells))
     (λ none. h (open_test ∙ none)) in
     let l = map_some (λ _. captured f.script (resume_place f.place) globals locals f.stack) (values_on locals f.stack.cells) g.2 in
     let deep : f.stack.bp ≤ length f.stack.cells = grind (arith, nat_tests) in
@@ -177,7 +179,11 @@ stores : (globals locals : ℕ) (f : Frame) → stored globals locals f ≢ None
 stores globals locals f h =
     let g = then_some (λ g. option_and_then (λ l. option_map (λ saved.
     Moves (record f { place = next_place f.place (StoreState globals locals); pending = saved ∷ f.pending })) (stored_cells g l f)) (cell_count locals)) (cell_count globals) h in
-    let l = then_some (λ l. option_map (λ saved. Moves (record f { place = next_place f.place (StoreState globals locals); pending = saved ∷ f.pending })) (stored_cells g.0 l f)) (cell_count locals) g.2 in
+    let l = then_some (λ l. option_map
+    (λ saved. Moves (record f {
+      place = next_place f.place (StoreState globals locals);
+      pending = saved ∷ f.pending;
+    })) (stored_cells g.0 l f)) (cell_count locals) g.2 in
     let c = map_some (λ saved. Moves (record f { place = next_place f.place (StoreState globals locals); pending = saved ∷ f.pending })) (stored_cells g.0 l.0 f) l.2 in
     record { g = g.0; l = l.0; g_is = g.1; l_is = l.1; case = not_none (stored_cells g.0 l.0 f) c.0 c.1 }
   where

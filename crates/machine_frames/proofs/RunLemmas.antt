@@ -103,7 +103,8 @@ there_in n cells (Some vs) e h = record { vs = vs; are = e }
 pub there : (n : ℕ) (cells : List Cell) → AreValues n cells → There n cells
 there n cells h = there_in n cells (values_on n cells) refl h
 
-got_below : (n from : ℕ) (cells : List Cell) (vs : List Value) → values_on n (drop from cells) ≡ Some vs → (i : ℕ) → i < n → (v : Value) × (slice_get vs i ≡ Some v) × (slice_get cells (from + i) ≡ Some (Holds v))
+got_below : (n from : ℕ) (cells : List Cell) (vs : List Value) → values_on n (drop from cells) ≡ Some vs → (i : ℕ)
+    → i < n → (v : Value) × (slice_get vs i ≡ Some v) × (slice_get cells (from + i) ≡ Some (Holds v))
 got_below n from cells vs h i less = let g = got n (drop from cells) vs h i less in (g.v, g.in_values, sym (get_dropped from cells i) ∙ g.in_cells)
 
 -- ---- values that are written onto others, the lowest first

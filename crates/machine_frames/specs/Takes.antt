@@ -29,12 +29,16 @@ first_of (Some saved) later = Some saved
 pub record AreTaken (ps : List Param) (before after : Frame) (had has : Arguments) : Type 0 where
   pub all : Taken
   pub is : taken ps before.stack.cells before.pending ≡ Some all
-  pub frame : after ≡ record before { stack = record before.stack { cells = all.cells }; pending = all.pending }
+  pub frame : after ≡ record before {
+    stack = record before.stack { cells = all.cells };
+    pending = all.pending;
+  }
   pub values : has.values ≡ had.values ++ all.values
   pub action : has.action ≡ first_of had.action all.action
 
 -- These are the arguments of a call, and the frame stands behind it.
-pub record IsCall (r : Routine) (number count : ℕ) (before after : Frame) (a : Arguments) : Type 0 where
+pub record IsCall (r : Routine) (number count : ℕ) (before after : Frame)
+    (a : Arguments) : Type 0 where
   pub all : Taken
   pub is : arguments r count before.stack.cells before.pending ≡ Some all
   pub frame : after ≡ behind_call number count before all

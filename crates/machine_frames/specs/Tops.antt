@@ -40,7 +40,8 @@ answer_of false = λ b. b
 
 -- the int so far down changes where it stands
 abbrev pub int_at : (ℤ → ℤ) → ℕ → List Cell → Option (List Cell)
-int_at f depth cells = on_int (drop depth cells) (λ n rest. Some (slice_set cells depth (Holds (Int (f n)))))
+int_at f depth cells = on_int (drop depth cells)
+    (λ n rest. Some (slice_set cells depth (Holds (Int (f n)))))
 
 -- the BP that a base cell on top keeps
 abbrev pub bp_on_top : List Cell → Option ℕ

@@ -31,7 +31,8 @@ if_ints kind cells = if kind == 0x20 then cells else None
 
 abbrev pub compared : (Bool → Bool) → ℕ → ℕ → List Cell → Option (List Cell)
 compared answer kind size cells =
-    if kind == 0x24 then runs_compared answer (cell_count size) cells else pair_compared answer (type_of_both kind) cells
+    if kind == 0x24 then runs_compared answer (cell_count size) cells else pair_compared answer
+    (type_of_both kind) cells
 
 abbrev pub added : ℕ → List Cell → Option (List Cell)
 added kind cells = if kind == 0x20 then of_ints sum cells else if kind == 0x23 then of_texts joined_texts cells else None
@@ -112,7 +113,8 @@ next_place at op = at + op_size op
 abbrev pub place_after : PlainOp → ℕ → List Cell → ℕ
 place_after (ops.Jmp offset) at cells = jump_place at offset
 place_after (ops.Jz offset) at cells = if zero_on_top cells then jump_place at offset else next_place at (ops.Jz offset)
-place_after (ops.Jnz offset) at cells = if zero_on_top cells then next_place at (ops.Jnz offset) else jump_place at offset
+place_after (ops.Jnz offset) at cells = if zero_on_top cells then next_place at
+    (ops.Jnz offset) else jump_place at offset
 place_after op at cells = next_place at op
 
 -- ---- every instruction
@@ -134,12 +136,19 @@ pub data Act : Type 0 where
 -- an instruction that changes nothing but the cells
 abbrev pub moved : PlainOp → Frame → Option Act
 moved op f = option_map (λ cells. if is_division op && zero_on_top f.stack.cells then Divides
-    else Moves (record f { place = place_after op f.place f.stack.cells; stack = record f.stack { cells = cells } }))
+    else Moves (record f {
+      place = place_after op f.place f.stack.cells;
+      stack = record f.stack { cells = cells };
+    }))
     (cells_after op f.self f.stack)
 
 -- JSR and RETN
 abbrev pub subroutine_called : ℤ → Frame → Act
-subroutine_called offset f = Moves (record f { place = jump_place f.place offset; calls = next_place f.place (ops.Jsr offset) ∷ f.calls })
+subroutine_called offset f = Moves
+    (record f {
+      place = jump_place f.place offset;
+      calls = next_place f.place (ops.Jsr offset) ∷ f.calls;
+    })
 
 abbrev pub returned : List ℕ → Frame → Act
 returned [] f = Returns
@@ -154,21 +163,29 @@ based f = Moves (record f {
 
 -- RESTOREBP: the base cell on top is taken off.
 abbrev pub restored : List Cell → Frame → Option Act
-restored (Base bp ∷ cells) f = Some (Moves (record f { place = next_place f.place ops.RestoreBp; stack = record { cells = cells; bp = bp } }))
+restored (Base bp ∷ cells) f = Some
+    (Moves (record f {
+      place = next_place f.place ops.RestoreBp;
+      stack = record { cells = cells; bp = bp };
+    }))
 restored _ f = None
 
 -- STORE_STATE: so many values beneath BP and so many on top are captured.
 abbrev pub stored_cells : ℕ → ℕ → Frame → Option Saved
 stored_cells globals locals f =
     if nat_le f.stack.bp (length f.stack.cells)
-    then option_and_then (λ _. option_map (λ _. captured f.script (resume_place f.place) globals locals f.stack)
+    then option_and_then (λ _. option_map
+    (λ _. captured f.script (resume_place f.place) globals locals f.stack)
     (values_on locals f.stack.cells)) (values_on globals (cells_beneath f.stack.bp f.stack.cells))
     else None
 
 abbrev pub stored : ℕ → ℕ → Frame → Option Act
 stored globals locals f =
     option_and_then (λ g. option_and_then (λ l. option_map (λ saved.
-    Moves (record f { place = next_place f.place (ops.StoreState globals locals); pending = saved ∷ f.pending })) (stored_cells g l f))
+    Moves (record f {
+      place = next_place f.place (ops.StoreState globals locals);
+      pending = saved ∷ f.pending;
+    })) (stored_cells g l f))
     (cell_count locals)) (cell_count globals)
 
 -- ACTION: the frame behind the call, without what the call takes
@@ -191,7 +208,8 @@ asked routine count r f t =
 
 abbrev pub engine_called : EngineTable → ℕ → ℕ → Frame → Option Act
 engine_called table routine count f =
-    option_and_then (λ r. option_and_then (asked routine count r f) (arguments r count f.stack.cells f.pending)) (slice_get table.routines routine)
+    option_and_then (λ r. option_and_then (asked routine count r f)
+    (arguments r count f.stack.cells f.pending)) (slice_get table.routines routine)
 
 -- What an instruction comes to in a running script: none where it has no case there.
 unfoldable pub act : EngineTable → PlainOp → Frame → Option Act

@@ -30,7 +30,8 @@ with_action saved t = record t { action = Some saved }
 
 -- the value on top, where it has this type, before what is taken from the cells beneath it
 abbrev pub value_taken : Ty → List Cell → (List Cell → Option Taken) → Option Taken
-value_taken type (Holds v ∷ cells) go = if ty_eq (type_of v) type then option_map (with_value v) (go cells) else None
+value_taken type (Holds v ∷ cells) go = if ty_eq (type_of v) type then option_map (with_value v)
+    (go cells) else None
 value_taken type _ go = None
 
 -- the newest pending state, before what is taken from the others
@@ -40,7 +41,8 @@ action_taken [] go = None
 
 -- For each parameter in order the value on top is taken, or for an action the newest pending state.
 abbrev pub taken : List Param → List Cell → List Saved → Option Taken
-taken [] cells pending = Some (record { values = []; action = None; cells = cells; pending = pending })
+taken [] cells pending = Some
+    (record { values = []; action = None; cells = cells; pending = pending })
 taken (p ∷ ps) cells pending =
     if is_action p.ty
     then action_taken pending (λ rest. taken ps cells rest)
@@ -48,7 +50,8 @@ taken (p ∷ ps) cells pending =
 
 -- a call with this count of arguments: the routine can be called, and has so many parameters
 abbrev pub arguments : Routine → ℕ → List Cell → List Saved → Option Taken
-arguments r count cells pending = if is_callable r && (count == length r.params) then taken r.params cells pending else None
+arguments r count cells pending = if is_callable r
+    && (count == length r.params) then taken r.params cells pending else None
 
 -- the engine's own routine that runs another script at once
 abbrev pub execute_script : ℕ

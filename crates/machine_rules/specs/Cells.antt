@@ -40,7 +40,8 @@ overwritten above vs cells = take above cells ++ with_values vs (drop (above + l
 
 -- a range whose depth counts from BP, where BP is no higher than the top
 abbrev pub from_bp : StackView → CellRange → Option CellRange
-from_bp s r = if nat_le s.bp (length s.cells) then Some (record r { above = (length s.cells - s.bp) + r.above }) else None
+from_bp s r = if nat_le s.bp (length s.cells) then Some
+    (record r { above = (length s.cells - s.bp) + r.above }) else None
 
 -- ---- pops
 
@@ -59,10 +60,12 @@ of_int f cells = on_int cells (λ x rest. Some (Holds (Int (f x)) ∷ rest))
 
 -- two ints to one int: the second operand is on top
 abbrev pub of_ints : (ℤ → ℤ → ℤ) → List Cell → Option (List Cell)
-of_ints f cells = on_int cells (λ y rest. on_int rest (λ x below. Some (Holds (Int (f x y)) ∷ below)))
+of_ints f cells = on_int cells
+    (λ y rest. on_int rest (λ x below. Some (Holds (Int (f x y)) ∷ below)))
 
 abbrev pub of_texts : (List ℕ → List ℕ → List ℕ) → List Cell → Option (List Cell)
-of_texts f cells = on_text cells (λ b rest. on_text rest (λ a below. Some (Holds (Text (f a b)) ∷ below)))
+of_texts f cells = on_text cells
+    (λ b rest. on_text rest (λ a below. Some (Holds (Text (f a b)) ∷ below)))
 
 -- whether an int that is 0 is on top
 abbrev pub zero_on_top : List Cell → Bool
@@ -77,16 +80,20 @@ value_pushed value cells = option_map (λ v. Holds v ∷ cells) value
 
 -- the values of a range are pushed
 abbrev pub range_pushed : Option CellRange → List Cell → Option (List Cell)
-range_pushed range cells = option_and_then (λ r. option_map (λ vs. with_values vs cells) (values_at r cells)) range
+range_pushed range cells = option_and_then
+    (λ r. option_map (λ vs. with_values vs cells) (values_at r cells)) range
 
 -- these values are written onto a range whose values have equal types
 abbrev pub values_written : CellRange → List Value → List Value → List Cell → Option (List Cell)
-values_written r new old cells = if tys_eq (value_types new) (value_types old) then Some (overwritten r.above new cells) else None
+values_written r new old cells = if tys_eq (value_types new) (value_types old) then Some
+    (overwritten r.above new cells) else None
 
 -- the top values are written onto the cells of a range
 abbrev pub range_written : Option CellRange → List Cell → Option (List Cell)
 range_written range cells =
-    option_and_then (λ r. option_and_then (λ new. option_and_then (λ old. values_written r new old cells) (values_at r cells)) (values_on r.count cells)) range
+    option_and_then (λ r. option_and_then
+    (λ new. option_and_then (λ old. values_written r new old cells) (values_at r cells))
+    (values_on r.count cells)) range
 
 -- the one int of these values is changed where it stands
 abbrev pub int_written : (ℤ → ℤ) → ℕ → List Value → List Cell → Option (List Cell)
@@ -95,40 +102,49 @@ int_written f above _ cells = None
 
 -- the int at a range changes
 abbrev pub int_changed : (ℤ → ℤ) → Option CellRange → List Cell → Option (List Cell)
-int_changed f range cells = option_and_then (λ r. option_and_then (λ old. int_written f r.above old cells) (values_at r cells)) range
+int_changed f range cells = option_and_then
+    (λ r. option_and_then (λ old. int_written f r.above old cells) (values_at r cells)) range
 
 -- so many values are popped
 abbrev pub values_dropped : Option ℕ → List Cell → Option (List Cell)
-values_dropped count cells = option_and_then (λ n. option_map (λ _. drop n cells) (values_on n cells)) count
+values_dropped count cells = option_and_then
+    (λ n. option_map (λ _. drop n cells) (values_on n cells)) count
 
 -- Of the top values those are kept that begin so many cells above the lowest of them.
 abbrev pub values_kept : ℕ → ℕ → ℕ → List Cell → Option (List Cell)
 values_kept total offset count cells =
     if nat_le (offset + count) total
-    then option_map (λ vs. with_values (take count (drop (total - (offset + count)) vs)) (drop total cells)) (values_on total cells)
+    then option_map (λ vs. with_values (take count (drop (total - (offset + count)) vs))
+    (drop total cells)) (values_on total cells)
     else None
 
 -- DESTRUCT, whose three numbers are of bytes
 abbrev pub range_kept : ℕ → ℕ → ℕ → List Cell → Option (List Cell)
 range_kept total offset size cells =
-    option_and_then (λ t. option_and_then (λ o. option_and_then (λ n. values_kept t o n cells) (cell_count size)) (cell_count offset)) (cell_count total)
+    option_and_then (λ t. option_and_then
+    (λ o. option_and_then (λ n. values_kept t o n cells) (cell_count size)) (cell_count offset))
+    (cell_count total)
 
 -- ---- comparisons
 
 -- the answer to whether two runs of values with equal types are equal
 abbrev pub runs_eq : (Bool → Bool) → List Value → List Value → List Cell → Option (List Cell)
 runs_eq answer upper lower rest =
-    if tys_eq (value_types upper) (value_types lower) then Some (Holds (Int (as_int (answer (values_eq upper lower)))) ∷ rest) else None
+    if tys_eq (value_types upper) (value_types lower) then Some
+    (Holds (Int (as_int (answer (values_eq upper lower)))) ∷ rest) else None
 
 -- two runs of so many cells are compared
 abbrev pub runs_compared : (Bool → Bool) → Option ℕ → List Cell → Option (List Cell)
 runs_compared answer count cells =
-    option_and_then (λ n. option_and_then (λ upper. option_and_then (λ lower. runs_eq answer upper lower (drop (n + n) cells))
+    option_and_then (λ n. option_and_then
+    (λ upper. option_and_then (λ lower. runs_eq answer upper lower (drop (n + n) cells))
     (values_on n (drop n cells))) (values_on n cells)) count
 
 -- two values of this type are compared
 abbrev pub pair_eq : (Bool → Bool) → Ty → List Value → List Cell → Option (List Cell)
-pair_eq answer type vs rest = if tys_eq (value_types vs) (type ∷ type ∷ []) then runs_eq answer (take 1 vs) (drop 1 vs) rest else None
+pair_eq answer type vs rest = if tys_eq (value_types vs) (type ∷ type ∷ []) then runs_eq answer
+    (take 1 vs) (drop 1 vs) rest else None
 
 abbrev pub pair_compared : (Bool → Bool) → Option Ty → List Cell → Option (List Cell)
-pair_compared answer type cells = option_and_then (λ t. option_and_then (λ vs. pair_eq answer t vs (drop 2 cells)) (values_on 2 cells)) type
+pair_compared answer type cells = option_and_then
+    (λ t. option_and_then (λ vs. pair_eq answer t vs (drop 2 cells)) (values_on 2 cells)) type

@@ -20,9 +20,23 @@ pub record Frame : Type 0 where
 -- a script begins at its first instruction with nothing on its stack
 abbrev pub started : ℕ → ℕ → Frame
 started script self =
-    record { script = script; place = header_size; stack = record { cells = []; bp = 0 }; calls = []; pending = []; self = self }
+    record {
+      script = script;
+      place = header_size;
+      stack = record { cells = []; bp = 0 };
+      calls = [];
+      pending = [];
+      self = self;
+    }
 
 -- a captured state goes on where it was captured, on its own globals and locals
 abbrev pub continued : Saved → ℕ → Frame
 continued saved self =
-    record { script = saved.script; place = saved.place; stack = resumed saved; calls = []; pending = []; self = self }
+    record {
+      script = saved.script;
+      place = saved.place;
+      stack = resumed saved;
+      calls = [];
+      pending = [];
+      self = self;
+    }

@@ -75,16 +75,23 @@ script_named scripts name = position (λ s. bytes_eq (map to_ascii_lowercase nam
 -- The script begins, and this frame waits for it: unless it isn't listed, or as many scripts wait
 -- as may.
 abbrev pub script_begun : {W : Type 0} → Host W → Option ℕ → List ℕ → ℕ → Frame → State W → State W
-script_begun host None name target f s = record s { running = f; world = host.no_script target name s.world }
+script_begun host None name target f s = record s {
+  running = f;
+  world = host.no_script target name s.world;
+}
 script_begun host (Some script) name target f s =
-    if nat_lt (length s.waiting) waiting_limit then record s { running = started script target; waiting = f ∷ s.waiting }
+    if nat_lt (length s.waiting) waiting_limit then record s {
+      running = started script target;
+      waiting = f ∷ s.waiting;
+    }
     else record s { running = f; world = host.too_deep target name s.world }
 
 -- Nothing comes of an empty name, nor of a target that the caller may not run a script on.
 abbrev pub executed : {W : Type 0} → Host W → List ℕ → ℕ → Frame → State W → State W
 executed host [] target f s = record s { running = f }
 executed host (b ∷ name) target f s =
-    if host.may_run f.self target s.world then script_begun host (script_named host.scripts (b ∷ name)) (b ∷ name) target f s
+    if host.may_run f.self target s.world then script_begun host
+    (script_named host.scripts (b ∷ name)) (b ∷ name) target f s
     else record s { running = f }
 
 -- ---- a step
@@ -97,16 +104,19 @@ over (f ∷ waiting) s = Goes (record s { running = f; waiting = waiting })
 -- what an instruction's act leads to
 abbrev pub followed : {W : Type 0} → Host W → State W → Act → Next W
 followed host s (Moves f) = Goes (record s { running = f })
-followed host s (Asks routine values action f) = Goes (answered (host.engine routine f.self values action s.world) f s)
+followed host s (Asks routine values action f) = Goes
+    (answered (host.engine routine f.self values action s.world) f s)
 followed host s (Executes name target f) = Goes (executed host name target f s)
 followed host s Returns = over s.waiting s
 followed host s Divides = Divided
 
 -- the instruction at a frame's place
 abbrev pub next_op : List Script → Frame → Option PlainOp
-next_op scripts f = option_and_then (λ (script : Script). op_at script.code f.place) (slice_get scripts f.script)
+next_op scripts f = option_and_then (λ (script : Script). op_at script.code f.place)
+    (slice_get scripts f.script)
 
 -- One instruction: none where no instruction begins at the place, or where it has no case. That is
 -- a stack fault.
 unfoldable pub step : {W : Type 0} → Host W → State W → Option (Next W)
-step host s = option_and_then (λ op. option_map (followed host s) (act host.table op s.running)) (next_op host.scripts s.running)
+step host s = option_and_then (λ op. option_map (followed host s) (act host.table op s.running))
+    (next_op host.scripts s.running)

@@ -26,7 +26,8 @@ parts_of (File mode bytes) = (0, (mode, bytes))
 parts_of (Link text) = (1, (0, text))
 parts_of (Device bytes) = (2, (0, bytes))
 
-abbrev pub parts_back : (node : Node) → node_of (parts_of node).0 (parts_of node).1.0 (parts_of node).1.1 ≡ node
+abbrev pub parts_back : (node : Node)
+    → node_of (parts_of node).0 (parts_of node).1.0 (parts_of node).1.1 ≡ node
 parts_back (File mode bytes) = refl
 parts_back (Link text) = refl
 parts_back (Device bytes) = refl
@@ -59,9 +60,11 @@ text_in (Link text) = Some text
 text_in (Device bytes) = None
 
 -- the names of which something is so, each with what that is
-unfoldable pub each : {X : Type 0} → (Node → Option X) → X → Nodes → names.FinMap (slice_cmp nat_cmp) X
+unfoldable pub each : {X : Type 0} → (Node → Option X) → X → Nodes
+    → names.FinMap (slice_cmp nat_cmp) X
 each get other nodes =
-    names.retain_keys (names.from_entries (map (λ e. (e.0, unwrap_or (get e.1) other)) (names.entries nodes)))
+    names.retain_keys (names.from_entries
+    (map (λ e. (e.0, unwrap_or (get e.1) other)) (names.entries nodes)))
     (λ name. is_some (option_and_then get (names.get nodes name)))
 
 abbrev pub files_of : Nodes → Held
@@ -75,7 +78,8 @@ links_of nodes = each text_in [] nodes
 
 -- what is read of each name are bytes
 unfoldable pub AreBytes : Nodes → Type 0
-AreBytes nodes = (name bytes : List ℕ) → names.get (files_of nodes) name ≡ Some bytes → All (λ b. b < 256) bytes
+AreBytes nodes = (name bytes : List ℕ) → names.get (files_of nodes) name ≡ Some bytes
+    → All (λ b. b < 256) bytes
 
 -- a disk in memory: what stands under its names, which of them and which folders are marked so that
 -- they stay as they are, how many bytes there is room for, which contents it was told to have for
@@ -98,10 +102,18 @@ coded_names = coded_list (coded_list coded_ℕ)
 -- a disk is told from others as the tuple of its fields
 abbrev pub drive_code : Coded Drive
 drive_code =
-    code_by (Nodes × (List (List ℕ) × (List (List ℕ) × (ℕ × (List (List ℕ) × (List (List ℕ) × (List ℕ × (List ℕ × ℕ))))))))
-    (coded× nodes_code (coded× coded_names (coded× coded_names (coded× coded_ℕ (coded× coded_names (coded× coded_names
+    code_by (Nodes × (List (List ℕ)
+    × (List (List ℕ) × (ℕ × (List (List ℕ) × (List (List ℕ) × (List ℕ × (List ℕ × ℕ))))))))
+    (coded× nodes_code (coded× coded_names
+    (coded× coded_names (coded× coded_ℕ (coded× coded_names (coded× coded_names
     (coded× (coded_list coded_ℕ) (coded× (coded_list coded_ℕ) coded_ℕ))))))))
-    (λ d. (d.nodes, (d.marked, (d.closed, (d.room, (d.written, (d.listed, (d.failing, (d.breaking, d.calls)))))))))
+    (λ d. (
+      d.nodes,
+      (
+        d.marked,
+        (d.closed, (d.room, (d.written, (d.listed, (d.failing, (d.breaking, d.calls)))))),
+      ),
+    ))
     (λ p. record {
       nodes = p.0;
       marked = p.1.0;

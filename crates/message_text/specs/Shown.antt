@@ -17,14 +17,16 @@ is_arabic_mark a b = a == 216 && b == 156
 
 abbrev pub is_general_mark : ℕ → ℕ → ℕ → Bool
 is_general_mark a b c =
-    a == 226 && ((b == 128 && ((nat_le 142 c && nat_lt c 144) || (nat_le 168 c && nat_lt c 175))) || (b == 129 && nat_le 166 c && nat_lt c 170))
+    a == 226 && ((b == 128 && ((nat_le 142 c && nat_lt c 144) || (nat_le 168 c && nat_lt c 175)))
+    || (b == 129 && nat_le 166 c && nat_lt c 170))
 
 -- so do these bytes
 abbrev pub begins_hidden : List ℕ → Bool
 begins_hidden [] = false
 begins_hidden (a ∷ []) = false
 begins_hidden (a ∷ b ∷ []) = is_latin_control a b || is_arabic_mark a b
-begins_hidden (a ∷ b ∷ c ∷ rest) = is_latin_control a b || is_arabic_mark a b || is_general_mark a b c
+begins_hidden (a ∷ b ∷ c ∷ rest) = is_latin_control a b || is_arabic_mark a b
+    || is_general_mark a b c
 
 -- no such character stands in the bytes
 abbrev pub HidesNone : List ℕ → Type 0
@@ -38,7 +40,8 @@ pub record IsReadable (bytes : List ℕ) : Type 0 where
 -- a byte that is shown as it is, in a line that is readable or isn't: a tab, printable ASCII, or a
 -- byte of another character
 abbrev pub is_shown_plain : Bool → ℕ → Bool
-is_shown_plain text b = if nat_lt b 128 then (if b == 9 then true else nat_le 32 b && nat_lt b 127) else text
+is_shown_plain text b = if nat_lt b 128 then
+    (if b == 9 then true else nat_le 32 b && nat_lt b 127) else text
 
 -- how a byte of a line is shown
 unfoldable pub shown_byte : Bool → ℕ → List ℕ
@@ -109,10 +112,12 @@ pub record IsWindow (bytes : List ℕ) (at : ℕ) (w : Window) : Type 0 where
 -- that are readable or not
 abbrev pub line_text : Bool → List ℕ → Window → List ℕ
 line_text text bytes w =
-    points w.before ++ flat_map (shown_byte text) (slice_range bytes w.from w.to) ++ points w.behind ++ codes "\n"
+    points w.before ++ flat_map (shown_byte text) (slice_range bytes w.from w.to) ++ points w.behind
+    ++ codes "\n"
 
 abbrev pub caret_text : Bool → List ℕ → ℕ → Window → List ℕ
-caret_text text bytes at w = points_blank w.before ++ flat_map (blank_byte text) (slice_range bytes w.from at) ++ codes "^\n"
+caret_text text bytes at w = points_blank w.before
+    ++ flat_map (blank_byte text) (slice_range bytes w.from at) ++ codes "^\n"
 
 -- the text shows the place: in a window around it, whose bytes are shown as characters exactly
 -- where they are readable

@@ -18,8 +18,10 @@ CanFollow before t = CanGoOn (symbols_of (before ++ t ∷ []))
 -- of some tokens these are listed, in their order, that can follow
 pub data Lists (before : List Token) : List Token → List Token → Type 0 where
   none : Lists before [] []
-  can : (all listed : List Token) (t : Token) → Lists before all listed → CanFollow before t → Lists before (all ++ t ∷ []) (listed ++ t ∷ [])
-  cannot : (all listed : List Token) (t : Token) → Lists before all listed → (CanFollow before t → ⊥) → Lists before (all ++ t ∷ []) listed
+  can : (all listed : List Token) (t : Token) → Lists before all listed → CanFollow before t
+      → Lists before (all ++ t ∷ []) (listed ++ t ∷ [])
+  cannot : (all listed : List Token) (t : Token) → Lists before all listed
+      → (CanFollow before t → ⊥) → Lists before (all ++ t ∷ []) listed
 
 -- a token was put last where it can follow, and else nothing was
 pub data Adds (before : List Token) (t : Token) (old : List Token) : List Token → Type 0 where

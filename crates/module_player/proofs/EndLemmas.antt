@@ -136,7 +136,8 @@ pub all_queues_go : (name_of : Saved → List ℕ) (w : World Saved) (i j o : �
 all_queues_go name_of w i j o out next all world one object inside inv put =
     objects_go (queue_lines name_of) w.things i j out next all _ one (subst (λ n. i < n) (sym world.counted) inside) (queue_read name_of w i o object) inv put
 
-pub all_queues_end : (name_of : Saved → List ℕ) (w : World Saved) (i : ℕ) (out all : List ℕ) → IsWorld w → i ≡ count w → out ++ by_object (queue_lines name_of) (suc i) (drop i w.things) ≡ all → out ≡ all
+pub all_queues_end : (name_of : Saved → List ℕ) (w : World Saved) (i : ℕ) (out all : List ℕ) → IsWorld w → i ≡ count w
+    → out ++ by_object (queue_lines name_of) (suc i) (drop i w.things) ≡ all → out ≡ all
 all_queues_end name_of w i out all world same inv = objects_end (queue_lines name_of) w.things i out all (same ∙ sym world.counted) inv
 
 -- ---- entries that are taken off

@@ -47,4 +47,6 @@ module _ {X : Type 0} (runner : Runner X) (bounds : Bounds) where
 
 pub never_pauses : {X : Type 0} → (runner : Runner X) (entries until : ℕ) (w : World X) (h : How) → EndsAs h (plays.play runner entries until w).ending → h ≢ how.Pause
 never_pauses runner entries until w h ends is =
-    plays_whole runner (record { entries = entries; until = until; stop = entries + 1 }) ((entries + 1) - 0) (plays.unplayed w) (omega arith) (omega arith) (subst (λ a. EndsAs a (plays.play runner entries until w).ending) is ends)
+    plays_whole runner (record { entries = entries; until = until; stop = entries + 1 }) ((entries + 1) - 0)
+    (plays.unplayed w) (omega arith) (omega arith)
+    (subst (λ a. EndsAs a (plays.play runner entries until w).ending) is ends)

@@ -48,7 +48,8 @@ CountsPlay Fault before now = Rises before now
 CountsPlay NoMemory before now = now ≡ before
 
 -- An answer tells of this play, which went on from there and led to this world.
-pub record IsPlayed (s : Scene) (answer : Played) (first : Progress Saved) (p : plays.Played Saved) (v : World Saved) : Type 0 where
+pub record IsPlayed (s : Scene) (answer : Played) (first : Progress Saved) (p : plays.Played Saved)
+    (v : World Saved) : Type 0 where
   pub ending : EndsAs answer.how p.ending
   pub entries : WherePlayed answer.how (answer.entries ≡ p.last.entries)
   pub instructions : WherePlayed answer.how (answer.instructions ≡ p.last.count)
@@ -60,7 +61,8 @@ pub record IsPlayed (s : Scene) (answer : Played) (first : Progress Saved) (p : 
   pub executed : WherePlayed answer.how (answer.instructions ≤ first.count + 2 ^ 45)
 
 -- the same with what a sink took, and its faults
-pub record HasPlayed (s : Scene) (answer : Played) (first : Progress Saved) (p : plays.Played Saved) (tells : Bool) (before after : List ℕ) (faults now : ℕ) (v : World Saved) : Type 0 where
+pub record HasPlayed (s : Scene) (answer : Played) (first : Progress Saved) (p : plays.Played Saved)
+    (tells : Bool) (before after : List ℕ) (faults now : ℕ) (v : World Saved) : Type 0 where
   pub played : IsPlayed s answer first p v
   pub text : IsTrue tells → TakesTrace answer.how (trace_text p.last.trace) before after
   pub counts : CountsPlay answer.how faults now

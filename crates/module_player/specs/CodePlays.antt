@@ -25,7 +25,11 @@ ending_of runs.StackFault self = Stopped
 
 -- what is counted are instructions
 abbrev pub run_of : runs.Ran (World Saved) → Run Saved
-run_of r = record { ending = ending_of r.ending r.last.running.self; count = r.count; world = r.last.world }
+run_of r = record {
+  ending = ending_of r.ending r.last.running.self;
+  count = r.count;
+  world = r.last.world;
+}
 
 -- how scripts run that may take so many instructions in an entry
 unfoldable pub code_runner : Host (World Saved) → ℕ → Runner Saved
@@ -48,7 +52,8 @@ played_before entries count w = record { entries = entries; count = count; trace
 -- the play that goes on from there, and is broken off once `stop` entries were taken in all
 abbrev pub code_play_on : Host (World Saved) → ℕ → ℕ → ℕ → ℕ → ℕ → ℕ → World Saved → Played Saved
 code_play_on host limit entries until stop taken done w =
-    play_on (code_runner host limit) (record { entries = entries; until = until; stop = stop }) (played_before taken done w)
+    play_on (code_runner host limit) (record { entries = entries; until = until; stop = stop })
+    (played_before taken done w)
 
 -- ---- the text at its end
 

@@ -29,21 +29,25 @@ pub data IsCutIn (comes : ℕ → Entered Saved) (limit : ℕ) (w v : World Save
   -- nothing was done yet
   Unbegun : v ≡ w → IsCutIn comes limit w v
   -- it is as if it were stopped after so many instructions
-  Inside : (count : ℕ) → (comes count).stopped ≡ true → v ≡ (comes count).world → IsCutIn comes limit w v
+  Inside : (count : ℕ) → (comes count).stopped ≡ true → v ≡ (comes count).world
+      → IsCutIn comes limit w v
   -- all was done, but its lines are kept
   Over : v ≡ (comes limit).world → IsCutIn comes limit w v
   -- and they were handed out, of which the sink may have taken a prefix
   Told : v ≡ drained (comes limit).world → IsCutIn comes limit w v
 
 -- what is left where the next entry is this one, or where none is due
-pub data IsCutAt (h : Host (World Saved)) (limit : ℕ) (b : Option (Begun Saved)) (w v : World Saved) : Type 0 where
+pub data IsCutAt (h : Host (World Saved)) (limit : ℕ) (b : Option (Begun Saved))
+    (w v : World Saved) : Type 0 where
   Before : v ≡ w → IsCutAt h limit b w v
-  In : (d : Begun Saved) → b ≡ Some d → IsCutIn (λ n. entry_entered (code_runner h n) d) limit d.world v → IsCutAt h limit b w v
+  In : (d : Begun Saved) → b ≡ Some d
+      → IsCutIn (λ n. entry_entered (code_runner h n) d) limit d.world v → IsCutAt h limit b w v
 
 -- So many entries were finished, in so many instructions, when a play was cut short: the same play
 -- that is broken off behind them comes to this. The world is the one behind them, or in the next
 -- entry.
-pub record IsCutShort (h : Host (World Saved)) (limit until : ℕ) (finished : plays.Played Saved) (number executed : ℕ) (v : World Saved) : Type 0 where
+pub record IsCutShort (h : Host (World Saved)) (limit until : ℕ) (finished : plays.Played Saved)
+    (number executed : ℕ) (v : World Saved) : Type 0 where
   pub ending : finished.ending ≡ plays.Paused
   pub entries : number ≡ finished.last.entries
   pub instructions : executed ≡ finished.last.count
@@ -51,7 +55,8 @@ pub record IsCutShort (h : Host (World Saved)) (limit until : ℕ) (finished : p
 
 -- the text of the next entry's lines, behind those of a play that is broken off
 abbrev pub cut_lines : Host (World Saved) → ℕ → ℕ → plays.Played Saved → List ℕ
-cut_lines h limit until finished = trace_text (lines_of (code_runner h limit) (begin until finished.last.world))
+cut_lines h limit until finished = trace_text
+    (lines_of (code_runner h limit) (begin until finished.last.world))
 
 -- ---- facts of what was cut short alone
 

@@ -43,4 +43,5 @@ HasText NoMemory = ⊥
 -- the last line, with this word for how the play ended
 abbrev pub closing_line : List ℕ → ℕ → ℕ → ℕ → List ℕ
 closing_line word clock entries count =
-    codes "end " ++ word ++ codes " clock " ++ decimal clock ++ codes " entries " ++ decimal entries ++ codes " instructions " ++ decimal count ++ 10 ∷ []
+    codes "end " ++ word ++ codes " clock " ++ decimal clock ++ codes " entries " ++ decimal entries
+    ++ codes " instructions " ++ decimal count ++ 10 ∷ []

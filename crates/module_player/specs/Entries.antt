@@ -24,7 +24,8 @@ abbrev pub run_with_ending : Ended → ℕ → World Saved → Run Saved
 run_with_ending ended count w = record { ending = ending ended; count = count; world = w }
 
 -- Scripts ran from the one world to the other: how they ended, and after how many instructions.
-pub record HasRun (s : Scene) (limit : ℕ) (ended : Ended) (count : ℕ) (r : Run Saved) (w v : World Saved) : Type 0 where
+pub record HasRun (s : Scene) (limit : ℕ) (ended : Ended) (count : ℕ) (r : Run Saved)
+    (w v : World Saved) : Type 0 where
   pub is : r ≡ run_with_ending ended count v
   pub within : count ≤ limit
   pub fit : FitIn s v
@@ -37,10 +38,12 @@ as_entered e w = record { stopped = e.stopped; count = e.count; world = w }
 -- whatever fits a list of scripts and their tables, all states in the one world do, where those of
 -- the other do
 abbrev pub KeepsFits : World Saved → World Saved → Type 0
-KeepsFits w v = (scripts : List Script) (tables : Tables) → StatesFit scripts tables w → StatesFit scripts tables v
+KeepsFits w v = (scripts : List Script) (tables : Tables) → StatesFit scripts tables w
+    → StatesFit scripts tables v
 
 -- An entry led from the one world to the other, and posted so many entries at most.
-pub record Comes (s : Scene) (limit : ℕ) (posts : ℕ) (e : Entered) (p : plays.Entered Saved) (w v : World Saved) : Type 0 where
+pub record Comes (s : Scene) (limit : ℕ) (posts : ℕ) (e : Entered) (p : plays.Entered Saved)
+    (w v : World Saved) : Type 0 where
   pub is : p ≡ as_entered e v
   pub within : e.count ≤ limit
   pub fit : FitIn s v
@@ -51,7 +54,8 @@ abbrev pub HasActed : Scene → ℕ → Entered → plays.Entered Saved → Worl
 HasActed s limit e p w v = Comes s limit (limit + 1) e p w v
 
 -- and an entry for what a Turn posts before
-abbrev pub HasEntered : Scene → ℕ → Entered → plays.Entered Saved → World Saved → World Saved → Type 0
+abbrev pub HasEntered : Scene → ℕ → Entered → plays.Entered Saved → World Saved → World Saved
+    → Type 0
 HasEntered s limit e p w v = Comes s limit (limit + 2) e p w v
 
 -- a Turn of an object

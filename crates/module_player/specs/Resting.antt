@@ -32,14 +32,17 @@ pub record CanRest (tree : PlainGff) (most until : ℕ) (p : Progress Saved) : T
   pub version : (p.world.version ≡ 1) ⊎ (p.world.version ≡ 2)
   pub random : length p.world.random ≤ random_limit
   pub due : AllByRecursion (λ (e : Entry Saved). e.due < 2 ^ 61) p.world.agenda.entries
-  pub turns : (o : ℕ) → turn_count o p.world.agenda.entries ≡ turns_allowed (queue_of o p.world).busy
+  pub turns : (o : ℕ) → turn_count o p.world.agenda.entries
+      ≡ turns_allowed (queue_of o p.world).busy
   pub idle : (o : ℕ) → (queue_of o p.world).busy ≡ false → (queue_of o p.world).actions ≡ []
   pub clock : p.world.clock ≤ until
   pub entries : p.entries ≤ most
 
 -- Unless it is stopped inside an entry, the play of files ends so that it can be saved.
 abbrev pub PlaysCanRest : Type 0
-PlaysCanRest = (scripts : List Loaded) (table : EngineTable) (hooks : List Known) (limit entries until stop taken done : ℕ) (w : World Saved)
+PlaysCanRest = (scripts : List Loaded) (table : EngineTable) (hooks : List Known)
+    (limit entries until stop taken done : ℕ) (w : World Saved)
     → until ≤ time_limit → taken ≤ entries → CanGoOn until w
     → (code_play_on (host_of scripts table hooks) limit entries until stop taken done w).ending ≢ StoppedInside
-    → CanRest w.area.tree entries until (code_play_on (host_of scripts table hooks) limit entries until stop taken done w).last
+    → CanRest w.area.tree entries until
+    (code_play_on (host_of scripts table hooks) limit entries until stop taken done w).last

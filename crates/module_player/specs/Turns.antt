@@ -61,7 +61,8 @@ lines_of runner None = []
 lines_of runner (Some b) = (entry_entered runner b).world.trace
 
 -- what an answer tells of a turn
-abbrev pub Turns : TurnOutcome → Scene → ℕ → Runner Saved → Option (Begun Saved) → World Saved → World Saved → Type 0
+abbrev pub Turns : TurnOutcome → Scene → ℕ → Runner Saved → Option (Begun Saved) → World Saved
+    → World Saved → Type 0
 Turns Rests s limit runner None w v = v ≡ w
 Turns Rests s limit runner (Some b) w v = ⊥
 Turns (Goes n) s limit runner None w v = ⊥

@@ -60,10 +60,13 @@ unfolding two
 two_read xs at n fits h e =
     be_bytes_2 (get_or xs at 0 ∷ get_or xs (at + 1) 0 ∷ []) n refl (pair_fits _ _ (fits at) (fits (at + 1))) e ∙ sym (two_items xs at h)
 
-pub four_read : (xs : List ℕ) (at n : ℕ) → IsBytes xs → at + 4 ≤ length xs → n ≡ from_be_bytes w32 (get_or xs at 0 ∷ get_or xs (at + 1) 0 ∷ get_or xs (at + 2) 0 ∷ get_or xs (at + 3) 0 ∷ []) → four n ≡ take 4 (drop at xs)
+pub four_read : (xs : List ℕ) (at n : ℕ) → IsBytes xs → at + 4 ≤ length xs
+    → n ≡ from_be_bytes w32 (get_or xs at 0 ∷ get_or xs (at + 1) 0 ∷ get_or xs (at + 2) 0 ∷ get_or xs (at + 3) 0 ∷ [])
+    → four n ≡ take 4 (drop at xs)
 unfolding four
 four_read xs at n fits h e =
-    be_bytes_4 (get_or xs at 0 ∷ get_or xs (at + 1) 0 ∷ get_or xs (at + 2) 0 ∷ get_or xs (at + 3) 0 ∷ []) n refl (four_fit _ _ _ _ (fits at) (fits (at + 1)) (fits (at + 2)) (fits (at + 3))) e ∙ sym (four_items xs at h)
+    be_bytes_4 (get_or xs at 0 ∷ get_or xs (at + 1) 0 ∷ get_or xs (at + 2) 0 ∷ get_or xs (at + 3) 0 ∷ []) n refl
+    (four_fit _ _ _ _ (fits at) (fits (at + 1)) (fits (at + 2)) (fits (at + 3))) e ∙ sym (four_items xs at h)
 
 -- four bytes read as a signed number
 pub signed_read : (n : ℕ) → n < 2 ^ 32 → signed (cast_signed w32 n) ≡ four n

@@ -89,7 +89,8 @@ pub record IsFirstBad (ops : List PlainOp) (index place : ℕ) : Type 0 where
   pub op : PlainOp
   pub stands : slice_get (placed ops) index ≡ Some (place, op)
   pub bad : leads_well ops place op ≡ false
-  pub before : (at : ℕ) (other : PlainOp) → at < place → op_at ops at ≡ Some other → leads_well ops at other ≡ true
+  pub before : (at : ℕ) (other : PlainOp) → at < place → op_at ops at ≡ Some other
+      → leads_well ops at other ≡ true
 
 -- The list is that of a file: each instruction has a spelling and leads to beginnings of
 -- instructions, and the file is no larger than a file may be.

@@ -15,7 +15,8 @@ ReadAgain = (op : PlainOp) (rest : List ℕ) → IsOp op → op_of (spelling op 
 
 -- No instruction's spelling begins another's.
 abbrev pub NoneBeginsAnother : Type 0
-NoneBeginsAnother = (a b : PlainOp) (x y : List ℕ) → IsOp a → IsOp b → spelling a ++ x ≡ spelling b ++ y → a ≡ b
+NoneBeginsAnother = (a b : PlainOp) (x y : List ℕ) → IsOp a → IsOp b
+    → spelling a ++ x ≡ spelling b ++ y → a ≡ b
 
 -- Where an instruction is spelled, there is no fault, whatever follows.
 abbrev pub SpelledIsSound : Type 0
@@ -23,7 +24,8 @@ SpelledIsSound = (op : PlainOp) (rest : List ℕ) → IsOp op → fault_of (spel
 
 -- The instructions that are read from spellings in a row are those that were spelled.
 abbrev pub ListedAgain : Type 0
-ListedAgain = (n : ℕ) (ops : List PlainOp) → AllByRecursion IsOp ops → length (spellings ops) ≤ n → ops_of n (spellings ops) ≡ ops
+ListedAgain = (n : ℕ) (ops : List PlainOp) → AllByRecursion IsOp ops → length (spellings ops) ≤ n
+    → ops_of n (spellings ops) ≡ ops
 
 pub record SpellingLaws : Type 0 where
   pub again : ReadAgain
@@ -49,7 +51,8 @@ FileLength = (ops : List PlainOp) → length (file_bytes ops) ≡ file_length op
 
 -- the sizes of instructions before others add up
 abbrev pub SizesAdd : Type 0
-SizesAdd = (before behind : List PlainOp) → ops_size (before ++ behind) ≡ ops_size before + ops_size behind
+SizesAdd = (before behind : List PlainOp)
+    → ops_size (before ++ behind) ≡ ops_size before + ops_size behind
 
 pub record SizeLaws : Type 0 where
   pub op : SizeIsLength
@@ -70,27 +73,33 @@ pub record StandsBehind (ops : List PlainOp) (at : ℕ) (op : PlainOp) : Type 0 
 
 -- What begins at a place stands behind others.
 abbrev pub BegunStands : Type 0
-BegunStands = (ops : List PlainOp) (at : ℕ) (op : PlainOp) → op_at ops at ≡ Some op → StandsBehind ops at op
+BegunStands = (ops : List PlainOp) (at : ℕ) (op : PlainOp) → op_at ops at ≡ Some op
+    → StandsBehind ops at op
 
 -- What stands behind others begins at their file's length.
 abbrev pub StoodBegins : Type 0
-StoodBegins = (before behind : List PlainOp) (op : PlainOp) → op_at (before ++ op ∷ behind) (file_length before) ≡ Some op
+StoodBegins = (before behind : List PlainOp) (op : PlainOp)
+    → op_at (before ++ op ∷ behind) (file_length before) ≡ Some op
 
 -- An instruction lies between the header and the end of the file, and ends before another one
 -- begins.
 abbrev pub BegunLies : Type 0
-BegunLies = (ops : List PlainOp) (at : ℕ) (op : PlainOp) → op_at ops at ≡ Some op → (header_size ≤ at) × (at + op_size op ≤ file_length ops)
+BegunLies = (ops : List PlainOp) (at : ℕ) (op : PlainOp) → op_at ops at ≡ Some op
+    → (header_size ≤ at) × (at + op_size op ≤ file_length ops)
 
 abbrev pub OpsApart : Type 0
-OpsApart = (ops : List PlainOp) (at place : ℕ) (op other : PlainOp) → op_at ops at ≡ Some op → op_at ops place ≡ Some other → at < place → at + op_size op ≤ place
+OpsApart = (ops : List PlainOp) (at place : ℕ) (op other : PlainOp) → op_at ops at ≡ Some op
+    → op_at ops place ≡ Some other → at < place → at + op_size op ≤ place
 
 -- The list of places tells what begins where.
 abbrev pub PlacedBegins : Type 0
-PlacedBegins = (ops : List PlainOp) (i at : ℕ) (op : PlainOp) → slice_get (placed ops) i ≡ Some (at, op) → op_at ops at ≡ Some op
+PlacedBegins = (ops : List PlainOp) (i at : ℕ) (op : PlainOp)
+    → slice_get (placed ops) i ≡ Some (at, op) → op_at ops at ≡ Some op
 
 -- the list of places has each instruction that begins somewhere, with its index
 abbrev pub BegunIsPlaced : Type 0
-BegunIsPlaced = (ops : List PlainOp) (at : ℕ) (op : PlainOp) → op_at ops at ≡ Some op → (i : ℕ) × (slice_get (placed ops) i ≡ Some (at, op))
+BegunIsPlaced = (ops : List PlainOp) (at : ℕ) (op : PlainOp) → op_at ops at ≡ Some op
+    → (i : ℕ) × (slice_get (placed ops) i ≡ Some (at, op))
 
 pub record PlaceLaws : Type 0 where
   pub stands : BegunStands
@@ -102,7 +111,8 @@ pub record PlaceLaws : Type 0 where
 
 -- A file has one first instruction at most that leads badly.
 abbrev pub OneFirstBad : Type 0
-OneFirstBad = (ops : List PlainOp) (i j at place : ℕ) → IsFirstBad ops i at → IsFirstBad ops j place → (i ≡ j) × (at ≡ place)
+OneFirstBad = (ops : List PlainOp) (i j at place : ℕ) → IsFirstBad ops i at → IsFirstBad ops j place
+    → (i ≡ j) × (at ≡ place)
 
 -- A jump over the distance between two places leads from the one to the other.
 abbrev pub DistanceLeads : Type 0

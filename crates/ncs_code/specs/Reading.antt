@@ -99,4 +99,5 @@ op_of (code ∷ kind ∷ args) = slice_index_or rows code (bare Nop) kind args
 unfoldable pub ops_of : ℕ → List ℕ → List PlainOp
 ops_of zero bytes = []
 ops_of (suc n) [] = []
-ops_of (suc n) (b ∷ bytes) = op_of (b ∷ bytes) ∷ ops_of n (drop (op_size (op_of (b ∷ bytes))) (b ∷ bytes))
+ops_of (suc n) (b ∷ bytes) = op_of (b ∷ bytes) ∷ ops_of n
+    (drop (op_size (op_of (b ∷ bytes))) (b ∷ bytes))

@@ -151,7 +151,8 @@ first_two bytes = 0x100 * slice_index bytes 0 + slice_index bytes 1
 
 -- how many bytes the argument of CONST takes
 abbrev pub lit_size : ℕ → List ℕ → ℕ
-lit_size kind args = if kind == 0x05 then (if nat_lt (length args) 2 then 2 else 2 + first_two args) else 4
+lit_size kind args = if kind == 0x05 then
+    (if nat_lt (length args) 2 then 2 else 2 + first_two args) else 4
 
 -- How many bytes the arguments take that begin here, after an opcode and a type byte of its row.
 unfoldable pub args_size : ℕ → ℕ → List ℕ → ℕ

@@ -125,7 +125,8 @@ kept_made lines bytes all capacity room placed missing h few le =
     }
 
 -- a label that is made is placed nowhere
-pub made_unplaced : (lines : List Line) (bytes : List ℕ) (all : List Kept) (capacity : ℕ) (placed : List Bool) (missing label : ℕ) → IsKept lines bytes all capacity placed missing → length placed ≤ label
+pub made_unplaced : (lines : List Line) (bytes : List ℕ) (all : List Kept) (capacity : ℕ) (placed : List Bool)
+    (missing label : ℕ) → IsKept lines bytes all capacity placed missing → length placed ≤ label
     → placements lines label ≡ 0
 made_unplaced lines bytes all capacity placed missing label h above = unplaced (length placed) lines label h.fit above
 

@@ -84,7 +84,8 @@ each_op labels places small at (JumpTo kind label ∷ lines) fits near =
     (jump_is_op kind (places label) at (small label) (omega (arith, near)), each_op labels places small (at + 6) lines fits.1 (omega (arith, near)))
 each_op labels places small at (Label label ∷ lines) fits near = each_op labels places small at lines fits.1 (omega (arith, near))
 
-each_program : (labels : ℕ) (lines : List Line) → ((label : ℕ) → place_of_label lines label ≤ file_limit) → AllByRecursion (LineFits labels) lines → 13 + lines_size lines ≤ file_limit → AllByRecursion IsOp (program lines)
+each_program : (labels : ℕ) (lines : List Line) → ((label : ℕ) → place_of_label lines label ≤ file_limit)
+    → AllByRecursion (LineFits labels) lines → 13 + lines_size lines ≤ file_limit → AllByRecursion IsOp (program lines)
 unfolding program
 each_program labels lines small fits near = each_op labels (place_of_label lines) small 13 lines fits near
 
@@ -112,7 +113,9 @@ module _ (stood : StoodBegins) (add : SizesAdd) (leads : DistanceLeads) (places 
   begins_here met at (Label label) (next ∷ lines) left closes = begins_here met at next lines (left_label ops places met at label (next ∷ lines) left) closes
 
   -- so behind a jump
-  behind_jump : (met : List PlainOp) (at : ℕ) (kind : Jump) (label : ℕ) (lines : List Line) → IsLeft ops places met at (JumpTo kind label ∷ lines) → Closes (JumpTo kind label ∷ lines) → begins ops (at + 6) ≡ true
+  behind_jump : (met : List PlainOp) (at : ℕ) (kind : Jump) (label : ℕ) (lines : List Line)
+      → IsLeft ops places met at (JumpTo kind label ∷ lines) → Closes (JumpTo kind label ∷ lines)
+      → begins ops (at + 6) ≡ true
   behind_jump met at kind label [] left closes = absurd cc
   behind_jump met at kind label (next ∷ lines) left closes =
       begins_here (met ++ jump_over kind (distance at (places label)) ∷ []) (at + 6) next lines (left_jump add ops places met at kind label (next ∷ lines) left) closes
@@ -127,9 +130,14 @@ module _ (stood : StoodBegins) (add : SizesAdd) (leads : DistanceLeads) (places 
       → Closes (Instruction (StoreState globals locals) ∷ lines) → begins_with_jump lines ≡ true → begins ops (at + 16) ≡ true
   state_leads met at globals locals lines left closes follows =
       let place : at + 10 + 6 ≡ at + 16 = omega arith in
-      ap (begins ops) (sym place) ∙ behind_state (met ++ StoreState globals locals ∷ []) (at + 10) lines (left_op add ops places met at (StoreState globals locals) lines left) (closed_end (Instruction (StoreState globals locals)) lines closes) follows
+      ap (begins ops) (sym place)
+      ∙ behind_state (met ++ StoreState globals locals ∷ []) (at + 10) lines
+      (left_op add ops places met at (StoreState globals locals) lines left)
+      (closed_end (Instruction (StoreState globals locals)) lines closes) follows
 
-  op_leads : (whole : List Line) (met : List PlainOp) (at : ℕ) (op : PlainOp) (lines : List Line) → IsLeft ops places met at (Instruction op ∷ lines) → Closes (Instruction op ∷ lines) → IsLed whole (Instruction op)
+  op_leads : (whole : List Line) (met : List PlainOp) (at : ℕ) (op : PlainOp) (lines : List Line)
+      → IsLeft ops places met at (Instruction op ∷ lines) → Closes (Instruction op ∷ lines)
+      → IsLed whole (Instruction op)
       → (IsTrue (is_state (Instruction op)) → IsTrue (begins_with_jump lines)) → leads_well ops at op ≡ true
   op_leads whole met at (Jmp offset) lines left closes led state = absurd led
   op_leads whole met at (Jsr offset) lines left closes led state = absurd led
@@ -149,7 +157,8 @@ module _ (stood : StoodBegins) (add : SizesAdd) (leads : DistanceLeads) (places 
   label_begins met at label (Instruction op ∷ lines) left closes some =
       label_begins (met ++ op ∷ []) (at + op_size op) label lines (left_op add ops places met at op lines left) (closed_end (Instruction op) lines closes) some
   label_begins met at label (JumpTo kind other ∷ lines) left closes some =
-      label_begins (met ++ jump_over kind (distance at (places other)) ∷ []) (at + 6) label lines (left_jump add ops places met at kind other lines left) (closed_end (JumpTo kind other) lines closes) some
+      label_begins (met ++ jump_over kind (distance at (places other)) ∷ []) (at + 6) label lines
+      (left_jump add ops places met at kind other lines left) (closed_end (JumpTo kind other) lines closes) some
   label_begins met at label (Label other ∷ lines) left closes some =
       label_case at label lines (eqb other label) (λ same. begins_here met at (Label other) lines left closes)
       (λ rest. label_begins met at label lines (left_label ops places met at other lines left) (closed_end (Label other) lines closes) rest) some
@@ -174,7 +183,9 @@ module _ (stood : StoodBegins) (add : SizesAdd) (leads : DistanceLeads) (places 
   all_lead whole placed met at (Instruction op ∷ lines) left closes jumps states before behind o is =
       first_or at op o (ops_from places (at + op_size op) lines) before behind is
       (op_leads whole met at op lines left closes jumps.0 states.0)
-      (λ b same. all_lead whole placed (met ++ op ∷ []) (at + op_size op) lines (left_op add ops places met at op lines left) (closed_end (Instruction op) lines closes) jumps.1 states.1 b behind o same)
+      (λ b same. all_lead whole placed (met ++ op ∷ []) (at + op_size op) lines
+      (left_op add ops places met at op lines left)
+      (closed_end (Instruction op) lines closes) jumps.1 states.1 b behind o same)
   all_lead whole placed met at (JumpTo kind label ∷ lines) left closes jumps states before behind o is =
       let op : PlainOp = jump_over kind (distance at (places label)) in
       let six : op_size op ≡ 6 = size_jump kind (distance at (places label)) in
@@ -197,6 +208,7 @@ finished stood begun add leads labels lines fits on closes small =
       leads = λ at op is.
           let stands = begun (program lines) at op is in
           ap (λ n. leads_well (program lines) n op) stands.place
-          ∙ all_lead stood add leads (place_of_label lines) (program lines) lines placed [] 13 lines (all_left lines) closes on.jumps on.states stands.before stands.behind op (as_ops lines ∙ stands.both);
+          ∙ all_lead stood add leads (place_of_label lines) (program lines) lines placed [] 13 lines
+          (all_left lines) closes on.jumps on.states stands.before stands.behind op (as_ops lines ∙ stands.both);
       bounded = small;
     }

@@ -50,7 +50,9 @@ module _ (again : ReadAgain) (sized : SizeIsLength) where
   lines_and_op labels bytes (kept.Instruction s ∷ all) op size fits is_op =
       let stays = stays_spelled bytes (spelling op) s fits.0 in
       ap (λ o. Instruction o ∷ lines_of (drop s (bytes ++ spelling op)) (all ++ kept.Instruction size ∷ [])) stays.op
-      ∙ ap (λ (ls : List Line). Instruction (op_of bytes) ∷ ls) (ap (λ (b : List ℕ). lines_of b (all ++ kept.Instruction size ∷ [])) stays.rest ∙ lines_and_op labels (drop s bytes) all op size fits.1 is_op)
+      ∙ ap (λ (ls : List Line). Instruction (op_of bytes) ∷ ls)
+      (ap (λ (b : List ℕ). lines_of b (all ++ kept.Instruction size ∷ [])) stays.rest
+      ∙ lines_and_op labels (drop s bytes) all op size fits.1 is_op)
   lines_and_op labels bytes (kept.Jump kind label ∷ all) op size fits is_op = ap (λ (ls : List Line). JumpTo kind label ∷ ls) (lines_and_op labels bytes all op size fits.1 is_op)
   lines_and_op labels bytes (kept.Label label ∷ all) op size fits is_op = ap (λ (ls : List Line). Label label ∷ ls) (lines_and_op labels bytes all op size fits.1 is_op)
 
@@ -59,8 +61,16 @@ module _ (again : ReadAgain) (sized : SizeIsLength) where
       let long : length (spelling op) ≡ size = sym (size_is ∙ sized op) in
       let none : drop size (spelling op) ≡ [] = ap (drop size) (sym (append-nil (spelling op))) ∙ drop_at (spelling op) [] size long in
       let S : List ℕ → Type 0 = λ b. Spells (op_of b) size b × (drop size b ≡ []) in
-      subst S (sym is)
-      (subst (λ o. Spells o size (spelling op)) (sym (alone op is_op)) (record { is_op = is_op; prefix = sym (append-nil (spelling op)) ∙ ap (λ (r : List ℕ). spelling op ++ r) (sym none); size = size_is }), none)
+      subst S (sym is) (
+        subst (λ o. Spells o size (spelling op)) (sym (alone op is_op))
+            (record {
+              is_op = is_op;
+              prefix = sym (append-nil (spelling op))
+                  ∙ ap (λ (r : List ℕ). spelling op ++ r) (sym none);
+              size = size_is;
+            }),
+        none,
+      )
 
   pub fits_and_op : (labels : ℕ) (bytes : List ℕ) (all : List Kept) (op : PlainOp) (size : ℕ) → KeptFits labels bytes all → IsOp op → size ≡ op_size op
       → KeptFits labels (bytes ++ spelling op) (all ++ kept.Instruction size ∷ [])

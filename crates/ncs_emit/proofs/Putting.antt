@@ -53,7 +53,9 @@ put_op sized whole lines labels size file rest left others count h is =
       total = omega (arith, ap length taken, length-append file (take count rest), long, h.total, ap kept_total is);
     }
 
-pub put_jump_line : SizeIsLength → (whole : List ℕ) (lines : List Line) (labels size : ℕ) (file rest : List ℕ) (left others : List Kept) (kind : Jump) (label place : ℕ) → PutSoFar whole lines labels size file rest left
+pub put_jump_line : SizeIsLength
+    → (whole : List ℕ) (lines : List Line) (labels size : ℕ) (file rest : List ℕ) (left others : List Kept)
+    (kind : Jump) (label place : ℕ) → PutSoFar whole lines labels size file rest left
     → left ≡ kept.Jump kind label ∷ others → place ≡ place_of_label lines label → PutSoFar whole lines labels size (file ++ spelling (jump_over kind (distance (length file) place))) rest others
 put_jump_line sized whole lines labels size file rest left others kind label place h is at =
     let fits = subst (KeptFits labels rest) is h.fits in

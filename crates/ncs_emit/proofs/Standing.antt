@@ -106,7 +106,9 @@ left_jump add ops places met at kind label lines left = record {
 pub left_label : (ops : List PlainOp) (places : ℕ → ℕ) (met : List PlainOp) (at label : ℕ) (lines : List Line) → IsLeft ops places met at (Label label ∷ lines) → IsLeft ops places met at lines
 left_label ops places met at label lines left = record { same = left.same; place = left.place }
 
-pub op_here : StoodBegins → (ops : List PlainOp) (places : ℕ → ℕ) (met : List PlainOp) (at : ℕ) (op : PlainOp) (lines : List Line) → IsLeft ops places met at (Instruction op ∷ lines) → op_at ops at ≡ Some op
+pub op_here : StoodBegins
+    → (ops : List PlainOp) (places : ℕ → ℕ) (met : List PlainOp) (at : ℕ) (op : PlainOp) (lines : List Line)
+    → IsLeft ops places met at (Instruction op ∷ lines) → op_at ops at ≡ Some op
 op_here begins ops places met at op lines left = ap (λ o. op_at o at) left.same ∙ ap (op_at (met ++ op ∷ ops_from places (at + op_size op) lines)) left.place ∙ begins met _ op
 
 pub jump_here : StoodBegins → (ops : List PlainOp) (places : ℕ → ℕ) (met : List PlainOp) (at : ℕ) (kind : Jump) (label : ℕ) (lines : List Line) → IsLeft ops places met at (JumpTo kind label ∷ lines)
@@ -116,7 +118,9 @@ jump_here begins ops places met at kind label lines left =
     ap (λ o. op_at o at) left.same ∙ ap (op_at (met ++ op ∷ ops_from places (at + 6) lines)) left.place ∙ begins met _ op
 
 module _ (begins : StoodBegins) (add : SizesAdd) (leads : DistanceLeads) (all : List Line) (once : IsPlacedOnce all) (ops : List PlainOp) where
-  stand_on : (before lines : List Line) (met : List PlainOp) (at : ℕ) → all ≡ before ++ lines → at ≡ 13 + lines_size before → IsLeft ops (place_of_label all) met at lines → LinesStand ops (place_of_label all) at lines
+  stand_on : (before lines : List Line) (met : List PlainOp) (at : ℕ) → all ≡ before ++ lines
+      → at ≡ 13 + lines_size before → IsLeft ops (place_of_label all) met at lines
+      → LinesStand ops (place_of_label all) at lines
   stand_on before [] met at is place left = tt
   stand_on before (Instruction op ∷ lines) met at is place left = (
     op_here begins ops (place_of_label all) met at op lines left,
@@ -129,7 +133,9 @@ module _ (begins : StoodBegins) (add : SizesAdd) (leads : DistanceLeads) (all : 
         (omega (arith, place, lines_size_adds before (JumpTo kind label ∷ []))) (left_jump add ops (place_of_label all) met at kind label lines left),
   )
   stand_on before (Label label ∷ lines) met at is place left =
-      let on = stand_on (before ++ Label label ∷ []) lines met at (is ∙ one_more before lines (Label label)) (omega (arith, place, lines_size_adds before (Label label ∷ []))) (left_label ops (place_of_label all) met at label lines left) in
+      let on = stand_on (before ++ Label label ∷ []) lines met at (is ∙ one_more before lines (Label label))
+      (omega (arith, place, lines_size_adds before (Label label ∷ [])))
+      (left_label ops (place_of_label all) met at label lines left) in
       (label_stands all before lines label at once is place, subst (λ n. LinesStand ops (place_of_label all) n lines) (omega arith) on)
 
 pub all_left : (lines : List Line) → IsLeft (program lines) (place_of_label lines) [] 13 lines

@@ -13,15 +13,18 @@ use Rattle.ncs_emit.specs.Leading.{LineFits}
 -- the lines that are kept as spellings and what stands between them
 abbrev pub lines_of : List ℕ → List Kept → List Line
 lines_of bytes [] = []
-lines_of bytes (kept.Instruction size ∷ others) = Instruction (op_of bytes) ∷ lines_of (drop size bytes) others
+lines_of bytes (kept.Instruction size ∷ others) = Instruction (op_of bytes) ∷ lines_of
+    (drop size bytes) others
 lines_of bytes (kept.Jump kind label ∷ others) = JumpTo kind label ∷ lines_of bytes others
 lines_of bytes (kept.Label label ∷ others) = Label label ∷ lines_of bytes others
 
 -- The spellings and what is kept of the lines fit each other, and each label was made.
 abbrev pub KeptFits : ℕ → List ℕ → List Kept → Type 0
 KeptFits labels bytes [] = bytes ≡ []
-KeptFits labels bytes (kept.Instruction size ∷ others) = Spells (op_of bytes) size bytes × KeptFits labels (drop size bytes) others
-KeptFits labels bytes (kept.Jump kind label ∷ others) = (label < labels) × KeptFits labels bytes others
+KeptFits labels bytes (kept.Instruction size ∷ others) = Spells (op_of bytes) size bytes
+    × KeptFits labels (drop size bytes) others
+KeptFits labels bytes (kept.Jump kind label ∷ others) = (label < labels)
+    × KeptFits labels bytes others
 KeptFits labels bytes (kept.Label label ∷ others) = (label < labels) × KeptFits labels bytes others
 
 -- how many labels are not placed yet
@@ -36,17 +39,21 @@ placed_count true = 1
 placed_count false = 0
 
 -- What is kept stands for all lines, and there is room for the labels that are still to be placed.
-pub record IsWhole (lines : List Line) (bytes : List ℕ) (kept : List Kept) (capacity labels missing : ℕ) : Type 0 where
+pub record IsWhole (lines : List Line) (bytes : List ℕ) (kept : List Kept)
+    (capacity labels missing : ℕ) : Type 0 where
   pub fits : KeptFits labels bytes kept
   pub same : lines_of bytes kept ≡ lines
   pub room : length kept + missing ≤ capacity
 
 -- The parts of an emitter agree. What is kept stands for the lines as long as their file is not too
 -- large.
-pub record IsKept (lines : List Line) (bytes : List ℕ) (kept : List Kept) (capacity : ℕ) (placed : List Bool) (missing : ℕ) : Type 0 where
-  pub whole : header_size + lines_size lines ≤ file_limit → IsWhole lines bytes kept capacity (length placed) missing
+pub record IsKept (lines : List Line) (bytes : List ℕ) (kept : List Kept) (capacity : ℕ)
+    (placed : List Bool) (missing : ℕ) : Type 0 where
+  pub whole : header_size + lines_size lines ≤ file_limit
+      → IsWhole lines bytes kept capacity (length placed) missing
   pub fit : AllByRecursion (LineFits (length placed)) lines
-  pub table : (label : ℕ) → label < length placed → placements lines label ≡ placed_count (slice_index_or placed label false)
+  pub table : (label : ℕ) → label < length placed
+      → placements lines label ≡ placed_count (slice_index_or placed label false)
   pub left : missing ≡ count_open placed
   pub few : length placed < 2 ^ 32
 

@@ -58,7 +58,8 @@ place_of_label lines label = place_from header_size lines label
 abbrev pub ops_from : (ℕ → ℕ) → ℕ → List Line → List PlainOp
 ops_from places at [] = []
 ops_from places at (Instruction op ∷ lines) = op ∷ ops_from places (at + op_size op) lines
-ops_from places at (JumpTo kind label ∷ lines) = jump_over kind (distance at (places label)) ∷ ops_from places (at + 6) lines
+ops_from places at (JumpTo kind label ∷ lines) = jump_over kind
+    (distance at (places label)) ∷ ops_from places (at + 6) lines
 ops_from places at (Label label ∷ lines) = ops_from places at lines
 
 -- the instructions of labelled code: each jump has the distance from its own start to its label's

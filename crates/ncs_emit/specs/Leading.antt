@@ -37,7 +37,8 @@ begins_with_jump _ = false
 -- Each STORE_STATE is directly followed by a jump.
 abbrev pub HasLedStates : List Line → Type 0
 HasLedStates [] = Unit {0}
-HasLedStates (line ∷ lines) = (IsTrue (is_state line) → IsTrue (begins_with_jump lines)) × HasLedStates lines
+HasLedStates (line ∷ lines) = (IsTrue (is_state line) → IsTrue (begins_with_jump lines))
+    × HasLedStates lines
 
 -- a part of the whole code
 pub record LeadsOn (whole lines : List Line) : Type 0 where

@@ -19,4 +19,5 @@ LineStands ops places at (Label label) = places label ≡ at
 -- The lines stand in the file one after another, the first at this place.
 abbrev pub LinesStand : List PlainOp → (ℕ → ℕ) → ℕ → List Line → Type 0
 LinesStand ops places at [] = Unit {0}
-LinesStand ops places at (line ∷ lines) = LineStands ops places at line × LinesStand ops places (at + line_size line) lines
+LinesStand ops places at (line ∷ lines) = LineStands ops places at line
+    × LinesStand ops places (at + line_size line) lines

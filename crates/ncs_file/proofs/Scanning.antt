@@ -69,7 +69,9 @@ scan_goes_on sizes bytes table more at count size op so_far lt spells is =
     record {
       ops = ops ++ op ∷ [];
       each = each_more ops op so_far.each spells.is_op;
-      before = so_far.before ∙ ap (λ (rest : List ℕ). spellings ops ++ rest) here ∙ sym (append_assoc (spellings ops) (spelling op) (drop (at + size) bytes)) ∙ ap (λ (text : List ℕ). text ++ drop (at + size) bytes) spelled;
+      before = so_far.before ∙ ap (λ (rest : List ℕ). spellings ops ++ rest) here
+          ∙ sym (append_assoc (spellings ops) (spelling op) (drop (at + size) bytes))
+          ∙ ap (λ (text : List ℕ). text ++ drop (at + size) bytes) spelled;
       stands = omega (arith, so_far.stands, spells.size, sizes.add ops (op ∷ []));
       marked = is ∙ ap (λ n. table ++ true ∷ replicate (n - 1) false) spells.size ∙ ap (λ (t : List Bool). t ++ mark op) so_far.marked ∙ flat_map_more mark (replicate 13 false) ops op;
       number = omega (arith, so_far.number, length-append ops (op ∷ []));
@@ -83,7 +85,9 @@ scan_ends spells sizes bytes table at count so_far end header =
     let size : length bytes ≡ file_length ops = omega (arith, so_far.inside, so_far.stands, end) in
     let rest : drop 13 bytes ≡ spellings ops = so_far.before ∙ ap (λ (rest : List ℕ). spellings ops ++ rest) (none_left bytes at end) ∙ append-nil (spellings ops) in
     let whole : bytes ≡ (magic ++ four (file_length ops)) ++ spellings ops =
-    sym (take-append-drop 13 bytes) ∙ ap (λ (header : List ℕ). header ++ drop 13 bytes) (header ∙ ap (λ n. magic ++ four n) size) ∙ ap (λ (text : List ℕ). (magic ++ four (file_length ops)) ++ text) rest in
+    sym (take-append-drop 13 bytes)
+    ∙ ap (λ (header : List ℕ). header ++ drop 13 bytes) (header ∙ ap (λ n. magic ++ four n) size)
+    ∙ ap (λ (text : List ℕ). (magic ++ four (file_length ops)) ++ text) rest in
     let spelled : bytes ≡ file_bytes ops = whole ∙ append_assoc magic (four (file_length ops)) (spellings ops) in
     let is : ops ≡ listing bytes = sym (listing_is spells sizes bytes ops so_far.each spelled) in
     record {
@@ -166,7 +170,8 @@ record Meets (bytes : List ℕ) (met : List PlainOp) (at size : ℕ) (op : Plain
   prefix : drop at bytes ≡ spelling op ++ spellings behind
   size_is : size ≡ op_size op
 
-meet : (bytes : List ℕ) (met : List PlainOp) (at size : ℕ) (op o : PlainOp) (behind : List PlainOp) → AllByRecursion IsOp (o ∷ behind) → listing bytes ≡ met ++ o ∷ behind → drop at bytes ≡ spellings (o ∷ behind)
+meet : (bytes : List ℕ) (met : List PlainOp) (at size : ℕ) (op o : PlainOp) (behind : List PlainOp)
+    → AllByRecursion IsOp (o ∷ behind) → listing bytes ≡ met ++ o ∷ behind → drop at bytes ≡ spellings (o ∷ behind)
     → (op ≡ o) × (size ≡ op_size o) → Meets bytes met at size op
 meet bytes met at size op o behind each both rest found =
     let M : PlainOp → Type 0 = λ x. Meets bytes met at size x in
@@ -188,7 +193,8 @@ same_op : (x y : PlainOp) → Some x ≡ Some y → x ≡ y
 same_op x y same = cc
 
 -- where one leads well, all up to its end do
-well_on : PlaceLaws → (ops : List PlainOp) (at : ℕ) (op : PlainOp) → op_at ops at ≡ Some op → leads_well ops at op ≡ true → ((n : ℕ) (o : PlainOp) → n < at → op_at ops n ≡ Some o → leads_well ops n o ≡ true)
+well_on : PlaceLaws → (ops : List PlainOp) (at : ℕ) (op : PlainOp) → op_at ops at ≡ Some op
+    → leads_well ops at op ≡ true → ((n : ℕ) (o : PlainOp) → n < at → op_at ops n ≡ Some o → leads_well ops n o ≡ true)
     → (n : ℕ) (o : PlainOp) → n < at + op_size op → op_at ops n ≡ Some o → leads_well ops n o ≡ true
 well_on places ops at op is well before n o lt there =
     elim (cases_lt n at) [

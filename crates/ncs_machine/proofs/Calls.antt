@@ -124,7 +124,9 @@ typed (p ∷ ps) cells pending t h = first_typed p ps (typed ps) (is_action p.ty
 
 pub call_case : (table : EngineTable) (n count : ℕ) (r : Routine) (f : Frame) → slice_get table.routines n ≡ Some r → engine_called table n count f ≢ None
     → arguments r count f.stack.cells f.pending ≢ None
-call_case table n count r f listed h none = h (ap (option_and_then (λ r. option_and_then (asked n count r f) (arguments r count f.stack.cells f.pending))) listed ∙ ap (option_and_then (asked n count r f)) none)
+call_case table n count r f listed h none = h
+    (ap (option_and_then (λ r. option_and_then (asked n count r f) (arguments r count f.stack.cells f.pending))) listed
+    ∙ ap (option_and_then (asked n count r f)) none)
 
 pub call_listed : (table : EngineTable) (n count : ℕ) (f : Frame) → slice_get table.routines n ≡ None → engine_called table n count f ≡ None
 call_listed table n count f none = ap (option_and_then (λ r. option_and_then (asked n count r f) (arguments r count f.stack.cells f.pending))) none
@@ -207,7 +209,9 @@ pub executes_both : (e : EngineView) (n count : ℕ) (r : Routine) (before after
     → engine_called e.table n count before ≢ None → IsCall r n count before after a → AreNameAndTarget a.values
 executes_both e n count r before after a listed other case call = (executes_parts e n count r before after a listed other case call).0
 
-begun_any : (h : Host (World Saved)) (number : Option ℕ) (name : List ℕ) (target : ℕ) (f : Frame) (s : State (World Saved)) → script_begun h number name target f s ≡ script_begun h number name target f (record s { running = f })
+begun_any : (h : Host (World Saved)) (number : Option ℕ) (name : List ℕ) (target : ℕ) (f : Frame)
+    (s : State (World Saved))
+    → script_begun h number name target f s ≡ script_begun h number name target f (record s { running = f })
 begun_any h None name target f s = refl
 begun_any h (Some script) name target f s = refl
 
@@ -216,7 +220,8 @@ executed_any : (h : Host (World Saved)) (name : List ℕ) (target : ℕ) (f : Fr
 executed_any h [] target f s = refl
 executed_any h (b ∷ name) target f s = ap (λ t. if h.may_run f.self target s.world then t else record s { running = f }) (begun_any h (script_named h.scripts (b ∷ name)) (b ∷ name) target f s)
 
-executed_same : (h : Host (World Saved)) (name : List ℕ) (target : ℕ) (f : Frame) (s t : State (World Saved)) → s.waiting ≡ t.waiting → s.world ≡ t.world → executed h name target f s ≡ executed h name target f t
+executed_same : (h : Host (World Saved)) (name : List ℕ) (target : ℕ) (f : Frame) (s t : State (World Saved))
+    → s.waiting ≡ t.waiting → s.world ≡ t.world → executed h name target f s ≡ executed h name target f t
 executed_same h name target f s t a b =
     from (record s { running = f }) (record t { running = f }) name (both a b) (executed_any h name target f s) (executed_any h name target f t)
   where

@@ -70,7 +70,11 @@ stored_self : (globals locals : ℕ) (f : Frame) (a : Act) → stored globals lo
 stored_self globals locals f a h =
     let g = then_is (λ g. option_and_then (λ l. option_map (λ saved.
     Moves (record f { place = next_place f.place (ops.StoreState globals locals); pending = saved ∷ f.pending })) (stored_cells g l f)) (cell_count locals)) (cell_count globals) a h in
-    let l = then_is (λ l. option_map (λ saved. Moves (record f { place = next_place f.place (ops.StoreState globals locals); pending = saved ∷ f.pending })) (stored_cells g.0 l f)) (cell_count locals) a g.2 in
+    let l = then_is (λ l. option_map
+    (λ saved. Moves (record f {
+      place = next_place f.place (ops.StoreState globals locals);
+      pending = saved ∷ f.pending;
+    })) (stored_cells g.0 l f)) (cell_count locals) a g.2 in
     let c = map_is (λ saved. Moves (record f { place = next_place f.place (ops.StoreState globals locals); pending = saved ∷ f.pending })) (stored_cells g.0 l.0 f) a l.2 in
     subst (SelfKept f) c.2 refl
 

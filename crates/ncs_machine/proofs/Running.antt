@@ -77,7 +77,8 @@ run_divides : {W : Type 0} (h : Host W) (s : State W) (k : ℕ) → step h s ≡
 run_divides h s k e = ap (λ n. after_step n s (run h k)) e
 
 module _ (scripts : List Script) (e : EngineView) (tables : Tables) (limit : ℕ) (first : State (World Saved)) where
-  pub begins : Grounds scripts e tables first.world → IsSafe scripts tables (Reached scripts e tables first.world) first → AreObjects (count first.world) first → IsWorld first.world → SoFar scripts e tables limit first 0 first
+  pub begins : Grounds scripts e tables first.world → IsSafe scripts tables (Reached scripts e tables first.world) first
+      → AreObjects (count first.world) first → IsWorld first.world → SoFar scripts e tables limit first 0 first
   begins g safe objects world = record {
     grounds = g;
     safe = safe;
@@ -250,7 +251,8 @@ grounds_are scripts e tables first steps engine no_script too_deep types table m
   laws = record { engine = engine; no_script = no_script; too_deep = too_deep };
 }
 
-pub run_begins : (scripts : List Script) (e : EngineView) (tables : Tables) (limit : ℕ) (m : Frames) (w : World Saved) → StepsSafely (World Saved) → EngineKeeps Saved → NoScriptKeeps Saved → TooDeepKeeps Saved
+pub run_begins : (scripts : List Script) (e : EngineView) (tables : Tables) (limit : ℕ) (m : Frames) (w : World Saved)
+    → StepsSafely (World Saved) → EngineKeeps Saved → NoScriptKeeps Saved → TooDeepKeeps Saved
     → TablesTypeExecuteScript → IsTable e.table → IsWorld w → AllMeet e.table scripts tables → AnswersTyped e → IsSafeFrame scripts tables m.running → m.waiting ≡ [] → m.running.self ≤ count w
     → SoFar scripts e tables limit (state m w) 0 (state m w)
 run_begins scripts e tables limit m w steps engine no_script too_deep types table world meets typed safe alone caller =
@@ -262,7 +264,8 @@ run_begins scripts e tables limit m w steps engine no_script too_deep types tabl
 -- ---- how it ends
 
 is_run : (ran : answers.Ran) (n self : ℕ) (r : Ran (World Saved)) (ending : Ending) (s : State (World Saved)) (scripts : List Script) (tables : Tables) (w v : World Saved)
-    → r ≡ record { ending = ending; count = n; last = s } → EndsAs ran ending → self ≡ s.running.self → v ≡ s.world → (StatesFit scripts tables w → StatesFit scripts tables s.world) → IsLeft n w s.world
+    → r ≡ record { ending = ending; count = n; last = s } → EndsAs ran ending → self ≡ s.running.self → v ≡ s.world
+    → (StatesFit scripts tables w → StatesFit scripts tables s.world) → IsLeft n w s.world
     → ((fact : Type 0) → fact → WhereRan ran fact) → IsRunOf ran n self r scripts tables w v
 is_run ran n self r ending s scripts tables w v is ends own world fit left told = record {
   ending = subst (EndsAs ran) (sym (ap (λ (r : Ran (World Saved)). r.ending) is)) ends;
@@ -273,24 +276,31 @@ is_run ran n self r ending s scripts tables w v is ends own world fit left told 
   left = told _ (subst (IsLeft n w) (sym world) left);
 }
 
-pub ended_run : (scripts : List Script) (e : EngineView) (tables : Tables) (limit : ℕ) (m first : Frames) (w v u : World Saved) (done self : ℕ) → SoFar scripts e tables limit (state first w) done (state m v) → done < limit
+pub ended_run : (scripts : List Script) (e : EngineView) (tables : Tables) (limit : ℕ) (m first : Frames)
+    (w v u : World Saved) (done self : ℕ) → SoFar scripts e tables limit (state first w) done (state m v) → done < limit
     → step (host scripts e) (state m v) ≡ Some Ends → self ≡ m.running.self → u ≡ v
     → IsRunOf answer.Ended (done + 1) self (run (host scripts e) limit (state first w)) scripts tables w u
 ended_run scripts e tables limit m first w v u done self x less h own world =
-    is_run answer.Ended (done + 1) self (run (host scripts e) limit (state first w)) Over (state m v) scripts tables w u (ends scripts e tables limit (state first w) done (state m v) x less h) refl own world
+    is_run answer.Ended (done + 1) self (run (host scripts e) limit (state first w)) Over (state m v) scripts tables w u
+    (ends scripts e tables limit (state first w) done (state m v) x less h) refl own world
     (reached_fits scripts e tables w v x.safe.world) (more_left done (done + 1) w v (omega arith) x.left) (λ fact f. f)
 
-pub divided_run : (scripts : List Script) (e : EngineView) (tables : Tables) (limit : ℕ) (m first : Frames) (w v u : World Saved) (done self : ℕ) → SoFar scripts e tables limit (state first w) done (state m v) → done < limit
+pub divided_run : (scripts : List Script) (e : EngineView) (tables : Tables) (limit : ℕ) (m first : Frames)
+    (w v u : World Saved) (done self : ℕ) → SoFar scripts e tables limit (state first w) done (state m v) → done < limit
     → step (host scripts e) (state m v) ≡ Some Divided → self ≡ m.running.self → u ≡ v
     → IsRunOf answer.Divide (done + 1) self (run (host scripts e) limit (state first w)) scripts tables w u
 divided_run scripts e tables limit m first w v u done self x less h own world =
-    is_run answer.Divide (done + 1) self (run (host scripts e) limit (state first w)) ZeroDivisor (state m v) scripts tables w u (divides scripts e tables limit (state first w) done (state m v) x less h) refl own world
+    is_run answer.Divide (done + 1) self (run (host scripts e) limit (state first w)) ZeroDivisor
+    (state m v) scripts tables w u
+    (divides scripts e tables limit (state first w) done (state m v) x less h) refl own world
     (reached_fits scripts e tables w v x.safe.world) (more_left done (done + 1) w v (omega arith) x.left) (λ fact f. f)
 
-pub stopped_run : (scripts : List Script) (e : EngineView) (tables : Tables) (limit : ℕ) (m first : Frames) (w v : World Saved) (done self : ℕ) → SoFar scripts e tables limit (state first w) done (state m v) → done ≡ limit
+pub stopped_run : (scripts : List Script) (e : EngineView) (tables : Tables) (limit : ℕ) (m first : Frames)
+    (w v : World Saved) (done self : ℕ) → SoFar scripts e tables limit (state first w) done (state m v) → done ≡ limit
     → self ≡ m.running.self → IsRunOf answer.Limit limit self (run (host scripts e) limit (state first w)) scripts tables w v
 stopped_run scripts e tables limit m first w v done self x h own =
-    is_run answer.Limit limit self (run (host scripts e) limit (state first w)) OutOfInstructions (state m v) scripts tables w v (stops scripts e tables limit (state first w) done (state m v) x h) refl own refl
+    is_run answer.Limit limit self (run (host scripts e) limit (state first w)) OutOfInstructions
+    (state m v) scripts tables w v (stops scripts e tables limit (state first w) done (state m v) x h) refl own refl
     (reached_fits scripts e tables w v x.safe.world) (more_left done limit w v (omega (arith, h)) x.left) (λ fact f. f)
 
 pub cut_run : (n self : ℕ) (r : Ran (World Saved)) (scripts : List Script) (tables : Tables) (w v : World Saved) → IsRunOf answer.NoMemory n self r scripts tables w v

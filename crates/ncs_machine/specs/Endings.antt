@@ -37,11 +37,13 @@ WhereCut NoMemory fact = fact
 
 -- A run from this state took just so many instructions, and was cut short in the next one: the
 -- world is the one between the two, or already as the next one's engine call left it.
-pub record IsCut (h : Host (World Saved)) (instructions self : ℕ) (first : State (World Saved)) (v : World Saved) : Type 0 where
+pub record IsCut (h : Host (World Saved)) (instructions self : ℕ) (first : State (World Saved))
+    (v : World Saved) : Type 0 where
   pub ending : (run h instructions first).ending ≡ OutOfInstructions
   pub counted : (run h instructions first).count ≡ instructions
   pub own : self ≡ (run h instructions first).last.running.self
-  pub world : IsHalfway (run h instructions first).last.world (run h (suc instructions) first).last.world v
+  pub world : IsHalfway (run h instructions first).last.world
+      (run h (suc instructions) first).last.world v
 
 -- What so many instructions leave of a world: objects and clock, an entry posted for each at most,
 -- and objects that act act on.
@@ -53,7 +55,8 @@ pub record IsLeft {X : Type 0} (instructions : ℕ) (w v : World X) : Type 0 whe
   pub acting : (o : ℕ) → IsActing o w → IsActing o v
 
 -- An answer, a count and an object tell this run, which led from the one world to the other.
-pub record IsRunOf (ran : Ran) (instructions self : ℕ) (r : Run (World Saved)) (scripts : List Script) (tables : Tables) (w v : World Saved) : Type 0 where
+pub record IsRunOf (ran : Ran) (instructions self : ℕ) (r : Run (World Saved))
+    (scripts : List Script) (tables : Tables) (w v : World Saved) : Type 0 where
   pub ending : EndsAs ran r.ending
   pub counted : WhereRan ran (instructions ≡ r.count)
   pub own : WhereRan ran (self ≡ r.last.running.self)

@@ -56,7 +56,8 @@ abbrev pub engine_view : EngineTable → List Known → EngineView
 engine_view table hooks = record { table = table; cell = cells_of hooks }
 
 -- what a call of a routine gives
-abbrev pub engine_answer : EngineView → ℕ → ℕ → List Value → Option Saved → World Saved → EngineAnswer Saved
+abbrev pub engine_answer : EngineView → ℕ → ℕ → List Value → Option Saved → World Saved
+    → EngineAnswer Saved
 engine_answer e n caller values action w = engine e.table e.cell n (call caller values action) w
 
 -- scripts and the engine, over worlds whose stored actions are captured states

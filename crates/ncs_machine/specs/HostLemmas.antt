@@ -48,12 +48,15 @@ has_type Refused (Some v) h = h
 
 pub can_be_called : (r : Routine) → is_callable r ≡ true → r.role ≢ Uncallable
 unfolding is_callable
-can_be_called r h e = off (sym (ap (λ (b : Bool). not b && not (list_any (λ p. is_void p.ty) r.params)) (ap is_uncallable e)) ∙ h)
+can_be_called r h e = off
+    (sym (ap (λ (b : Bool). not b && not (list_any (λ p. is_void p.ty) r.params))
+    (ap is_uncallable e)) ∙ h)
   where
     off : false ≡ true → ⊥
     off e = absurd cc
 
-pub host_is_sound : (scripts : List Script) (tables : Tables) (e : EngineView) (first : World Saved) → TablesTypeExecuteScript → AnswersHaveTypes Saved → IsTable e.table
+pub host_is_sound : (scripts : List Script) (tables : Tables) (e : EngineView) (first : World Saved)
+    → TablesTypeExecuteScript → AnswersHaveTypes Saved → IsTable e.table
     → AllMeet e.table scripts tables → IsWellStackedHost (host scripts e) tables first
 unfolding host
 host_is_sound scripts tables e first types answers table meets = record {
@@ -61,15 +64,20 @@ host_is_sound scripts tables e first types answers table meets = record {
   execute = types e.table table;
   typed = λ number caller r values action world listed callable fit fits reached.
       has_type r.result (engine_answer e number caller values action world).value
-      (answers e.table e.cell number r (call caller values action) world table listed (can_be_called r callable));
+      (answers e.table e.cell number r (call caller values action) world table listed
+      (can_be_called r callable));
 }
 
 -- ---- scripts by their names
 
-first_listed : (scripts : List Script) (p : Script → Bool) (number : ℕ) → position p scripts ≡ Some number → IsListed scripts number
+first_listed : (scripts : List Script) (p : Script → Bool) (number : ℕ)
+    → position p scripts ≡ Some number → IsListed scripts number
 first_listed [] p number h = absurd cc
 first_listed (s ∷ scripts) p number h =
-    let q = position-Some p (s ∷ scripts) number s h in (get_or (s ∷ scripts) number s, slice_get-get_or (s ∷ scripts) number s q.0)
+    let q = position-Some p (s ∷ scripts) number s h in
+    (get_or (s ∷ scripts) number s, slice_get-get_or (s ∷ scripts) number s q.0)
 
-pub named_listed : (scripts : List Script) (name : List ℕ) (number : ℕ) → script_named scripts name ≡ Some number → IsListed scripts number
-named_listed scripts name number h = first_listed scripts (λ s. bytes_eq (map to_ascii_lowercase name) s.name) number h
+pub named_listed : (scripts : List Script) (name : List ℕ) (number : ℕ)
+    → script_named scripts name ≡ Some number → IsListed scripts number
+named_listed scripts name number h = first_listed scripts
+    (λ s. bytes_eq (map to_ascii_lowercase name) s.name) number h

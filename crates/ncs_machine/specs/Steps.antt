@@ -37,12 +37,15 @@ GoesWell (Some Divided) = Unit {0}
 
 -- the arguments of a call that are values have the types of the routine's parameters
 abbrev pub FitArguments : EngineView → ℕ → List Value → Type 0
-FitArguments e n values = (r : Routine) → slice_get e.table.routines n ≡ Some r → value_types values ≡ argument_types r.params
+FitArguments e n values = (r : Routine) → slice_get e.table.routines n ≡ Some r
+    → value_types values ≡ argument_types r.params
 
 -- each call of a routine that can be called has an answer of the routine's result type
 abbrev pub AnswersTyped : EngineView → Type 0
-AnswersTyped e = (n caller : ℕ) (r : Routine) (values : List Value) (action : Option Saved) (w : World Saved)
-    → slice_get e.table.routines n ≡ Some r → is_callable r ≡ true → HasType r.result (engine_answer e n caller values action w).value
+AnswersTyped e = (n caller : ℕ) (r : Routine) (values : List Value) (action : Option Saved)
+    (w : World Saved)
+    → slice_get e.table.routines n ≡ Some r → is_callable r ≡ true
+    → HasType r.result (engine_answer e n caller values action w).value
 
 -- the world that a step leads to: where the entry ends, the one that was
 abbrev pub world_behind : Option (Next (World Saved)) → World Saved → World Saved

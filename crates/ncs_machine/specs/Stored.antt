@@ -43,32 +43,42 @@ pub record StatesFit (scripts : List Script) (tables : Tables) (w : World Saved)
 -- ---- what is done to a world leaves all states fitting
 
 abbrev pub EngineKeepsFits : Type 0
-EngineKeepsFits = (scripts : List Script) (tables : Tables) (e : EngineView) (n caller : ℕ) (values : List Value) (action : Option Saved) (w : World Saved)
-    → FitsAction scripts tables action → StatesFit scripts tables w → StatesFit scripts tables (engine_answer e n caller values action w).world
+EngineKeepsFits = (scripts : List Script) (tables : Tables) (e : EngineView) (n caller : ℕ)
+    (values : List Value) (action : Option Saved) (w : World Saved)
+    → FitsAction scripts tables action → StatesFit scripts tables w
+    → StatesFit scripts tables (engine_answer e n caller values action w).world
 
 -- an entry that is begun fits, and what it leaves
 abbrev pub BegunFits : List Script → Tables → Option (Begun Saved) → Type 0
 BegunFits scripts tables None = Unit {0}
-BegunFits scripts tables (Some b) = EntryFits scripts tables b.entry × StatesFit scripts tables b.world
+BegunFits scripts tables (Some b) = EntryFits scripts tables b.entry
+    × StatesFit scripts tables b.world
 
 abbrev pub BeginKeepsFits : Type 0
-BeginKeepsFits = (scripts : List Script) (tables : Tables) (until : ℕ) (w : World Saved) → StatesFit scripts tables w → BegunFits scripts tables (begin until w)
+BeginKeepsFits = (scripts : List Script) (tables : Tables) (until : ℕ) (w : World Saved)
+    → StatesFit scripts tables w → BegunFits scripts tables (begin until w)
 
 pub record TurnedFits (scripts : List Script) (tables : Tables) (t : Turned Saved) : Type 0 where
   pub action : FitsAction scripts tables t.action
   pub world : StatesFit scripts tables t.world
 
 abbrev pub TurnKeepsFits : Type 0
-TurnKeepsFits = (scripts : List Script) (tables : Tables) (o : ℕ) (w : World Saved) → StatesFit scripts tables w → TurnedFits scripts tables (turn o w)
+TurnKeepsFits = (scripts : List Script) (tables : Tables) (o : ℕ) (w : World Saved)
+    → StatesFit scripts tables w → TurnedFits scripts tables (turn o w)
 
 abbrev pub TurnDoneKeepsFits : Type 0
-TurnDoneKeepsFits = (scripts : List Script) (tables : Tables) (o : ℕ) (w : World Saved) → StatesFit scripts tables w → StatesFit scripts tables (turn_done o w)
+TurnDoneKeepsFits = (scripts : List Script) (tables : Tables) (o : ℕ) (w : World Saved)
+    → StatesFit scripts tables w → StatesFit scripts tables (turn_done o w)
 
 abbrev pub UnapplyKeepsFits : Type 0
-UnapplyKeepsFits = (scripts : List Script) (tables : Tables) (o number : ℕ) (w : World Saved) → StatesFit scripts tables w → StatesFit scripts tables (unapply o number w)
+UnapplyKeepsFits = (scripts : List Script) (tables : Tables) (o number : ℕ) (w : World Saved)
+    → StatesFit scripts tables w → StatesFit scripts tables (unapply o number w)
 
 -- a line more, and lines that were printed, change no state
 pub record LinesKeepFits : Type 0 where
-  pub no_script : (scripts : List Script) (tables : Tables) (o : ℕ) (name : List ℕ) (w : World Saved) → StatesFit scripts tables w → StatesFit scripts tables (no_script o name w)
-  pub fault : (scripts : List Script) (tables : Tables) (o : ℕ) (w : World Saved) → StatesFit scripts tables w → StatesFit scripts tables (fault o w)
-  pub drained : (scripts : List Script) (tables : Tables) (w : World Saved) → StatesFit scripts tables w → StatesFit scripts tables (drained w)
+  pub no_script : (scripts : List Script) (tables : Tables) (o : ℕ) (name : List ℕ)
+      (w : World Saved) → StatesFit scripts tables w → StatesFit scripts tables (no_script o name w)
+  pub fault : (scripts : List Script) (tables : Tables) (o : ℕ) (w : World Saved)
+      → StatesFit scripts tables w → StatesFit scripts tables (fault o w)
+  pub drained : (scripts : List Script) (tables : Tables) (w : World Saved)
+      → StatesFit scripts tables w → StatesFit scripts tables (drained w)

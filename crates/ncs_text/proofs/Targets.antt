@@ -119,7 +119,9 @@ pub record Heads (at : ℕ) (op : PlainOp) (lines : List (List ℕ)) (ops : List
   pub is : ops ≡ op ∷ others
   pub rest : Assembles (at + op_size op) lines others
 
-pub heads : SpellingLaws → HasOpcode → (at : ℕ) (line : List ℕ) (op : PlainOp) (lines : List (List ℕ)) (ops : List PlainOp) → Writes at line op → Assembles at (line ∷ lines) ops → Heads at op lines ops
+pub heads : SpellingLaws → HasOpcode
+    → (at : ℕ) (line : List ℕ) (op : PlainOp) (lines : List (List ℕ)) (ops : List PlainOp) → Writes at line op
+    → Assembles at (line ∷ lines) ops → Heads at op lines ops
 heads spells known at line op lines ops w (remark n other ls os is on) = absurd (speaks known n line op w is)
 heads spells known at line op lines ops w (instruction n other second ls os v on) =
     let same : second ≡ op = one_op spells known n line second op v w

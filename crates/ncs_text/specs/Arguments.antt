@@ -48,7 +48,8 @@ negative (suc n) = negsuc n
 unfoldable pub signed_number : List ℕ → Option ℤ
 signed_number [] = None
 signed_number (b ∷ bs) =
-    if b == 45 then option_map negative (number_below 2147483649 bs) else option_map pos (number_below 2147483648 (b ∷ bs))
+    if b == 45 then option_map negative (number_below 2147483649 bs) else option_map pos
+    (number_below 2147483648 (b ∷ bs))
 
 -- the byte that two hexadecimal digits in lower case write
 abbrev pub byte_of : Option ℕ → Option ℕ → Option ℕ
@@ -79,7 +80,8 @@ reach = 2147483648
 -- How far a jump at one place has to lead to come to another. Where that is out of reach, it leads
 -- back as far as it can, to before the file.
 unfoldable pub offset_to : ℕ → ℕ → ℤ
-offset_to at place = if nat_lt at reach && nat_lt place reach then distance at place else negsuc 2147483647
+offset_to at place = if nat_lt at reach
+    && nat_lt place reach then distance at place else negsuc 2147483647
 
 -- `@` and the place that a jump leads to
 unfoldable pub target_place : List ℕ → Option ℕ
@@ -131,9 +133,11 @@ pub record IsParted (First Others : List ℕ → List ℕ → Type 0) (text byte
 -- takes the rest of the line.
 abbrev pub AreFields : ℕ → Argument → List Argument → List ℕ → List ℕ → Type 0
 AreFields at argument [] text bytes = IsArgument at argument text bytes
-AreFields at argument (following ∷ others) text bytes = IsParted (IsArgument at argument) (AreFields at following others) text bytes
+AreFields at argument (following ∷ others) text bytes = IsParted (IsArgument at argument)
+    (AreFields at following others) text bytes
 
 -- The same behind a space, where there are arguments.
 abbrev pub AreArguments : ℕ → List Argument → List ℕ → List ℕ → Type 0
 AreArguments at [] text bytes = (text ≡ []) × (bytes ≡ [])
-AreArguments at (argument ∷ others) text bytes = (fields : List ℕ) × (text ≡ 32 ∷ fields) × AreFields at argument others fields bytes
+AreArguments at (argument ∷ others) text bytes = (fields : List ℕ) × (text ≡ 32 ∷ fields)
+    × AreFields at argument others fields bytes

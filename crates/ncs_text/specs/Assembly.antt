@@ -36,8 +36,10 @@ IsRemark line = (line ≡ []) ⊎ ((text : List ℕ) × (line ≡ 59 ∷ text))
 -- The lines stand for these instructions in a row, the first at this place.
 pub data Assembles : ℕ → List (List ℕ) → List PlainOp → Type 0 where
   none : (at : ℕ) → Assembles at [] []
-  remark : (at : ℕ) (line : List ℕ) (lines : List (List ℕ)) (ops : List PlainOp) → IsRemark line → Assembles at lines ops → Assembles at (line ∷ lines) ops
-  instruction : (at : ℕ) (line : List ℕ) (op : PlainOp) (lines : List (List ℕ)) (ops : List PlainOp) → Writes at line op
+  remark : (at : ℕ) (line : List ℕ) (lines : List (List ℕ)) (ops : List PlainOp) → IsRemark line
+      → Assembles at lines ops → Assembles at (line ∷ lines) ops
+  instruction : (at : ℕ) (line : List ℕ) (op : PlainOp) (lines : List (List ℕ)) (ops : List PlainOp)
+      → Writes at line op
       → Assembles (at + op_size op) lines ops → Assembles at (line ∷ lines) (op ∷ ops)
 
 -- the file of the instructions that all lines stand for
@@ -72,7 +74,8 @@ pub record IsLarge (size : ℕ) (text : List ℕ) : Type 0 where
 -- An instruction leads to no beginning of one, and each that begins before it leads well.
 pub record IsFirstAstray (ops : List PlainOp) (place : ℕ) (op : PlainOp) : Type 0 where
   pub bad : leads_well ops place op ≡ false
-  pub before : (at : ℕ) (other : PlainOp) → at < place → op_at ops at ≡ Some other → leads_well ops at other ≡ true
+  pub before : (at : ℕ) (other : PlainOp) → at < place → op_at ops at ≡ Some other
+      → leads_well ops at other ≡ true
 
 -- The instruction of the n-th line is the first that leads to no beginning of one.
 pub record LeadsAstray (n : ℕ) (text : List ℕ) : Type 0 where

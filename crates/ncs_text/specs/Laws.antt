@@ -15,9 +15,11 @@ ListedAgain = (ops : List PlainOp) → IsCode ops → IsAssembled (listing ops) 
 
 -- A text has one answer, but for the want of memory, which may come at any time.
 abbrev pub OneAnswer : Type 0
-OneAnswer = (text : List ℕ) (a b : Result (List ℕ) AsmFault) → Answers text a → Answers text b → a ≢ Err NoMemory → b ≢ Err NoMemory → a ≡ b
+OneAnswer = (text : List ℕ) (a b : Result (List ℕ) AsmFault) → Answers text a → Answers text b
+    → a ≢ Err NoMemory → b ≢ Err NoMemory → a ≡ b
 
 -- A jump leads to a beginning of an instruction exactly where one begins at the place that its line
 -- names.
 abbrev pub TargetIsMeant : Type 0
-TargetIsMeant = (ops : List PlainOp) (at place : ℕ) → at ≤ file_limit → file_length ops ≤ file_limit → begins ops (jump_place at (offset_to at place)) ≡ begins ops place
+TargetIsMeant = (ops : List PlainOp) (at place : ℕ) → at ≤ file_limit → file_length ops ≤ file_limit
+    → begins ops (jump_place at (offset_to at place)) ≡ begins ops place

@@ -50,7 +50,8 @@ PutsSome Holds before now None = (op : PlainOp) → Holds op → ⊥
 -- The line stands for nothing, or for an instruction whose spelling was appended.
 pub record PutsLine (at : ℕ) (line before now : List ℕ) (size : ℕ) : Type 0 where
   pub ops : List PlainOp
-  pub more : (lines : List (List ℕ)) (others : List PlainOp) → Assembles (at + size) lines others → Assembles at (line ∷ lines) (ops ++ others)
+  pub more : (lines : List (List ℕ)) (others : List PlainOp) → Assembles (at + size) lines others
+      → Assembles at (line ∷ lines) (ops ++ others)
   pub appended : now ≡ before ++ spellings ops
   pub size_is : size ≡ ops_size ops
   pub last : 0 < size → (op : PlainOp) × (ops ≡ op ∷ []) × Writes at line op

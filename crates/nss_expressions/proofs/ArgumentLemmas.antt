@@ -95,7 +95,8 @@ module _ (hs : List Head) (s : Sight) where
       at_drop_more (λ ys. all_faults hs s ps (plain_exprs ys)) es i e lt
       ∙ (ap (λ y. all_faults hs s ps (plain_exprs (y ∷ drop (i + 1) es))) (sym is) ∙ ap (all_faults hs s ps) (plain_exprs_more e (drop (i + 1) es)))
 
-  module _ (es : List Expr) (i : ℕ) (e : Expr) (ps next : List Param) (as_action : Bool) (lt : i < length es) (is : e ≡ get_or es i e) (action : as_action ≡ takes_action ps) (behind : next ≡ others ps) where
+  module _ (es : List Expr) (i : ℕ) (e : Expr) (ps next : List Param) (as_action : Bool) (lt : i < length es)
+      (is : e ≡ get_or es i e) (action : as_action ≡ takes_action ps) (behind : next ≡ others ps) where
     pub next_value : (all all' : Option TypedExprs) (one : Option TypedExpr) (whole : Option TypedExprs) → one ≡ fine (verdict hs s as_action (plain_expr e)) → all' ≡ with_last all one
         → with_others all (all_fine hs s ps (plain_exprs (drop i es))) ≡ whole → with_others all' (all_fine hs s next (plain_exprs (drop (i + 1) es))) ≡ whole
     next_value all all' one whole typed more so_far =

@@ -27,10 +27,14 @@ prefix_is the n o x y is same = is ∙ ap (λ z. tree.prefix n o (plain_expr z))
 pub postfix_is : (the : Expr) (n : ℕ) (o : PostfixOperator) (x y : Expr) → plain_expr the ≡ tree.postfix n o (plain_expr x) → y ≡ x → plain_expr the ≡ tree.postfix n o (plain_expr y)
 postfix_is the n o x y is same = is ∙ ap (λ z. tree.postfix n o (plain_expr z)) (sym same)
 
-pub binary_is : (the : Expr) (n : ℕ) (o : BinaryOperator) (a b x y : Expr) → plain_expr the ≡ tree.binary n o (plain_expr a) (plain_expr b) → x ≡ a → y ≡ b → plain_expr the ≡ tree.binary n o (plain_expr x) (plain_expr y)
+pub binary_is : (the : Expr) (n : ℕ) (o : BinaryOperator) (a b x y : Expr)
+    → plain_expr the ≡ tree.binary n o (plain_expr a) (plain_expr b) → x ≡ a → y ≡ b
+    → plain_expr the ≡ tree.binary n o (plain_expr x) (plain_expr y)
 binary_is the n o a b x y is first second = is ∙ (ap (λ z. tree.binary n o (plain_expr z) (plain_expr b)) (sym first) ∙ ap (λ z. tree.binary n o (plain_expr x) (plain_expr z)) (sym second))
 
-pub assign_is : (the : Expr) (n : ℕ) (o : AssignOperator) (a b x y : Expr) → plain_expr the ≡ tree.assign n o (plain_expr a) (plain_expr b) → x ≡ a → y ≡ b → plain_expr the ≡ tree.assign n o (plain_expr x) (plain_expr y)
+pub assign_is : (the : Expr) (n : ℕ) (o : AssignOperator) (a b x y : Expr)
+    → plain_expr the ≡ tree.assign n o (plain_expr a) (plain_expr b) → x ≡ a → y ≡ b
+    → plain_expr the ≡ tree.assign n o (plain_expr x) (plain_expr y)
 assign_is the n o a b x y is first second = is ∙ (ap (λ z. tree.assign n o (plain_expr z) (plain_expr b)) (sym first) ∙ ap (λ z. tree.assign n o (plain_expr x) (plain_expr z)) (sym second))
 
 -- ---- how large an expression is

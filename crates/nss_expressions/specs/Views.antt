@@ -13,7 +13,12 @@ known_of (Variable n is_local t) = spec.variable n is_local t
 known_of (Constant k) = spec.constant k.now
 
 abbrev pub called_of : Called → spec.Called
-called_of d = record { callee = d.callee; params = d.params.now; result = d.result; is_callable = d.is_callable }
+called_of d = record {
+  callee = d.callee;
+  params = d.params.now;
+  result = d.result;
+  is_callable = d.is_callable;
+}
 
 -- the declarations of the unit's functions
 abbrev pub heads_in : Given → List spec.Head

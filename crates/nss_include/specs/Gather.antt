@@ -55,4 +55,6 @@ HasScript (file ∷ files) script = file.name ≡ file_name script
 -- the unit of this script, or its first fault
 abbrev pub Gathers : Lookup → List ℕ → Result Gathered GatherFault → Type 0
 Gathers lookup script (Ok unit) = IsUnit lookup script unit.tokens unit.files None
-Gathers lookup script (Err fault) = Claims fault ((tokens : List Lexeme) × (files : List Source) × IsUnit lookup script tokens files (Some fault))
+Gathers lookup script (Err fault) = Claims fault
+    ((tokens : List Lexeme) × (files : List Source)
+    × IsUnit lookup script tokens files (Some fault))

@@ -18,8 +18,13 @@ include_name_limit = 16
 
 -- a name that an include may have: letters, digits and `_`, one at least
 unfoldable pub is_include_name : List ℕ → Bool
-is_include_name name = nat_lt 0 (length name) && nat_le (length name) include_name_limit && list_all is_name_byte name
+is_include_name name = nat_lt 0 (length name) && nat_le (length name) include_name_limit
+    && list_all is_name_byte name
 
 -- a place of a file: the file's name, cut as texts are, the place's line and the place
 abbrev pub spot_in : Source → ℕ → Spot
-spot_in file at = record { name = take text_limit file.name; line = line_number file.bytes at; at = at }
+spot_in file at = record {
+  name = take text_limit file.name;
+  line = line_number file.bytes at;
+  at = at;
+}

@@ -31,7 +31,9 @@ is_string Sign = false
 
 -- the directive with its `#` at this place, by the token behind its `include`
 abbrev pub directive : ℕ → Lexeme → Piece
-directive hash t = if is_string t.kind && is_include_name (string_value t.text) then Directive hash (string_value t.text) else BadDirective hash
+directive hash t = if is_string t.kind
+    && is_include_name (string_value t.text) then Directive hash
+    (string_value t.text) else BadDirective hash
 
 -- where no token is left: the end of the file, or a place where nothing begins
 abbrev pub last_pieces : Option ℕ → List Piece
@@ -50,9 +52,11 @@ abbrev pub pieces : List Lexeme → Option ℕ → List Piece
 pieces [] ending = last_pieces ending
 pieces (t ∷ []) ending = Token t ∷ last_pieces ending
 pieces (t ∷ u ∷ []) ending =
-    if is_hash t && is_include u then cut_directive t.start ending ∷ [] else Token t ∷ pieces (u ∷ []) ending
+    if is_hash t && is_include u then cut_directive t.start ending ∷ [] else Token t ∷ pieces
+    (u ∷ []) ending
 pieces (t ∷ u ∷ v ∷ ts) ending =
-    if is_hash t && is_include u then directive t.start v ∷ pieces ts ending else Token t ∷ pieces (u ∷ v ∷ ts) ending
+    if is_hash t && is_include u then directive t.start v ∷ pieces ts ending else Token t ∷ pieces
+    (u ∷ v ∷ ts) ending
 
 -- from a place on, the bytes of the file of this number are these pieces
 pub record HasPieces (bytes : List ℕ) (file at : ℕ) (ps : List Piece) : Type 0 where

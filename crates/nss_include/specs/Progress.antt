@@ -18,19 +18,24 @@ use Rattle.nss_include.specs.Gather.{HoldsFiles, Claims}
 use Rattle.nss_include.specs.Walks.{Walks}
 
 -- what is left to come of open files: up to the end of all, or up to a fault
-pub data Rest (lookup : Lookup) : List Open → List Source → ℕ → List Lexeme → List Source → ℕ → Option GatherFault → Type 0 where
+pub data Rest (lookup : Lookup) : List Open → List Source → ℕ → List Lexeme → List Source → ℕ
+    → Option GatherFault → Type 0 where
   closed : (files : List Source) (count : ℕ) → Rest lookup [] files count [] files count None
-  stops : (here : Open) (stack : List Open) (files : List Source) (count : ℕ) (tokens : List Lexeme) (last : List Source) (total : ℕ)
-      (fault : GatherFault) → Walks lookup here.file here.at files count tokens last total (Some fault)
+  stops : (here : Open) (stack : List Open) (files : List Source) (count : ℕ) (tokens : List Lexeme)
+      (last : List Source) (total : ℕ)
+      (fault : GatherFault) → Walks lookup here.file here.at files count tokens last total
+      (Some fault)
       → Rest lookup (here ∷ stack) files count tokens last total (Some fault)
-  goes : (here : Open) (stack : List Open) (files : List Source) (count : ℕ) (inner : List Lexeme) (between : List Source) (counted : ℕ)
+  goes : (here : Open) (stack : List Open) (files : List Source) (count : ℕ) (inner : List Lexeme)
+      (between : List Source) (counted : ℕ)
       (tokens : List Lexeme) (last : List Source) (total : ℕ) (ending : Option GatherFault)
       → Walks lookup here.file here.at files count inner between counted None
       → Rest lookup stack between counted tokens last total ending
       → Rest lookup (here ∷ stack) files count (inner ++ tokens) last total ending
 
 -- a reading ends with these tokens, its own among them, and with these files and this count
-pub record Ends (lookup : Lookup) (r : Gatherer) (tokens : List Lexeme) (last : List Source) (total : ℕ) (ending : Option GatherFault) : Type 0 where
+pub record Ends (lookup : Lookup) (r : Gatherer) (tokens : List Lexeme) (last : List Source)
+    (total : ℕ) (ending : Option GatherFault) : Type 0 where
   pub left : List Lexeme
   pub parts : tokens ≡ r.unit.tokens ++ left
   pub rest : Rest lookup r.stack r.unit.files r.count left last total ending
@@ -38,7 +43,8 @@ pub record Ends (lookup : Lookup) (r : Gatherer) (tokens : List Lexeme) (last : 
 -- whatever a later reading ends with, the earlier one ends with
 abbrev pub Leads : Lookup → Gatherer → Gatherer → Type 0
 Leads lookup old new =
-    (tokens : List Lexeme) (last : List Source) (total : ℕ) (ending : Option GatherFault) → Ends lookup new tokens last total ending
+    (tokens : List Lexeme) (last : List Source) (total : ℕ) (ending : Option GatherFault)
+    → Ends lookup new tokens last total ending
     → Ends lookup old tokens last total ending
 
 -- where a fault comes of what is under a name, that is so
@@ -95,7 +101,8 @@ pub record Opens (old new : Gathered) (name : List ℕ) : Type 0 where
   pub is : new ≡ record { files = old.files ++ source name bytes ∷ []; tokens = old.tokens }
 
 -- and where files are told, it is what is under its name
-pub record Reads (tells : Bool) (outside : Lookup) (old new : Gathered) (name : List ℕ) : Type 0 where
+pub record Reads (tells : Bool) (outside : Lookup) (old new : Gathered)
+    (name : List ℕ) : Type 0 where
   pub opens : Opens old new name
   pub told : IsTrue tells → outside name ≡ Some opens.bytes
 
@@ -120,18 +127,26 @@ ExplainsRead lookup name (Include spot) = Unit {0}
 ExplainsRead lookup name NoMemory = Unit {0}
 
 -- a read of this name failed so
-pub record ReadFails (tells : Bool) (outside : Lookup) (name : List ℕ) (fault : GatherFault) : Type 0 where
+pub record ReadFails (tells : Bool) (outside : Lookup) (name : List ℕ)
+    (fault : GatherFault) : Type 0 where
   pub is : IsReadFault name fault
   pub told : IsTrue tells → ExplainsRead outside name fault
 
 -- a directive behind which the file goes on was passed
 abbrev pub passed : Gatherer → Open → ℕ → Gatherer
-passed r here after = record r { stack = record { file = here.file; at = after } ∷ r.stack; count = r.count + 3 }
+passed r here after = record r {
+  stack = record { file = here.file; at = after } ∷ r.stack;
+  count = r.count + 3;
+}
 
 -- a directive was passed, and the file that it names is open
-pub record Includes (tells : Bool) (outside : Lookup) (old new : Gatherer) (here : Open) (name : List ℕ) (after : ℕ) : Type 0 where
+pub record Includes (tells : Bool) (outside : Lookup) (old new : Gatherer) (here : Open)
+    (name : List ℕ) (after : ℕ) : Type 0 where
   pub reads : Reads tells outside old.unit new.unit name
-  pub stack : new.stack ≡ record { file = length old.unit.files; at = 0 } ∷ record { file = here.file; at = after } ∷ old.stack
+  pub stack : new.stack ≡ record {
+    file = length old.unit.files;
+    at = 0;
+  } ∷ record { file = here.file; at = after } ∷ old.stack
   pub count : new.count ≡ old.count + 3
 
 -- a fault of counting, or want of memory
@@ -152,7 +167,8 @@ pub record ComesTo (lookup : Lookup) (r : Gatherer) (fault : GatherFault) : Type
   pub ends : Ends lookup r tokens last total (Some fault)
 
 -- a reading that begins with the file of a script
-pub record BeginsWithScript (tells : Bool) (outside : Lookup) (r : Gatherer) (script : List ℕ) : Type 0 where
+pub record BeginsWithScript (tells : Bool) (outside : Lookup) (r : Gatherer)
+    (script : List ℕ) : Type 0 where
   pub bytes : List ℕ
   pub size : length bytes ≤ file_limit
   pub unit : r.unit ≡ record { files = source (file_name script) bytes ∷ []; tokens = [] }
@@ -164,7 +180,8 @@ pub record BeginsWithScript (tells : Bool) (outside : Lookup) (r : Gatherer) (sc
 pub record RunSoFar (tells : Bool) (outside : Lookup) (first now : Gatherer) : Type 0 where
   pub ready : IsOrderly now
   pub leads : (lookup : Lookup) → HoldsFiles lookup now.unit.files → Leads lookup first now
-  pub keeps : (lookup : Lookup) → HoldsFiles lookup now.unit.files → HoldsFiles lookup first.unit.files
+  pub keeps : (lookup : Lookup) → HoldsFiles lookup now.unit.files
+      → HoldsFiles lookup first.unit.files
   pub holds : IsTrue tells → HoldsFiles outside first.unit.files → HoldsFiles outside now.unit.files
   pub grows : Extends first.unit.files now.unit.files
 
@@ -178,6 +195,7 @@ abbrev pub StopsBy : Gatherer → GatherFault → Type 0
 StopsBy r fault = Claims fault ((lookup : Lookup) → Explains lookup fault → Stops lookup r fault)
 
 -- and where files are told, they explain it
-pub record Halts (tells : Bool) (outside : Lookup) (r : Gatherer) (fault : GatherFault) : Type 0 where
+pub record Halts (tells : Bool) (outside : Lookup) (r : Gatherer)
+    (fault : GatherFault) : Type 0 where
   pub stops : StopsBy r fault
   pub told : IsTrue tells → Explains outside fault

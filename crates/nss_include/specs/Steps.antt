@@ -28,7 +28,8 @@ begins_include (BadAt place) = false
 
 -- a directive whose string this is, up to this end
 unfoldable pub named_step : ℕ → List ℕ → ℕ → Step
-named_step hash text end = if is_include_name (string_value text) then Mentions hash (string_value text) end else Misses hash
+named_step hash text end = if is_include_name (string_value text) then Mentions hash
+    (string_value text) end else Misses hash
 
 -- A directive whose `#` stands at this place goes on so, where this stands first behind its
 -- `include`.
@@ -41,12 +42,15 @@ directive_step hash (Found t) = if is_string t.kind then named_step hash t.text 
 -- behind it, in the same file, begins a directive.
 pub data IsStep (bytes : List ℕ) (file : ℕ) : ℕ → Step → Type 0 where
   ends : (at : ℕ) → IsFirst bytes file at AtEnd → IsStep bytes file at Ends
-  breaks : (at place : ℕ) → IsFirst bytes file at (BadAt place) → IsStep bytes file at (Breaks place)
-  other : (at : ℕ) (span : Span) → IsFirst bytes file at (Found (lexeme_in bytes span)) → is_hash (lexeme_in bytes span) ≡ false
+  breaks : (at place : ℕ) → IsFirst bytes file at (BadAt place)
+      → IsStep bytes file at (Breaks place)
+  other : (at : ℕ) (span : Span) → IsFirst bytes file at (Found (lexeme_in bytes span))
+      → is_hash (lexeme_in bytes span) ≡ false
       → IsStep bytes file at (Gives span)
   sign : (at : ℕ) (span : Span) (x : First) → IsFirst bytes file at (Found (lexeme_in bytes span))
       → IsFirst bytes file span.end x → begins_include x ≡ false → IsStep bytes file at (Gives span)
-  begins : (at : ℕ) (t u : Lexeme) (x : First) (step : Step) → IsFirst bytes file at (Found t) → is_hash t ≡ true
+  begins : (at : ℕ) (t u : Lexeme) (x : First) (step : Step) → IsFirst bytes file at (Found t)
+      → is_hash t ≡ true
       → IsFirst bytes file t.end (Found u) → is_include u ≡ true → IsFirst bytes file u.end x
       → step ≡ directive_step t.start x → IsStep bytes file at step
 
@@ -54,8 +58,10 @@ pub data IsStep (bytes : List ℕ) (file : ℕ) : ℕ → Step → Type 0 where
 -- is a `#` and that name stands first behind it.
 pub data Behind (bytes : List ℕ) (file : ℕ) (text : List ℕ) (end : ℕ) : Option ℕ → Type 0 where
   no_hash : bytes_eq text (codes "#") ≡ false → Behind bytes file text end None
-  no_include : (x : First) → IsFirst bytes file end x → begins_include x ≡ false → Behind bytes file text end None
-  include : (u : Lexeme) → bytes_eq text (codes "#") ≡ true → IsFirst bytes file end (Found u) → is_include u ≡ true
+  no_include : (x : First) → IsFirst bytes file end x → begins_include x ≡ false
+      → Behind bytes file text end None
+  include : (u : Lexeme) → bytes_eq text (codes "#") ≡ true → IsFirst bytes file end (Found u)
+      → is_include u ≡ true
       → Behind bytes file text end (Some u.end)
 
 -- a directive goes on so behind its `include`
@@ -68,6 +74,8 @@ pub record DirectiveGoesOn (bytes : List ℕ) (file hash at : ℕ) (step : Step)
 abbrev pub IsWithin : List ℕ → ℕ → Step → Type 0
 IsWithin bytes file Ends = Unit {0}
 IsWithin bytes file (Breaks place) = place ≤ length bytes
-IsWithin bytes file (Gives span) = (span.file ≡ file) × (span.start ≤ span.end) × (span.end ≤ length bytes) × IsLexeme span.kind (lexeme_in bytes span).text
-IsWithin bytes file (Mentions hash name after) = (hash ≤ length bytes) × (after ≤ length bytes) × (is_include_name name ≡ true)
+IsWithin bytes file (Gives span) = (span.file ≡ file) × (span.start ≤ span.end)
+    × (span.end ≤ length bytes) × IsLexeme span.kind (lexeme_in bytes span).text
+IsWithin bytes file (Mentions hash name after) = (hash ≤ length bytes) × (after ≤ length bytes)
+    × (is_include_name name ≡ true)
 IsWithin bytes file (Misses place) = place ≤ length bytes

@@ -22,43 +22,60 @@ include_fault lookup files count file at name =
 abbrev pub step_fault : Lookup → List Source → ℕ → Source → Step → Option GatherFault
 step_fault lookup files count file Ends = None
 step_fault lookup files count file (Breaks place) = Some (Bad (spot_in file place))
-step_fault lookup files count file (Gives span) = if nat_lt count token_limit then None else Some (Tokens (spot_in file span.start))
-step_fault lookup files count file (Mentions at name after) = include_fault lookup files count file at (file_name name)
+step_fault lookup files count file (Gives span) = if nat_lt count token_limit then None else Some
+    (Tokens (spot_in file span.start))
+step_fault lookup files count file
+    (Mentions at name after) = include_fault lookup files count file at (file_name name)
 step_fault lookup files count file (Misses place) = Some (Include (spot_in file place))
 
 -- From a place of a file on, where these files are in the unit and so many tokens were counted, the
 -- steps come to these tokens, with the files and the count at their end: up to the file's end, or
 -- up to a fault.
-pub data Walks (lookup : Lookup) : ℕ → ℕ → List Source → ℕ → List Lexeme → List Source → ℕ → Option GatherFault → Type 0 where
-  ends : (number at : ℕ) (files : List Source) (count : ℕ) (file : Source) → slice_get files number ≡ Some file
+pub data Walks (lookup : Lookup) : ℕ → ℕ → List Source → ℕ → List Lexeme → List Source → ℕ
+    → Option GatherFault → Type 0 where
+  ends : (number at : ℕ) (files : List Source) (count : ℕ) (file : Source)
+      → slice_get files number ≡ Some file
       → IsStep file.bytes number at Ends → Walks lookup number at files count [] files count None
-  fails : (number at : ℕ) (files : List Source) (count : ℕ) (file : Source) (step : Step) (fault : GatherFault)
-      → slice_get files number ≡ Some file → IsStep file.bytes number at step → step_fault lookup files count file step ≡ Some fault
+  fails : (number at : ℕ) (files : List Source) (count : ℕ) (file : Source) (step : Step)
+      (fault : GatherFault)
+      → slice_get files number ≡ Some file → IsStep file.bytes number at step
+      → step_fault lookup files count file step ≡ Some fault
       → Walks lookup number at files count [] files count (Some fault)
-  gives : (number at : ℕ) (files : List Source) (count : ℕ) (file : Source) (span : _) (tokens : List Lexeme) (last : List Source) (total : ℕ)
+  gives : (number at : ℕ) (files : List Source) (count : ℕ) (file : Source) (span : _)
+      (tokens : List Lexeme) (last : List Source) (total : ℕ)
       (ending : Option GatherFault)
-      → slice_get files number ≡ Some file → IsStep file.bytes number at (Gives span) → step_fault lookup files count file (Gives span) ≡ None
+      → slice_get files number ≡ Some file → IsStep file.bytes number at (Gives span)
+      → step_fault lookup files count file (Gives span) ≡ None
       → Walks lookup number span.end files (count + 1) tokens last total ending
       → Walks lookup number at files count (lexeme_in file.bytes span ∷ tokens) last total ending
-  again : (number at : ℕ) (files : List Source) (count : ℕ) (file : Source) (hash : ℕ) (name : List ℕ) (after : ℕ)
+  again : (number at : ℕ) (files : List Source) (count : ℕ) (file : Source) (hash : ℕ)
+      (name : List ℕ) (after : ℕ)
       (tokens : List Lexeme) (last : List Source) (total : ℕ) (ending : Option GatherFault)
       → slice_get files number ≡ Some file → IsStep file.bytes number at (Mentions hash name after)
-      → step_fault lookup files count file (Mentions hash name after) ≡ None → is_among files (file_name name) ≡ true
+      → step_fault lookup files count file (Mentions hash name after) ≡ None
+      → is_among files (file_name name) ≡ true
       → Walks lookup number after files (count + 3) tokens last total ending
       → Walks lookup number at files count tokens last total ending
-  breaks_off : (number at : ℕ) (files : List Source) (count : ℕ) (file : Source) (hash : ℕ) (name : List ℕ) (after : ℕ) (bytes : List ℕ)
+  breaks_off : (number at : ℕ) (files : List Source) (count : ℕ) (file : Source) (hash : ℕ)
+      (name : List ℕ) (after : ℕ) (bytes : List ℕ)
       (tokens : List Lexeme) (last : List Source) (total : ℕ) (fault : GatherFault)
       → slice_get files number ≡ Some file → IsStep file.bytes number at (Mentions hash name after)
-      → step_fault lookup files count file (Mentions hash name after) ≡ None → is_among files (file_name name) ≡ false
+      → step_fault lookup files count file (Mentions hash name after) ≡ None
+      → is_among files (file_name name) ≡ false
       → lookup (file_name name) ≡ Some bytes
-      → Walks lookup (length files) 0 (files ++ source (file_name name) bytes ∷ []) (count + 3) tokens last total (Some fault)
+      → Walks lookup (length files) 0 (files ++ source (file_name name) bytes ∷ [])
+      (count + 3) tokens last total (Some fault)
       → Walks lookup number at files count tokens last total (Some fault)
-  includes : (number at : ℕ) (files : List Source) (count : ℕ) (file : Source) (hash : ℕ) (name : List ℕ) (after : ℕ) (bytes : List ℕ)
-      (inner : List Lexeme) (between : List Source) (counted : ℕ) (tokens : List Lexeme) (last : List Source) (total : ℕ)
+  includes : (number at : ℕ) (files : List Source) (count : ℕ) (file : Source) (hash : ℕ)
+      (name : List ℕ) (after : ℕ) (bytes : List ℕ)
+      (inner : List Lexeme) (between : List Source) (counted : ℕ) (tokens : List Lexeme)
+      (last : List Source) (total : ℕ)
       (ending : Option GatherFault)
       → slice_get files number ≡ Some file → IsStep file.bytes number at (Mentions hash name after)
-      → step_fault lookup files count file (Mentions hash name after) ≡ None → is_among files (file_name name) ≡ false
+      → step_fault lookup files count file (Mentions hash name after) ≡ None
+      → is_among files (file_name name) ≡ false
       → lookup (file_name name) ≡ Some bytes
-      → Walks lookup (length files) 0 (files ++ source (file_name name) bytes ∷ []) (count + 3) inner between counted None
+      → Walks lookup (length files) 0 (files ++ source (file_name name) bytes ∷ [])
+      (count + 3) inner between counted None
       → Walks lookup number after between counted tokens last total ending
       → Walks lookup number at files count (inner ++ tokens) last total ending

@@ -70,7 +70,8 @@ pub one_put : {T E : Type 0} (r : Result T E) (structs : Structs) (the : Stmt Ex
 one_put r structs the s depth now after part is same put =
     on_ok r put (λ e. e ∙ ap (λ ys. now ++ ys) (sym (ap (λ t. positions structs depth (map_stmt plain t)) is ∙ same)))
 
-pub two_put : {T E : Type 0} (r : Result T E) (structs : Structs) (the : Stmt Expression Const Ty Variable) (s : PlainStmt Expression Const Ty Variable) (depth : ℕ) (now mid after first second : List ℕ)
+pub two_put : {T E : Type 0} (r : Result T E) (structs : Structs) (the : Stmt Expression Const Ty Variable)
+    (s : PlainStmt Expression Const Ty Variable) (depth : ℕ) (now mid after first second : List ℕ)
     → tree_of_stmt the ≡ s → positions structs depth (map_stmt plain s) ≡ first ++ second → mid ≡ now ++ first → OnOk r (after ≡ mid ++ second)
     → OnOk r (after ≡ now ++ positions structs depth (typed_stmt the))
 two_put r structs the s depth now mid after first second is same before put =

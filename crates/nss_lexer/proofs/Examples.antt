@@ -23,7 +23,8 @@ too_great : lexeme (codes "4294967296") ≡ None
 unfolding form
 too_great = refl
 
-floats : (lexeme (codes "5f") ≡ Some (scanned Float 2)) × (lexeme (codes "1.f") ≡ Some (scanned Float 3)) × (lexeme (codes ".5") ≡ Some (scanned Float 2)) × (lexeme (codes "4294967296.") ≡ Some (scanned Float 11))
+floats : (lexeme (codes "5f") ≡ Some (scanned Float 2)) × (lexeme (codes "1.f") ≡ Some (scanned Float 3))
+    × (lexeme (codes ".5") ≡ Some (scanned Float 2)) × (lexeme (codes "4294967296.") ≡ Some (scanned Float 11))
 unfolding form
 floats = (refl, refl, refl, refl)
 

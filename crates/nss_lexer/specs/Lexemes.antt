@@ -38,7 +38,8 @@ is_sign text = list_any (λ sign. bytes_eq sign text) signs
 -- a letter or `_`, then letters, digits and `_`
 abbrev pub IsIdentifier : List ℕ → Type 0
 IsIdentifier [] = ⊥
-IsIdentifier (b ∷ bytes) = IsTrue (is_letter b) × AllByRecursion (λ c. IsTrue (is_name_byte c)) bytes
+IsIdentifier (b ∷ bytes) = IsTrue (is_letter b)
+    × AllByRecursion (λ c. IsTrue (is_name_byte c)) bytes
 
 -- decimal digits, or `0x` or `0X` and hexadecimal digits, and the number that they write
 pub data IsInt : ℕ → List ℕ → Type 0 where
@@ -53,9 +54,11 @@ pub data IsSuffix : List ℕ → Type 0 where
 
 -- digits, a point and any digits; a point and digits; or digits with an `f`
 pub data IsFloat : List ℕ → Type 0 where
-  pointed : (whole fraction end : List ℕ) → IsNumeral 10 whole → AllDigits 10 fraction → IsSuffix end
+  pointed : (whole fraction end : List ℕ) → IsNumeral 10 whole → AllDigits 10 fraction
+      → IsSuffix end
       → IsFloat (whole ++ 46 ∷ (fraction ++ end))
-  fraction : (digits end : List ℕ) → IsNumeral 10 digits → IsSuffix end → IsFloat (46 ∷ (digits ++ end))
+  fraction : (digits end : List ℕ) → IsNumeral 10 digits → IsSuffix end
+      → IsFloat (46 ∷ (digits ++ end))
   marked : (digits : List ℕ) → IsNumeral 10 digits → IsFloat (digits ++ 102 ∷ [])
 
 -- The bytes have the form of this kind, whatever the limits. The longest match is among forms: a

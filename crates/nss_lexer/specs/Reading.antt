@@ -50,7 +50,8 @@ within f = limited f.kind f.length
 -- the longest form that begins the bytes
 
 abbrev pub name_form : List ℕ → Scanned
-name_form bytes = let n = class_run InName bytes in scanned (if is_word (take n bytes) then Word else Name) n
+name_form bytes = let n = class_run InName bytes in scanned
+    (if is_word (take n bytes) then Word else Name) n
 
 -- how many bytes of a float follow its point: digits, and maybe an `f`
 abbrev pub fraction_length : List ℕ → ℕ
@@ -64,15 +65,18 @@ abbrev pub decimal_form : List ℕ → Scanned
 decimal_form bytes =
     let n = class_run Decimal bytes in
     if slice_index bytes n == 46 then float_form bytes n
-    else (if slice_index bytes n == 102 then scanned Float (n + 1) else scanned (Int (digits_value 10 (take n bytes))) n)
+    else (if slice_index bytes n == 102 then scanned Float (n + 1) else scanned
+    (Int (digits_value 10 (take n bytes))) n)
 
 abbrev pub begins_hexadecimal : List ℕ → Bool
 begins_hexadecimal bytes =
-    slice_index bytes 0 == 48 && (slice_index bytes 1 == 120 || slice_index bytes 1 == 88) && is_hexadecimal (slice_index bytes 2)
+    slice_index bytes 0 == 48 && (slice_index bytes 1 == 120 || slice_index bytes 1 == 88)
+    && is_hexadecimal (slice_index bytes 2)
 
 abbrev pub hexadecimal_form : List ℕ → Scanned
 hexadecimal_form bytes =
-    let n = class_run Hexadecimal (drop 2 bytes) in scanned (Int (digits_value 16 (take n (drop 2 bytes)))) (n + 2)
+    let n = class_run Hexadecimal (drop 2 bytes) in scanned
+    (Int (digits_value 16 (take n (drop 2 bytes)))) (n + 2)
 
 abbrev pub number_form : List ℕ → Scanned
 number_form bytes = if begins_hexadecimal bytes then hexadecimal_form bytes else decimal_form bytes
@@ -80,9 +84,11 @@ number_form bytes = if begins_hexadecimal bytes then hexadecimal_form bytes else
 -- what one more byte of a string does, after bytes that have led so far into an escape
 abbrev pub step : Escape → ℕ → Step
 step Outside b =
-    if b == newline then Fails else (if b == quote then Closes else (if b == backslash then Leads AfterBackslash else Gives b))
+    if b == newline then Fails else
+    (if b == quote then Closes else (if b == backslash then Leads AfterBackslash else Gives b))
 step AfterBackslash b =
-    if b == newline then Fails else (if b == small_x then Leads AfterX else Gives (if b == small_n then newline else b))
+    if b == newline then Fails else
+    (if b == small_x then Leads AfterX else Gives (if b == small_n then newline else b))
 step AfterX b = if is_hexadecimal b then Leads (AfterDigit (digit_value b)) else Fails
 step (AfterDigit high) b = if is_hexadecimal b then Gives (16 * high + digit_value b) else Fails
 
@@ -128,7 +134,8 @@ is_prefix (b ∷ sign) (c ∷ bytes) = b == c && is_prefix sign bytes
 -- the length of the first entry that begins the bytes
 abbrev pub first_prefix : List (List ℕ) → List ℕ → Option ℕ
 first_prefix [] bytes = None
-first_prefix (sign ∷ table) bytes = if is_prefix sign bytes then Some (length sign) else first_prefix table bytes
+first_prefix (sign ∷ table) bytes = if is_prefix sign bytes then Some
+    (length sign) else first_prefix table bytes
 
 abbrev pub sign_form : List ℕ → Option Scanned
 sign_form bytes = option_map (scanned Sign) (first_prefix signs bytes)
@@ -151,7 +158,8 @@ lexeme bytes = option_and_then within (form bytes)
 -- how many bytes come up to and with the next `*/`
 abbrev pub closing_comment : List ℕ → Option ℕ
 closing_comment [] = None
-closing_comment (b ∷ text) = if b == 42 && slice_index text 0 == 47 then Some 2 else option_map (λ n. n + 1) (closing_comment text)
+closing_comment (b ∷ text) = if b == 42
+    && slice_index text 0 == 47 then Some 2 else option_map (λ n. n + 1) (closing_comment text)
 
 -- the length of the closed comment that begins the bytes
 abbrev pub comment : List ℕ → Option ℕ

@@ -25,7 +25,8 @@ pub data Skips : List ℕ → List ℕ → Type 0 where
   blank : (b : ℕ) (after : List ℕ) → IsTrue (is_blank b) → Skips (b ∷ after) after
   line : (text after : List ℕ) → AllByRecursion (λ b. b ≢ newline) text → EndsLine after
       → Skips (47 ∷ 47 ∷ (text ++ after)) after
-  block : (text after : List ℕ) → NeverCloses text → Skips (47 ∷ 42 ∷ (text ++ 42 ∷ 47 ∷ after)) after
+  block : (text after : List ℕ) → NeverCloses text
+      → Skips (47 ∷ 42 ∷ (text ++ 42 ∷ 47 ∷ after)) after
 
 -- any number of blanks and closed comments
 pub data Gap : List ℕ → List ℕ → Type 0 where
@@ -43,7 +44,8 @@ begins_comment (b ∷ c ∷ bytes) = b == 47 && (c == 47 || c == 42)
 pub record BeginsWithToken (bytes : List ℕ) (kind : TokenKind) (text : List ℕ) : Type 0 where
   pub prefix : text ≡ take (length text) bytes
   pub lexeme : IsLexeme kind text
-  pub longest : (other : TokenKind) (n : ℕ) → n ≤ length bytes → HasForm other (take n bytes) → n ≤ length text
+  pub longest : (other : TokenKind) (n : ℕ) → n ≤ length bytes → HasForm other (take n bytes)
+      → n ≤ length text
   pub no_comment : begins_comment bytes ≡ false
 
 -- no token, blank or closed comment begins the bytes, of which there is one at least
@@ -101,9 +103,11 @@ IsFirst bytes file at (BadAt place) = IsFirstBad bytes at place
 -- left, and by the place where nothing begins.
 pub data Splits (bytes : List ℕ) (file : ℕ) : ℕ → List Lexeme → Option ℕ → Type 0 where
   whole : (at : ℕ) → IsFirst bytes file at AtEnd → Splits bytes file at [] None
-  broken : (at place : ℕ) → IsFirst bytes file at (BadAt place) → Splits bytes file at [] (Some place)
+  broken : (at place : ℕ) → IsFirst bytes file at (BadAt place)
+      → Splits bytes file at [] (Some place)
   token : (at : ℕ) (t : Lexeme) (ts : List Lexeme) (ending : Option ℕ)
-      → IsFirst bytes file at (Found t) → Splits bytes file t.end ts ending → Splits bytes file at (t ∷ ts) ending
+      → IsFirst bytes file at (Found t) → Splits bytes file t.end ts ending
+      → Splits bytes file at (t ∷ ts) ending
 
 -- the tokens of a file, all of which is tokens and gaps
 abbrev pub AreTokens : List ℕ → ℕ → List Lexeme → Type 0
@@ -115,13 +119,16 @@ AreTokensUpTo bytes file tokens place = Splits bytes file 0 tokens (Some place)
 
 -- a place of a file has one first token, or the file ends there, or nothing begins there
 abbrev pub OneFirst : Type 0
-OneFirst = (bytes : List ℕ) (file at : ℕ) (x y : First) → IsFirst bytes file at x → IsFirst bytes file at y → x ≡ y
+OneFirst = (bytes : List ℕ) (file at : ℕ) (x y : First) → IsFirst bytes file at x
+    → IsFirst bytes file at y → x ≡ y
 
 -- a file is split in at most one way, and ends in one way
 abbrev pub OneSplit : Type 0
 OneSplit =
-    (bytes : List ℕ) (file at : ℕ) (ts us : List Lexeme) (e f : Option ℕ) → Splits bytes file at ts e → Splits bytes file at us f → (ts ≡ us) × (e ≡ f)
+    (bytes : List ℕ) (file at : ℕ) (ts us : List Lexeme) (e f : Option ℕ)
+    → Splits bytes file at ts e → Splits bytes file at us f → (ts ≡ us) × (e ≡ f)
 
 -- each file is split from each place on
 abbrev pub SomeSplit : Type 0
-SomeSplit = (bytes : List ℕ) (file at : ℕ) → (tokens : List Lexeme) × (ending : Option ℕ) × Splits bytes file at tokens ending
+SomeSplit = (bytes : List ℕ) (file at : ℕ)
+    → (tokens : List Lexeme) × (ending : Option ℕ) × Splits bytes file at tokens ending

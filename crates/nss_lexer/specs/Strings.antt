@@ -34,7 +34,8 @@ pub data Spelling : List ℕ → ℕ → Type 0 where
 -- what follows an opening quote, up to its closing quote, and the bytes that stand between the two
 pub data Inside : List ℕ → List ℕ → Type 0 where
   closed : Inside (quote ∷ []) []
-  more : (b : ℕ) (one text bytes : List ℕ) → Spelling one b → Inside text bytes → Inside (one ++ text) (b ∷ bytes)
+  more : (b : ℕ) (one text bytes : List ℕ) → Spelling one b → Inside text bytes
+      → Inside (one ++ text) (b ∷ bytes)
 
 -- a string stands for these bytes
 pub data StandsFor : List ℕ → List ℕ → Type 0 where
@@ -49,11 +50,13 @@ IsString text = (bytes : List ℕ) × StandsFor text bytes
 abbrev mutual
   pub inside_value : List ℕ → List ℕ
   inside_value [] = []
-  inside_value (b ∷ text) = if b == quote then [] else (if b == backslash then escape_value text else b ∷ inside_value text)
+  inside_value (b ∷ text) = if b == quote then [] else
+      (if b == backslash then escape_value text else b ∷ inside_value text)
 
   pub escape_value : List ℕ → List ℕ
   escape_value [] = []
-  escape_value (b ∷ text) = if b == small_x then number_value text else (if b == small_n then newline else b) ∷ inside_value text
+  escape_value (b ∷ text) = if b == small_x then number_value text else
+      (if b == small_n then newline else b) ∷ inside_value text
 
   pub number_value : List ℕ → List ℕ
   number_value [] = []
@@ -69,4 +72,5 @@ OneValue = (text bytes : List ℕ) → StandsFor text bytes → bytes ≡ string
 
 -- what a string of bytes stands for are bytes
 abbrev pub ValuesAreBytes : Type 0
-ValuesAreBytes = (text : List ℕ) → IsString text → All (λ b. b < 256) text → All (λ b. b < 256) (string_value text)
+ValuesAreBytes = (text : List ℕ) → IsString text → All (λ b. b < 256) text
+    → All (λ b. b < 256) (string_value text)

@@ -149,11 +149,17 @@ complete_names (grammar.one {d = x} {xs = xs} h) d t before k rest ld lt =
 complete_names (grammar.more {d = x} {all = all} {xs = xs} {ys = ys} n h hs) d t before k rest ld lt =
     let j = ys ++ fixed k terminal.Semicolon ∷ rest in
     let regroup = append_assoc xs (fixed n terminal.Comma ∷ ys) (fixed k terminal.Semicolon ∷ rest) in
-    let again : length ((xs ++ fixed n terminal.Comma ∷ ys) ++ fixed k terminal.Semicolon ∷ rest) ≡ length xs + (length (ys ++ fixed k terminal.Semicolon ∷ rest) + 1) = ap length regroup ∙ tail_length xs (ys ++ fixed k terminal.Semicolon ∷ rest) (fixed n terminal.Comma) in
-    let whole : length (xs ++ fixed n terminal.Comma ∷ (ys ++ fixed k terminal.Semicolon ∷ rest)) ≡ length xs + (length (ys ++ fixed k terminal.Semicolon ∷ rest) + 1) = tail_length xs (ys ++ fixed k terminal.Semicolon ∷ rest) (fixed n terminal.Comma) in
+    let again : length ((xs ++ fixed n terminal.Comma ∷ ys) ++ fixed k terminal.Semicolon ∷ rest)
+    ≡ length xs + (length (ys ++ fixed k terminal.Semicolon ∷ rest) + 1) = ap length regroup
+    ∙ tail_length xs (ys ++ fixed k terminal.Semicolon ∷ rest) (fixed n terminal.Comma) in
+    let whole : length (xs ++ fixed n terminal.Comma ∷ (ys ++ fixed k terminal.Semicolon ∷ rest))
+    ≡ length xs + (length (ys ++ fixed k terminal.Semicolon ∷ rest) + 1) = tail_length xs
+    (ys ++ fixed k terminal.Semicolon ∷ rest) (fixed n terminal.Comma) in
     let some = some_declared h in
     ap (λ (z : List Numbered). and_then (declared d z) (λ x. more_declared d t (before ++ x ∷ []))) regroup
-    ∙ ap (λ (z : Outcome SourceDeclared). and_then z (λ x. more_declared d t (before ++ x ∷ []))) (complete_declared h d (fixed n terminal.Comma ∷ (ys ++ fixed k terminal.Semicolon ∷ rest)) (stops_comma n (ys ++ fixed k terminal.Semicolon ∷ rest)) (omega arith))
+    ∙ ap (λ (z : Outcome SourceDeclared). and_then z (λ x. more_declared d t (before ++ x ∷ [])))
+    (complete_declared h d (fixed n terminal.Comma ∷ (ys ++ fixed k terminal.Semicolon ∷ rest))
+    (stops_comma n (ys ++ fixed k terminal.Semicolon ∷ rest)) (omega arith))
     ∙ name_turn d t n (before ++ x ∷ []) (ys ++ fixed k terminal.Semicolon ∷ rest) (Got (before ++ x ∷ all) (fixed k terminal.Semicolon ∷ rest)) (omega arith) (λ t' le.
     complete_names hs d t' (before ++ x ∷ []) k rest (omega arith) le
     ∙ ap (λ (z : List SourceDeclared). Got z (fixed k terminal.Semicolon ∷ rest)) (append_assoc before (x ∷ []) all))

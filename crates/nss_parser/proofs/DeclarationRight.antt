@@ -71,7 +71,10 @@ type_at n m r None e = by_test (same_terminal terminal.Struct m) refl
   where
     by_test : (b : Bool) → same_terminal terminal.Struct m ≡ b
         → Right TypeAt TypeFront ⊥ (fixed n m ∷ r) (and_then (and_then (branch b take stuck (fixed n m ∷ r)) (λ k. name >>= λ f. pure (type.Struct f))) (λ t j. Got (n, t) j))
-    by_test true same = subst (λ (z : Terminal). Right TypeAt TypeFront ⊥ (fixed n z ∷ r) (and_then (and_then (name r) (λ f j. Got (type.Struct f) j)) (λ t j. Got (n, t) j))) (terminal_same terminal.Struct m same) (struct_type n r)
+    by_test true same = subst
+        (λ (z : Terminal). Right TypeAt TypeFront ⊥ (fixed n z ∷ r)
+        (and_then (and_then (name r) (λ f j. Got (type.Struct f) j)) (λ t j. Got (n, t) j)))
+        (terminal_same terminal.Struct m same) (struct_type n r)
     by_test false other = right_stuck (inl refl)
 
 typed_at : (n : ℕ) (s : Symbol) (r : List Numbered) → Right TypeAt TypeFront ⊥ (at n s ∷ r) (typed (at n s ∷ r))
@@ -132,7 +135,9 @@ right_declared_after d k f i =
     right_choice terminal.Assign i _ _
     (λ n r is. after_take (λ n. level d 0 >>= λ x. pure (record { token = k; name = f; value = Some x })) n (symbol.Fixed terminal.Assign) r is
     (then (right_level d 0 (omega arith) r)
-    (λ y ys rest h e. right_pure (subst (λ (z : List Numbered). Declared (record { token = k; name = f; value = Some y }) (at k (symbol.Name f) ∷ fixed n terminal.Assign ∷ z)) (sym (append-nil ys)) (grammar.valued k n f h.0)))
+    (λ y ys rest h e. right_pure
+    (subst (λ (z : List Numbered). Declared (record { token = k; name = f; value = Some y })
+    (at k (symbol.Name f) ∷ fixed n terminal.Assign ∷ z)) (sym (append-nil ys)) (grammar.valued k n f h.0)))
     (λ ys v. viable_as Expression (λ y zs. Declared y (at k (symbol.Name f) ∷ fixed n terminal.Assign ∷ zs)) ys v (λ y zs h. (record { token = k; name = f; value = Some y }, grammar.valued k n f h)))
     (λ deep. let shorter : length i ≡ suc (length r) = ap length is in omega arith)))
     (λ other. right_pure (grammar.bare k f))
@@ -145,7 +150,8 @@ right_declared d i =
     (λ j. (by_name ∷ [], record { token = j; name = some_name; value = None }, grammar.bare j some_name))
 
 -- one more declared name at the end
-pub names_push : {all : List SourceDeclared} {y : SourceDeclared} {xs ys : List Numbered} (n : ℕ) → DeclaredNames all xs → Declared y ys → DeclaredNames (all ++ y ∷ []) (xs ++ fixed n terminal.Comma ∷ ys)
+pub names_push : {all : List SourceDeclared} {y : SourceDeclared} {xs ys : List Numbered} (n : ℕ) → DeclaredNames all xs
+    → Declared y ys → DeclaredNames (all ++ y ∷ []) (xs ++ fixed n terminal.Comma ∷ ys)
 names_push n (grammar.one h) last = grammar.more n h (grammar.one last)
 names_push {y = y} {ys = ys} n (grammar.more {d = x} {all = all} {xs = xs} {ys = zs} m h hs) last =
     subst (λ (z : List Numbered). DeclaredNames (x ∷ (all ++ y ∷ [])) z) (sym (append_assoc xs (fixed m terminal.Comma ∷ zs) (fixed n terminal.Comma ∷ ys))) (grammar.more m h (names_push n hs last))

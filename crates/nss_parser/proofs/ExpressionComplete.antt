@@ -42,7 +42,8 @@ finish zero least x i rest h lt c = absurd (omega arith)
 finish (suc e) least x i rest h lt c = let (m, more, is) = c e (omega arith) in is ∙ climb_stops e m least x rest more h
 
 -- a level that begins with a unary
-comes_unary : (e least : ℕ) (x : PlainExpr) (i rest : List Numbered) → prefix e (level e) i ≡ Got x rest → length rest < e → ((least == 0) ≡ true → assign_of (first rest) ≡ None) → Comes e least x i rest
+comes_unary : (e least : ℕ) (x : PlainExpr) (i rest : List Numbered) → prefix e (level e) i ≡ Got x rest
+    → length rest < e → ((least == 0) ≡ true → assign_of (first rest) ≡ None) → Comes e least x i rest
 comes_unary e least x i rest is lt h = (e, lt, step.level_step e least x i rest is ∙ step.first_climbs e (level e) least x rest h)
 
 -- one more operator
@@ -85,7 +86,9 @@ mutual
   no_prefix_primary (grammar.parenthesized m k e) rest = refl
 
   no_prefix_postfix : {x : PlainExpr} {xs : List Numbered} → Postfix x xs → (rest : List Numbered) → prefix_of (first (xs ++ rest)) ≡ None
-  no_prefix_postfix (grammar.member {xs = xs} n k f p) rest = ap (λ (l : List Numbered). prefix_of (first l)) (append_assoc xs (fixed n terminal.Dot ∷ at k (symbol.Name f) ∷ []) rest) ∙ no_prefix_postfix p (fixed n terminal.Dot ∷ at k (symbol.Name f) ∷ rest)
+  no_prefix_postfix (grammar.member {xs = xs} n k f p) rest = ap (λ (l : List Numbered). prefix_of (first l))
+      (append_assoc xs (fixed n terminal.Dot ∷ at k (symbol.Name f) ∷ []) rest)
+      ∙ no_prefix_postfix p (fixed n terminal.Dot ∷ at k (symbol.Name f) ∷ rest)
   no_prefix_postfix (grammar.step {xs = xs} n m o is p) rest = ap (λ (l : List Numbered). prefix_of (first l)) (append_assoc xs (fixed n m ∷ []) rest) ∙ no_prefix_postfix p (fixed n m ∷ rest)
   no_prefix_postfix (grammar.primary p) rest = no_prefix_primary p rest
 
@@ -102,7 +105,9 @@ unfolding first
 no_call_step n m r e = e
 
 -- one turn of a loop over arguments
-argument_turn : (d t : ℕ) (before : PlainExprs) (i : List Numbered) (o : Outcome PlainExprs) → length i < t → ((t' : ℕ) → length i ≤ t' → arguments_from d (level d) (suc t') before i ≡ o) → arguments_from d (level d) t before i ≡ o
+argument_turn : (d t : ℕ) (before : PlainExprs) (i : List Numbered) (o : Outcome PlainExprs) → length i < t
+    → ((t' : ℕ) → length i ≤ t' → arguments_from d (level d) (suc t') before i ≡ o)
+    → arguments_from d (level d) t before i ≡ o
 argument_turn d zero before i o lt h = absurd (omega arith)
 argument_turn d (suc t) before i o lt h = h t (omega arith)
 
@@ -135,7 +140,8 @@ mutual
       (λ e le. complete_unary u e (fixed n m ∷ (ys ++ rest)) (apart_at_set n m (ys ++ rest) (assign_set m o is)) (omega arith))
       (λ e le. complete_expression v e rest ends le)
 
-  complete_binary : {k : ℕ} {x : PlainExpr} {xs : List Numbered} → Binary k x xs → (e least : ℕ) (rest : List Numbered) → least ≤ k → Ends (suc k) rest → length (xs ++ rest) ≤ e → Comes e least x (xs ++ rest) rest
+  complete_binary : {k : ℕ} {x : PlainExpr} {xs : List Numbered} → Binary k x xs → (e least : ℕ) (rest : List Numbered)
+      → least ≤ k → Ends (suc k) rest → length (xs ++ rest) ≤ e → Comes e least x (xs ++ rest) rest
   complete_binary (grammar.operation {x = x} {y = y} {xs = xs} {ys = ys} n m o is l r) e least rest le ends len =
       let regroup = append_assoc xs (fixed n m ∷ ys) rest in
       let again : length ((xs ++ fixed n m ∷ ys) ++ rest) ≡ length xs + (length (ys ++ rest) + 1) = ap length regroup ∙ tail_length xs ys rest (fixed n m) in
@@ -173,7 +179,8 @@ mutual
   complete_postfix (grammar.primary {x = x} {xs = xs} p) d rest call len =
       (d, (let s = shorter xs rest (starts_primary p) in omega arith), ap (λ (z : Outcome PlainExpr). and_then z (suffixes d)) (complete_primary p d rest call len))
 
-  complete_primary : {x : PlainExpr} {xs : List Numbered} → Primary x xs → (d : ℕ) (rest : List Numbered) → sees terminal.Open rest ≡ false → length (xs ++ rest) ≤ d → primary d (level d) (xs ++ rest) ≡ Got x rest
+  complete_primary : {x : PlainExpr} {xs : List Numbered} → Primary x xs → (d : ℕ) (rest : List Numbered)
+      → sees terminal.Open rest ≡ false → length (xs ++ rest) ≤ d → primary d (level d) (xs ++ rest) ≡ Got x rest
   complete_primary (grammar.int n v) d rest call len = step.int_step d (level d) n v rest
   complete_primary (grammar.float n) d rest call len = step.float_step d (level d) n rest
   complete_primary (grammar.text n bytes) d rest call len = step.text_step d (level d) n bytes rest
@@ -204,11 +211,16 @@ mutual
   complete_expressions (grammar.more {x = x} {all = all} {xs = xs} {ys = ys} n e es) d t before k rest ld lt =
       let j = ys ++ fixed k terminal.Close ∷ rest in
       let regroup = append_assoc xs (fixed n terminal.Comma ∷ ys) (fixed k terminal.Close ∷ rest) in
-      let again : length ((xs ++ fixed n terminal.Comma ∷ ys) ++ fixed k terminal.Close ∷ rest) ≡ length xs + (length (ys ++ fixed k terminal.Close ∷ rest) + 1) = ap length regroup ∙ tail_length xs ys (fixed k terminal.Close ∷ rest) (fixed n terminal.Comma) in
-      let whole : length (xs ++ fixed n terminal.Comma ∷ (ys ++ fixed k terminal.Close ∷ rest)) ≡ length xs + (length (ys ++ fixed k terminal.Close ∷ rest) + 1) = tail_length xs ys (fixed k terminal.Close ∷ rest) (fixed n terminal.Comma) in
+      let again : length ((xs ++ fixed n terminal.Comma ∷ ys) ++ fixed k terminal.Close ∷ rest)
+      ≡ length xs + (length (ys ++ fixed k terminal.Close ∷ rest) + 1) = ap length regroup
+      ∙ tail_length xs ys (fixed k terminal.Close ∷ rest) (fixed n terminal.Comma) in
+      let whole : length (xs ++ fixed n terminal.Comma ∷ (ys ++ fixed k terminal.Close ∷ rest))
+      ≡ length xs + (length (ys ++ fixed k terminal.Close ∷ rest) + 1) = tail_length xs ys
+      (fixed k terminal.Close ∷ rest) (fixed n terminal.Comma) in
       ap (arguments_from d (level d) t before) regroup
       ∙ argument_turn d t before (xs ++ fixed n terminal.Comma ∷ (ys ++ fixed k terminal.Close ∷ rest)) (Got (joined_exprs before (tree.more_exprs x all)) rest) (omega arith) (λ t' le.
       step.next_argument d (level d) t' n before x (xs ++ fixed n terminal.Comma ∷ (ys ++ fixed k terminal.Close ∷ rest)) (ys ++ fixed k terminal.Close ∷ rest)
       (complete_expression e d (fixed n terminal.Comma ∷ (ys ++ fixed k terminal.Close ∷ rest)) (ends_at 0 n terminal.Comma (ys ++ fixed k terminal.Close ∷ rest) comma_ends) (omega arith))
-      ∙ complete_expressions es d t' (joined_exprs before (tree.more_exprs x tree.no_expr)) k rest (omega arith) (let some : 0 < length xs = starts_length begins_expression xs (starts_expression e) in omega arith)
+      ∙ complete_expressions es d t' (joined_exprs before (tree.more_exprs x tree.no_expr)) k rest (omega arith)
+      (let some : 0 < length xs = starts_length begins_expression xs (starts_expression e) in omega arith)
       ∙ ap (λ (z : PlainExprs). Got z rest) (joined_step before all x))

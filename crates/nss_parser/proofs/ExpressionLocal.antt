@@ -32,14 +32,16 @@ local_suffixes (suc d) zero le x = absurd (omega arith)
 local_suffixes (suc d) (suc e) le x = local_peek (λ o. local_suffixes_by (suffixes d) (suffixes e) (λ y. local_suffixes d e (omega arith) y) x (suffix_of o))
 
 module _ (d e : ℕ) (le : d ≤ e) (inner outer : ℕ → Parser PlainExpr) (local : (k : ℕ) → Local (inner k) (outer k)) where
-  local_after_argument : (p q : PlainExprs → Parser PlainExprs) → ((all : PlainExprs) → Local (p all) (q all)) → (all : PlainExprs) → Local (after_argument d inner p all) (after_argument e outer q all)
+  local_after_argument : (p q : PlainExprs → Parser PlainExprs) → ((all : PlainExprs) → Local (p all) (q all))
+      → (all : PlainExprs) → Local (after_argument d inner p all) (after_argument e outer q all)
   local_after_argument p q l all = local_choice (is_terminal terminal.Comma) (local_bind local_take (λ n. l all)) (local_bind (local_expect terminal.Close) (λ k. local_pure all))
 
   local_arguments_from : (t t' : ℕ) → t ≤ t' → (before : PlainExprs) → Local (arguments_from d inner t before) (arguments_from e outer t' before)
   local_arguments_from zero t' lt before = local_deep (arguments_from e outer t' before)
   local_arguments_from (suc t) zero lt before = absurd (omega arith)
   local_arguments_from (suc t) (suc t') lt before =
-      local_bind (local 0) (λ x. local_after_argument (arguments_from d inner t) (arguments_from e outer t') (λ all. local_arguments_from t t' (omega arith) all) (joined_exprs before (tree.more_exprs x tree.no_expr)))
+      local_bind (local 0) (λ x. local_after_argument (arguments_from d inner t) (arguments_from e outer t')
+      (λ all. local_arguments_from t t' (omega arith) all) (joined_exprs before (tree.more_exprs x tree.no_expr)))
 
   local_arguments : Local (arguments d inner) (arguments e outer)
   unfolding arguments

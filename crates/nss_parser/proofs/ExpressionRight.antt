@@ -46,7 +46,8 @@ unary_only (grammar.operation n m o is l r) le = absurd (let h = level_below o i
 unary_only (grammar.tighter b) le = unary_only b (omega arith)
 unary_only (grammar.unary u) le = u
 
-binary_fixed_at : (o : BinaryOperator) (n : ℕ) (s : Symbol) (r : List Numbered) → binary_of (Some s) ≡ Some o → (k : ℕ) × (m : Terminal) × (z : List Numbered) × (at n s ∷ r ≡ fixed k m ∷ z) × (binary_operator m ≡ Some o)
+binary_fixed_at : (o : BinaryOperator) (n : ℕ) (s : Symbol) (r : List Numbered) → binary_of (Some s) ≡ Some o
+    → (k : ℕ) × (m : Terminal) × (z : List Numbered) × (at n s ∷ r ≡ fixed k m ∷ z) × (binary_operator m ≡ Some o)
 binary_fixed_at o n (symbol.Fixed m) r e = (n, m, r, refl, e)
 binary_fixed_at o n (symbol.Name f) r e = cc
 binary_fixed_at o n (symbol.Int v) r e = cc
@@ -59,7 +60,8 @@ unfolding first
 binary_fixed [] o e = cc
 binary_fixed (s ∷ r) o e = binary_fixed_at o s.number s.symbol r e
 
-assign_fixed_at : (o : AssignOperator) (n : ℕ) (s : Symbol) (r : List Numbered) → assign_of (Some s) ≡ Some o → (k : ℕ) × (m : Terminal) × (z : List Numbered) × (at n s ∷ r ≡ fixed k m ∷ z) × (assign_operator m ≡ Some o)
+assign_fixed_at : (o : AssignOperator) (n : ℕ) (s : Symbol) (r : List Numbered) → assign_of (Some s) ≡ Some o
+    → (k : ℕ) × (m : Terminal) × (z : List Numbered) × (at n s ∷ r ≡ fixed k m ∷ z) × (assign_operator m ≡ Some o)
 assign_fixed_at o n (symbol.Fixed m) r e = (n, m, r, refl, e)
 assign_fixed_at o n (symbol.Name f) r e = cc
 assign_fixed_at o n (symbol.Int v) r e = cc
@@ -72,7 +74,8 @@ unfolding first
 assign_fixed [] o e = cc
 assign_fixed (s ∷ r) o e = assign_fixed_at o s.number s.symbol r e
 
-prefix_fixed_at : (o : PrefixOperator) (n : ℕ) (s : Symbol) (r : List Numbered) → prefix_of (Some s) ≡ Some o → (k : ℕ) × (m : Terminal) × (z : List Numbered) × (at n s ∷ r ≡ fixed k m ∷ z) × (prefix_operator m ≡ Some o)
+prefix_fixed_at : (o : PrefixOperator) (n : ℕ) (s : Symbol) (r : List Numbered) → prefix_of (Some s) ≡ Some o
+    → (k : ℕ) × (m : Terminal) × (z : List Numbered) × (at n s ∷ r ≡ fixed k m ∷ z) × (prefix_operator m ≡ Some o)
 prefix_fixed_at o n (symbol.Fixed m) r e = (n, m, r, refl, e)
 prefix_fixed_at o n (symbol.Name f) r e = cc
 prefix_fixed_at o n (symbol.Int v) r e = cc
@@ -186,11 +189,19 @@ module _ (d : ℕ) (inner : ℕ → Parser PlainExpr)
       (λ k r e. after_take (λ n. arguments_from d inner t (joined_exprs before (tree.more_exprs x tree.no_expr))) k (symbol.Fixed terminal.Comma) r e
       (right_as (right_arguments_from t (joined_exprs before (tree.more_exprs x tree.no_expr)) r)
       (λ all zs end q. let (more, same, p) = q in (tree.more_exprs x more, same ∙ joined_step before more x, ended_more k x xs h.0 p))
-      (λ zs v. viable_under Ended xs (fixed k terminal.Comma ∷ zs) (viable_as Ended (λ all ys. Ended all (xs ++ fixed k terminal.Comma ∷ ys)) zs v (λ all ys p. (tree.more_exprs x all, ended_more k x xs h.0 p))))
+      (λ zs v. viable_under Ended xs (fixed k terminal.Comma ∷ zs)
+      (viable_as Ended (λ all ys. Ended all (xs ++ fixed k terminal.Comma ∷ ys)) zs v
+      (λ all ys p. (tree.more_exprs x all, ended_more k x xs h.0 p))))
       (λ deep. let shorter : length rest ≡ suc (length r) = ap length e in elim deep [ inl a ↦ inl (omega arith) | inr b ↦ inr (omega arith) ])))
       (λ other. then_expect terminal.Close rest
       (λ k r e. right_pure (tree.more_exprs x tree.no_expr, refl, ended k (grammar.one h.0)))
-      (λ j. (by_terminal terminal.Close ∷ [], tree.more_exprs x tree.no_expr, subst (λ (z : List Numbered). Ended (tree.more_exprs x tree.no_expr) (z ++ fixed j terminal.Close ∷ [])) (sym (append-nil xs)) (ended j (grammar.one h.0))))))
+      (λ j. (
+        by_terminal terminal.Close ∷ [],
+        tree.more_exprs x tree.no_expr,
+        subst
+            (λ (z : List Numbered). Ended (tree.more_exprs x tree.no_expr) (z ++ fixed j terminal.Close ∷ []))
+            (sym (append-nil xs)) (ended j (grammar.one h.0)),
+      ))))
       (λ xs v. viable_then Expression Ended xs (by_terminal terminal.Close ∷ []) v (λ x ys n e. (tree.more_exprs x tree.no_expr, ended n (grammar.one e))))
       (λ deep. inr deep)
 
@@ -261,7 +272,8 @@ module _ (d : ℕ) (inner : ℕ → Parser PlainExpr)
 
   -- an operator and its right operand, after the left operand ls
   right_operation : (o : BinaryOperator) (x : PlainExpr) (ls i : List Numbered) → Binary (level_of o) x ls → binary_of (first i) ≡ Some o
-      → Right (λ y ys rest. Binary (level_of o) y (ls ++ ys) × NoOperator (suc (level_of o)) rest × (0 < length ys)) (λ ys. Viable (Binary (level_of o)) (ls ++ ys)) (d ≤ length i) i (operation d inner o x i)
+      → Right (λ y ys rest. Binary (level_of o) y (ls ++ ys) × NoOperator (suc (level_of o)) rest × (0 < length ys))
+      (λ ys. Viable (Binary (level_of o)) (ls ++ ys)) (d ≤ length i) i (operation d inner o x i)
   unfolding operation
   right_operation o x ls i l e =
       let (n, m, r, is, operator) = binary_fixed i o e in
@@ -277,17 +289,23 @@ module _ (d : ℕ) (inner : ℕ → Parser PlainExpr)
       → ((k : ℕ) (y : PlainExpr) (ps r : List Numbered) → least ≤ k → 0 < k → Binary k y ps → NoOperator (suc k) r
       → Right (λ z zs end. LevelAt least z (ps ++ zs) × NoOperator least end) (λ zs. Viable (LevelAt least) (ps ++ zs)) ((t ≤ length r) ⊎ (d ≤ length r)) r (climb d inner t least y r))
       → (z : Option BinaryOperator) → binary_of (first i) ≡ z
-      → Right (λ y ys rest. LevelAt least y (ls ++ ys) × NoOperator least rest) (λ ys. Viable (LevelAt least) (ls ++ ys)) ((suc t ≤ length i) ⊎ (d ≤ length i)) i (climb_by d inner (climb d inner t least) least x z i)
+      → Right (λ y ys rest. LevelAt least y (ls ++ ys) × NoOperator least rest)
+      (λ ys. Viable (LevelAt least) (ls ++ ys)) ((suc t ≤ length i) ⊎ (d ≤ length i)) i
+      (climb_by d inner (climb d inner t least) least x z i)
   climb_go t least j x ls i le positive l tight again None e =
       right_pure (subst (λ (z : List Numbered). LevelAt least x z) (sym (append-nil ls)) (level_at least j le positive l), λ o is. absurd (let bad : Some o ≡ None = sym is ∙ e in cc))
   climb_go t least j x ls i le positive l tight again (Some o) e = by_test (nat_lt (level_of o) least) refl
     where
       by_test : (b : Bool) → nat_lt (level_of o) least ≡ b
-          → Right (λ y ys rest. LevelAt least y (ls ++ ys) × NoOperator least rest) (λ ys. Viable (LevelAt least) (ls ++ ys)) ((suc t ≤ length i) ⊎ (d ≤ length i)) i (branch b (λ r. Got x r) (operation d inner o x >>= climb d inner t least) i)
+          → Right (λ y ys rest. LevelAt least y (ls ++ ys) × NoOperator least rest)
+          (λ ys. Viable (LevelAt least) (ls ++ ys)) ((suc t ≤ length i) ⊎ (d ≤ length i)) i
+          (branch b (λ r. Got x r) (operation d inner o x >>= climb d inner t least) i)
       by_test true lt =
           right_pure (
             subst (λ (z : List Numbered). LevelAt least x z) (sym (append-nil ls)) (level_at least j le positive l),
-            λ p is. let same : Some p ≡ Some o = sym is ∙ e in let h : level_of o < least = ltb-true (level_of o) least lt in subst (λ (q : BinaryOperator). level_of q < least) (let s : o ≡ p = cc in s) h,
+            λ p is. let same : Some p
+                ≡ Some o = sym is ∙ e in let h : level_of o < least = ltb-true (level_of o) least lt in subst
+                (λ (q : BinaryOperator). level_of q < least) (let s : o ≡ p = cc in s) h,
           )
       by_test false ge =
           let loose : least ≤ level_of o = ltb-false (level_of o) least ge in
@@ -332,7 +350,8 @@ module _ (d : ℕ) (inner : ℕ → Parser PlainExpr)
   unfolding after_first assigned
   right_after_first zero x xs i le u = right_assigned_by x xs i u (assign_of (first i)) refl
   right_after_first (suc k) x xs i le u =
-      right_same (ap (λ (b : Bool). branch b (assigned d inner x) (climb d inner d (suc k) x) i) (ne_eqb (suc k) 0 (λ bad. let h : suc k ≡ 0 = bad in omega arith))) (right_operators (suc k) x xs i le u)
+      right_same (ap (λ (b : Bool). branch b (assigned d inner x) (climb d inner d (suc k) x) i)
+      (ne_eqb (suc k) 0 (λ bad. let h : suc k ≡ 0 = bad in omega arith))) (right_operators (suc k) x xs i le u)
 
   right_next_level : (least : ℕ) (i : List Numbered) → least ≤ unary_level
       → Right (λ x xs rest. LevelAt least x xs × NoOperator least rest) (Viable (LevelAt least)) (suc d ≤ length i) i (and_then (prefix d inner i) (after_first d inner least))

@@ -45,7 +45,9 @@ module _ (d : ℕ) (inner : ℕ → Parser PlainExpr) where
   unfolding primary after_name first take
   name_step n f rest e = rw e refl
 
-  pub call_empty_step : (n m k : ℕ) (f : List ℕ) (rest : List Numbered) → primary d inner (at n (symbol.Name f) ∷ fixed m terminal.Open ∷ fixed k terminal.Close ∷ rest) ≡ Got (tree.call n f tree.no_expr) rest
+  pub call_empty_step : (n m k : ℕ) (f : List ℕ) (rest : List Numbered)
+      → primary d inner (at n (symbol.Name f) ∷ fixed m terminal.Open ∷ fixed k terminal.Close ∷ rest)
+      ≡ Got (tree.call n f tree.no_expr) rest
   unfolding primary after_name arguments first take same_terminal
   call_empty_step n m k f rest = refl
 

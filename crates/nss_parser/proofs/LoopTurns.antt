@@ -16,8 +16,11 @@ name_more d t n all x i j r comma taken e =
     ∙ ap (λ (z : Outcome ℕ). and_then z (λ m k'. and_then (declared d k') (λ y. more_declared d t (all ++ y ∷ [])))) taken
     ∙ ap (λ (z : Outcome SourceDeclared). and_then z (λ y. more_declared d t (all ++ y ∷ []))) e
 
-pub entry_more : (d t : ℕ) (statement : Parser SourceStmt) (labels : Bool) (all : SourceStmts) (s : SourceStmt) (i r : List Numbered) → sees terminal.CloseBrace i ≡ false → entry d statement labels i ≡ Got s r
+pub entry_more : (d t : ℕ) (statement : Parser SourceStmt) (labels : Bool) (all : SourceStmts) (s : SourceStmt)
+    (i r : List Numbered) → sees terminal.CloseBrace i ≡ false → entry d statement labels i ≡ Got s r
     → entries_from d statement labels (suc t) all i ≡ entries_from d statement labels t (joined_stmts all (stmt.more_stmts s stmt.no_stmt)) r
 entry_more d t statement labels all s i r brace e =
-    ap (λ (b : Bool). branch b (λ k. and_then (take k) (λ m k'. Got all k')) (λ k. and_then (entry d statement labels k) (λ y. entries_from d statement labels t (joined_stmts all (stmt.more_stmts y stmt.no_stmt)))) i) brace
+    ap (λ (b : Bool). branch b (λ k. and_then (take k) (λ m k'. Got all k'))
+    (λ k. and_then (entry d statement labels k)
+    (λ y. entries_from d statement labels t (joined_stmts all (stmt.more_stmts y stmt.no_stmt)))) i) brace
     ∙ ap (λ (z : Outcome SourceStmt). and_then z (λ y. entries_from d statement labels t (joined_stmts all (stmt.more_stmts y stmt.no_stmt)))) e

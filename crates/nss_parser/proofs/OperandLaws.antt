@@ -34,6 +34,7 @@ module _ (d : ℕ) (level : ℕ → Parser PlainExpr) where
   unfolding operation
   operation_is o left i = operand_is level (level_of o + 1) (λ n x. tree.binary n o left x) i
 
-  pub assigned_is : (o : AssignOperator) (left : PlainExpr) (i : List Numbered) → assign_of (first i) ≡ Some o → assigned d level left i ≡ and_then (operand level 0 i) (λ p. pure (tree.assign p.0 o left p.1))
+  pub assigned_is : (o : AssignOperator) (left : PlainExpr) (i : List Numbered) → assign_of (first i) ≡ Some o
+      → assigned d level left i ≡ and_then (operand level 0 i) (λ p. pure (tree.assign p.0 o left p.1))
   unfolding assigned
   assigned_is o left i e = ap (λ (z : Option AssignOperator). assigned_by d level left z i) e ∙ operand_is level 0 (λ n x. tree.assign n o left x) i

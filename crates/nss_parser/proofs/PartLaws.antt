@@ -48,7 +48,9 @@ module _ (n : ℕ) (s : SourceStmt) where
   end_semicolon x (Stuck r) = refl
   end_semicolon x Deep = refl
 
-  end_condition : (o : Outcome PlainExpr) → and_then o (λ x. expect terminal.Semicolon >>= λ k. pure (stmt.do_loop n s x)) ≡ and_then (and_then o (λ x. expect terminal.Semicolon >>= λ k. pure x)) (λ y. pure (stmt.do_loop n s y))
+  end_condition : (o : Outcome PlainExpr)
+      → and_then o (λ x. expect terminal.Semicolon >>= λ k. pure (stmt.do_loop n s x))
+      ≡ and_then (and_then o (λ x. expect terminal.Semicolon >>= λ k. pure x)) (λ y. pure (stmt.do_loop n s y))
   end_condition (Got x r) = end_semicolon x (expect terminal.Semicolon r)
   end_condition (Stuck r) = refl
   end_condition Deep = refl
@@ -102,7 +104,8 @@ unfolding for_statement
 for_is d statement i = same_after (take i) _ _ (λ n r. sym (head_is d (for_rest statement n) r))
 
 -- a `for` whose number and head were read
-pub for_after : (d : ℕ) (statement : Parser SourceStmt) (n : ℕ) (h : ForHead PlainExpr) (i j k : List Numbered) → take i ≡ Got n j → for_head d j ≡ Got h k → for_statement d statement i ≡ for_rest statement n h k
+pub for_after : (d : ℕ) (statement : Parser SourceStmt) (n : ℕ) (h : ForHead PlainExpr) (i j k : List Numbered)
+    → take i ≡ Got n j → for_head d j ≡ Got h k → for_statement d statement i ≡ for_rest statement n h k
 for_after d statement n h i j k taken headed =
     for_is d statement i
     ∙ ap (λ (z : Outcome ℕ). and_then z (λ m. for_head d >>= for_rest statement m)) taken

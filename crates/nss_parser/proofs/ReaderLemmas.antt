@@ -33,7 +33,9 @@ got_of xs d x v rest e h =
     subst (λ (n : ℕ). Parses (map plain_symbol xs) (record { items = x; count = n })) (count_is xs)
     (whole.whole_got (map plain_symbol xs) d x rest (ap (items d (entries d (statement d) false)) (sym e) ∙ h))
 
-pub stuck_of : (xs : List Seen) (d : ℕ) (v left : List Numbered) → v ≡ numbered_from 0 (map plain_symbol xs) → length xs + 1 < d → items d (entries d (statement d) false) v ≡ Stuck left → IsPlace (map plain_symbol xs) (length xs - length left)
+pub stuck_of : (xs : List Seen) (d : ℕ) (v left : List Numbered) → v ≡ numbered_from 0 (map plain_symbol xs)
+    → length xs + 1 < d → items d (entries d (statement d) false) v ≡ Stuck left
+    → IsPlace (map plain_symbol xs) (length xs - length left)
 unfolding unit
 stuck_of xs d v left e lt h =
     let count = count_is xs in

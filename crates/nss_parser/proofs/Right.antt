@@ -44,7 +44,8 @@ further {Q = Q} {W = W} {E = E} {i = i} {rest = rest} {o = o} xs e r = record { 
 
 -- one reader after another: the first part, the rest after each answer of it, how a prefix of the
 -- part is a prefix of the whole, and the depth
-then_of : {A B : Type 0} (P : A → List Numbered → List Numbered → Type 0) (V : List Numbered → Type 0) (D : Type 0) (Q : B → List Numbered → List Numbered → Type 0) (W : List Numbered → Type 0) (E : Type 0)
+then_of : {A B : Type 0} (P : A → List Numbered → List Numbered → Type 0) (V : List Numbered → Type 0) (D : Type 0)
+    (Q : B → List Numbered → List Numbered → Type 0) (W : List Numbered → Type 0) (E : Type 0)
     (i : List Numbered) (o : Outcome A) (f : A → Parser B) → RightOf P V D i o
     → ((x : A) (xs rest : List Numbered) → P x xs rest → i ≡ xs ++ rest → Right (λ y ys end. Q y (xs ++ ys) end) (λ ys. W (xs ++ ys)) E rest (f x rest))
     → ((xs : List Numbered) → V xs → W xs) → (D → E) → Right Q W E i (and_then o f)
@@ -52,7 +53,8 @@ then_of P V D Q W E i (Got x rest) f (xs, e, p) go prefixes depth = further xs e
 then_of P V D Q W E i (Stuck left) f (xs, e, v) go prefixes depth = record { by = (xs, e, prefixes xs v) }
 then_of P V D Q W E i Deep f d go prefixes depth = record { by = depth d }
 
-pub then : {A B : Type 0} {P : A → List Numbered → List Numbered → Type 0} {V : List Numbered → Type 0} {D : Type 0} {Q : B → List Numbered → List Numbered → Type 0} {W : List Numbered → Type 0} {E : Type 0}
+pub then : {A B : Type 0} {P : A → List Numbered → List Numbered → Type 0} {V : List Numbered
+    → Type 0} {D : Type 0} {Q : B → List Numbered → List Numbered → Type 0} {W : List Numbered → Type 0} {E : Type 0}
     {i : List Numbered} {o : Outcome A} {f : A → Parser B} → Right P V D i o
     → ((x : A) (xs rest : List Numbered) → P x xs rest → i ≡ xs ++ rest → Right (λ y ys end. Q y (xs ++ ys) end) (λ ys. W (xs ++ ys)) E rest (f x rest))
     → ((xs : List Numbered) → V xs → W xs) → (D → E) → Right Q W E i (and_then o f)
@@ -69,7 +71,8 @@ pub right_as : {A : Type 0} {P Q : A → List Numbered → List Numbered → Typ
 right_as {P = P} {Q = Q} {V = V} {W = W} {D = D} {E = E} {i = i} {o = o} r got prefixes depth = record { by = as_of P Q V W D E i o r.by got prefixes depth }
 
 -- a reader at another outcome that is the same
-pub right_same : {A : Type 0} {P : A → List Numbered → List Numbered → Type 0} {V : List Numbered → Type 0} {D : Type 0} {i : List Numbered} {o o' : Outcome A} → o' ≡ o → Right P V D i o → Right P V D i o'
+pub right_same : {A : Type 0} {P : A → List Numbered → List Numbered → Type 0} {V : List Numbered
+    → Type 0} {D : Type 0} {i : List Numbered} {o o' : Outcome A} → o' ≡ o → Right P V D i o → Right P V D i o'
 right_same {P = P} {V = V} {D = D} {i = i} e r = subst (λ (z : Outcome _). Right P V D i z) (sym e) r
 
 -- two terminals that test as the same are the same
@@ -102,7 +105,9 @@ pub right_choice : {A : Type 0} {Q : A → List Numbered → List Numbered → T
 right_choice {Q = Q} {W = W} {E = E} m i p q seen_so other = choice_of Q W E m i p q (sees m i) refl seen_so other
 
 -- `take` at a token that is there, and then the rest
-pub after_take : {A : Type 0} {Q : A → List Numbered → List Numbered → Type 0} {W : List Numbered → Type 0} {E : Type 0} {i : List Numbered} (f : ℕ → Parser A) (k : ℕ) (s : Symbol) (r : List Numbered) → i ≡ at k s ∷ r
+pub after_take : {A : Type 0} {Q : A → List Numbered → List Numbered → Type 0} {W : List Numbered
+    → Type 0} {E : Type 0} {i : List Numbered} (f : ℕ → Parser A) (k : ℕ) (s : Symbol) (r : List Numbered)
+    → i ≡ at k s ∷ r
     → Right (λ y ys end. Q y (at k s ∷ ys) end) (λ ys. W (at k s ∷ ys)) E r (f k r) → Right Q W E i (and_then (take i) f)
 unfolding take
 after_take {Q = Q} {W = W} {E = E} {i = i} f k s r e h = subst (λ (z : List Numbered). Right Q W E z (and_then (take z) f)) (sym e) (further (at k s ∷ []) refl h)
@@ -117,7 +122,9 @@ then_expect {Q = Q} {W = W} {E = E} {f = f} m i go prefixes = expect_at (sees m 
     expect_at false e = right_stuck prefixes
 
 then_name_at : {A : Type 0} (Q : A → List Numbered → List Numbered → Type 0) (W : List Numbered → Type 0) (E : Type 0) (f : List ℕ → Parser A) (n : ℕ) (s : Symbol) (r : List Numbered)
-    → ((k : ℕ) (bytes : List ℕ) (z : List Numbered) → at n s ∷ r ≡ at k (symbol.Name bytes) ∷ z → Right (λ y ys end. Q y (at k (symbol.Name bytes) ∷ ys) end) (λ ys. W (at k (symbol.Name bytes) ∷ ys)) E z (f bytes z))
+    → ((k : ℕ) (bytes : List ℕ) (z : List Numbered) → at n s ∷ r ≡ at k (symbol.Name bytes) ∷ z
+    → Right (λ y ys end. Q y (at k (symbol.Name bytes) ∷ ys) end) (λ ys. W (at k (symbol.Name bytes) ∷ ys)) E z
+    (f bytes z))
     → W [] → Right Q W E (at n s ∷ r) (and_then (name_by (Some s) (at n s ∷ r)) f)
 unfolding take
 then_name_at Q W E f n (symbol.Name bytes) r go prefixes = further (at n (symbol.Name bytes) ∷ []) refl (go n bytes r refl)
@@ -129,7 +136,9 @@ then_name_at Q W E f n symbol.Unknown r go prefixes = right_stuck prefixes
 
 -- a name that must come next
 pub then_name : {A : Type 0} {Q : A → List Numbered → List Numbered → Type 0} {W : List Numbered → Type 0} {E : Type 0} {f : List ℕ → Parser A} (i : List Numbered)
-    → ((k : ℕ) (bytes : List ℕ) (r : List Numbered) → i ≡ at k (symbol.Name bytes) ∷ r → Right (λ y ys end. Q y (at k (symbol.Name bytes) ∷ ys) end) (λ ys. W (at k (symbol.Name bytes) ∷ ys)) E r (f bytes r))
+    → ((k : ℕ) (bytes : List ℕ) (r : List Numbered) → i ≡ at k (symbol.Name bytes) ∷ r
+    → Right (λ y ys end. Q y (at k (symbol.Name bytes) ∷ ys) end) (λ ys. W (at k (symbol.Name bytes) ∷ ys)) E r
+    (f bytes r))
     → W [] → Right Q W E i (and_then (name i) f)
 unfolding first
 then_name [] go prefixes = right_stuck prefixes
@@ -141,7 +150,10 @@ Viable {A} N xs = (n : ℕ) → (more : List Completion) × (x : A) × N x (xs +
 
 pub numbered_append : (n : ℕ) (a b : List Symbol) → numbered_from n (a ++ b) ≡ numbered_from n a ++ numbered_from (n + length a) b
 numbered_append n [] b = ap (λ k. numbered_from k b) (let e : n ≡ n + 0 = omega arith in e)
-numbered_append n (s ∷ a) b = ap (λ r. at n s ∷ r) (numbered_append (n + 1) a b ∙ ap (λ k. numbered_from (n + 1) a ++ numbered_from k b) (let e : n + 1 + length a ≡ n + suc (length a) = omega arith in e))
+numbered_append n (s ∷ a) b = ap (λ r. at n s ∷ r)
+    (numbered_append (n + 1) a b
+    ∙ ap (λ k. numbered_from (n + 1) a ++ numbered_from k b)
+    (let e : n + 1 + length a ≡ n + suc (length a) = omega arith in e))
 
 -- a completed part, and then known tokens, complete the whole
 pub viable_then : {A B : Type 0} (N : A → List Numbered → Type 0) (M : B → List Numbered → Type 0) (xs : List Numbered) (tail : List Completion) → Viable N xs
@@ -171,9 +183,12 @@ viable_under N ps xs v n = let (more, x, p) = v n in (more, x, subst (λ (z : Li
 
 -- A part, and then a terminal: how what the part needs for its tokens to be a prefix shows the
 -- whole's.
-pub then_fixed : {A B : Type 0} {P : A → List Numbered → List Numbered → Type 0} {V : List Numbered → Type 0} {D : Type 0} {Q : B → List Numbered → List Numbered → Type 0} {W : List Numbered → Type 0} {E : Type 0}
+pub then_fixed : {A B : Type 0} {P : A → List Numbered → List Numbered → Type 0} {V : List Numbered
+    → Type 0} {D : Type 0} {Q : B → List Numbered → List Numbered → Type 0} {W : List Numbered → Type 0} {E : Type 0}
     {i : List Numbered} {o : Outcome A} {f : A → ℕ → Parser B} (m : Terminal) → Right P V D i o
-    → ((x : A) (xs rest : List Numbered) (k : ℕ) (r : List Numbered) → P x xs rest → rest ≡ fixed k m ∷ r → i ≡ xs ++ rest → Right (λ y ys end. Q y (xs ++ fixed k m ∷ ys) end) (λ ys. W (xs ++ fixed k m ∷ ys)) E r (f x k r))
+    → ((x : A) (xs rest : List Numbered) (k : ℕ) (r : List Numbered) → P x xs rest → rest ≡ fixed k m ∷ r
+    → i ≡ xs ++ rest → Right (λ y ys end. Q y (xs ++ fixed k m ∷ ys) end) (λ ys. W (xs ++ fixed k m ∷ ys)) E r
+    (f x k r))
     → ((x : A) (xs rest : List Numbered) → P x xs rest → V xs) → ((xs : List Numbered) → V xs → W xs) → (D → E) → Right Q W E i (and_then o (λ x. expect m >>= λ k. f x k))
 then_fixed {A = A} {P = P} {V = V} {D = D} {Q = Q} {W = W} {E = E} {i = i} {o = o} {f = f} m r go done prefixes depth =
     then {Q = Q} {W = W} {E = E} r

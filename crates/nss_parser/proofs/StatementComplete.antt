@@ -265,7 +265,9 @@ module _ (d : ℕ) (inner : Parser SourceStmt) where
   unfolding entry
   entry_declaration_step labels i rest s e h = rw (e, h) refl
 
-  entry_statement_step : (labels : Bool) (i rest : List Numbered) (s : SourceStmt) → type_begins (first i) ≡ false → sees terminal.Case i ≡ false → sees terminal.Default i ≡ false → inner i ≡ Got s rest → entry d inner labels i ≡ Got s rest
+  entry_statement_step : (labels : Bool) (i rest : List Numbered) (s : SourceStmt) → type_begins (first i) ≡ false
+      → sees terminal.Case i ≡ false → sees terminal.Default i ≡ false → inner i ≡ Got s rest
+      → entry d inner labels i ≡ Got s rest
   unfolding entry labelled
   entry_statement_step false i rest s e c f h = rw (e, h) refl
   entry_statement_step true i rest s e c f h = rw (e, c, f, h) refl
@@ -294,7 +296,9 @@ module _ (d : ℕ) (inner : Parser SourceStmt) where
   unfolding some_statement first take
   empty_step n rest = refl
 
-  expression_statement_step : (n : ℕ) (s : Symbol) (i rest : List Numbered) (v : SourceStmt) → begins_expression s ≡ true → expression_statement d (at n s ∷ i) ≡ Got v rest → some_statement d inner (at n s ∷ i) ≡ Got v rest
+  expression_statement_step : (n : ℕ) (s : Symbol) (i rest : List Numbered) (v : SourceStmt)
+      → begins_expression s ≡ true → expression_statement d (at n s ∷ i) ≡ Got v rest
+      → some_statement d inner (at n s ∷ i) ≡ Got v rest
   unfolding some_statement first
   expression_statement_step n s i rest v e h = ap (λ (p : Parser SourceStmt). p (at n s ∷ i)) (by_expression d inner s e) ∙ h
 
@@ -311,7 +315,8 @@ module _ (d : ℕ) (inner : Parser SourceStmt) where
   unfolding after_then first take same_terminal
   else_step n c x s t i rest e = rw e refl
 
-  while_step : (n : ℕ) (x : PlainExpr) (s : SourceStmt) (i j rest : List Numbered) → condition d i ≡ Got x j → inner j ≡ Got s rest → some_statement d inner (fixed n terminal.While ∷ i) ≡ Got (stmt.while_loop n x s) rest
+  while_step : (n : ℕ) (x : PlainExpr) (s : SourceStmt) (i j rest : List Numbered) → condition d i ≡ Got x j
+      → inner j ≡ Got s rest → some_statement d inner (fixed n terminal.While ∷ i) ≡ Got (stmt.while_loop n x s) rest
   unfolding some_statement while_statement first take
   while_step n x s i j rest e f = rw (e, f) refl
 
@@ -339,7 +344,9 @@ module _ (d : ℕ) (inner : Parser SourceStmt) where
   unfolding some_statement continue_statement first take same_terminal
   continue_step n k rest = refl
 
-  return_step : (n k : ℕ) (x : Option PlainExpr) (i rest : List Numbered) → optional d terminal.Semicolon i ≡ Got x (fixed k terminal.Semicolon ∷ rest) → some_statement d inner (fixed n terminal.Return ∷ i) ≡ Got (stmt.return_from n x) rest
+  return_step : (n k : ℕ) (x : Option PlainExpr) (i rest : List Numbered)
+      → optional d terminal.Semicolon i ≡ Got x (fixed k terminal.Semicolon ∷ rest)
+      → some_statement d inner (fixed n terminal.Return ∷ i) ≡ Got (stmt.return_from n x) rest
   unfolding some_statement return_statement first take same_terminal
   return_step n k x i rest e = rw e refl
 
@@ -349,7 +356,9 @@ unfolding statement
 deeply zero i o lt h = absurd (omega arith)
 deeply (suc e) i o lt h = h e (omega arith)
 
-entry_turn : (e : ℕ) (labels : Bool) (t : ℕ) (before : SourceStmts) (i : List Numbered) (o : Outcome SourceStmts) → 0 < t → ((t' : ℕ) → t ≤ suc t' → entries_from e (statement e) labels (suc t') before i ≡ o) → entries_from e (statement e) labels t before i ≡ o
+entry_turn : (e : ℕ) (labels : Bool) (t : ℕ) (before : SourceStmts) (i : List Numbered) (o : Outcome SourceStmts)
+    → 0 < t → ((t' : ℕ) → t ≤ suc t' → entries_from e (statement e) labels (suc t') before i ≡ o)
+    → entries_from e (statement e) labels t before i ≡ o
 entry_turn e labels zero before i o some h = absurd (omega arith)
 entry_turn e labels (suc t) before i o some h = h t (omega arith)
 
@@ -361,7 +370,8 @@ pub joined_next : (a b : SourceStmts) (s : SourceStmt) → joined_stmts (joined_
 joined_next stmt.no_stmt b s = refl
 joined_next (stmt.more_stmts r a) b s = ap (stmt.more_stmts r) (joined_next a b s)
 
-in_braces : (e : ℕ) (labels : Bool) (all : SourceStmts) (xs : List Numbered) (k : ℕ) (rest : List Numbered) → entries_from e (statement e) labels e stmt.no_stmt (xs ++ fixed k terminal.CloseBrace ∷ rest) ≡ Got all rest
+in_braces : (e : ℕ) (labels : Bool) (all : SourceStmts) (xs : List Numbered) (k : ℕ) (rest : List Numbered)
+    → entries_from e (statement e) labels e stmt.no_stmt (xs ++ fixed k terminal.CloseBrace ∷ rest) ≡ Got all rest
     → entries e (statement e) labels ((xs ++ fixed k terminal.CloseBrace ∷ []) ++ rest) ≡ Got all rest
 unfolding entries
 in_braces e labels all xs k rest h = ap (entries_from e (statement e) labels e stmt.no_stmt) (append_assoc xs (fixed k terminal.CloseBrace ∷ []) rest) ∙ h
@@ -392,7 +402,8 @@ sees_first : (m : Terminal) (n : ℕ) (r : List Numbered) → same_terminal m m 
 unfolding first
 sees_first m n r e = e
 
-complete_optional : {x : Option PlainExpr} {xs : List Numbered} → Optional x xs → (m : Terminal) → EndsOptional m → (e b : ℕ) (tail rest : List Numbered) → length ((xs ++ fixed b m ∷ tail) ++ rest) < e
+complete_optional : {x : Option PlainExpr} {xs : List Numbered} → Optional x xs → (m : Terminal) → EndsOptional m
+    → (e b : ℕ) (tail rest : List Numbered) → length ((xs ++ fixed b m ∷ tail) ++ rest) < e
     → optional e m ((xs ++ fixed b m ∷ tail) ++ rest) ≡ Got x (fixed b m ∷ (tail ++ rest))
 complete_optional grammar.absent m end e b tail rest lt = absent_step e m (fixed b m ∷ (tail ++ rest)) (sees_first m b (tail ++ rest) end.same)
 complete_optional (grammar.present {x = x} {xs = xs} h) m end e b tail rest lt =
@@ -409,7 +420,8 @@ unfolding declared_names
 names_whole h e k rest lt = complete_names h e e [] k rest lt (omega arith)
 
 mutual
-  pub complete_statement : {s : SourceStmt} {xs : List Numbered} → Statement s xs → (d : ℕ) (rest : List Numbered) → Closed s rest → suc (length (xs ++ rest)) < d → statement d (xs ++ rest) ≡ Got s rest
+  pub complete_statement : {s : SourceStmt} {xs : List Numbered} → Statement s xs → (d : ℕ) (rest : List Numbered)
+      → Closed s rest → suc (length (xs ++ rest)) < d → statement d (xs ++ rest) ≡ Got s rest
   complete_statement (grammar.block {all = all} {xs = xs} n k es) d rest closed lt =
       deeply d (fixed n terminal.OpenBrace ∷ ((xs ++ fixed k terminal.CloseBrace ∷ []) ++ rest)) (Got (stmt.block n all) rest) lt (λ e le.
       let again = ap length (append_assoc xs (fixed k terminal.CloseBrace ∷ []) rest) in
@@ -423,7 +435,9 @@ mutual
       let again = ap length regroup in
       expression_statement_step e (statement e) n s ((xs ++ fixed k terminal.Semicolon ∷ []) ++ rest) rest (stmt.expression n x) (starts_expression h)
       (expression_step e n k s x ((xs ++ fixed k terminal.Semicolon ∷ []) ++ rest) rest
-      (ap (λ (z : List Numbered). level e 0 (at n s ∷ z)) regroup ∙ complete_expression h e (fixed k terminal.Semicolon ∷ rest) (ends_at 0 k terminal.Semicolon rest semicolon_ends) (omega (arith, again)))))
+      (ap (λ (z : List Numbered). level e 0 (at n s ∷ z)) regroup
+      ∙ complete_expression h e (fixed k terminal.Semicolon ∷ rest)
+      (ends_at 0 k terminal.Semicolon rest semicolon_ends) (omega (arith, again)))))
   complete_statement (grammar.if_only {x = x} {s = s} {xs = xs} {ss = ss} n a b h t) d rest closed lt =
       deeply d (fixed n terminal.If ∷ fixed a terminal.Open ∷ ((xs ++ fixed b terminal.Close ∷ ss) ++ rest)) (Got (stmt.if_only n x s) rest) lt (λ e le.
       let again = ap length (append_assoc xs (fixed b terminal.Close ∷ ss) rest) in
@@ -439,7 +453,9 @@ mutual
       let regroup = append_assoc ss (fixed c terminal.Else ∷ ts) rest in
       let inside = ap length regroup in
       let part = length-append ss (fixed c terminal.Else ∷ (ts ++ rest)) in
-      if_step e (statement e) n x s (stmt.if_else n x s t) (fixed a terminal.Open ∷ ((xs ++ fixed b terminal.Close ∷ (ss ++ fixed c terminal.Else ∷ ts)) ++ rest)) ((ss ++ fixed c terminal.Else ∷ ts) ++ rest) (fixed c terminal.Else ∷ (ts ++ rest)) rest
+      if_step e (statement e) n x s (stmt.if_else n x s t)
+      (fixed a terminal.Open ∷ ((xs ++ fixed b terminal.Close ∷ (ss ++ fixed c terminal.Else ∷ ts)) ++ rest))
+      ((ss ++ fixed c terminal.Else ∷ ts) ++ rest) (fixed c terminal.Else ∷ (ts ++ rest)) rest
       (complete_condition h e a b (ss ++ fixed c terminal.Else ∷ ts) rest (omega arith))
       (ap (statement e) regroup ∙ complete_statement p e (fixed c terminal.Else ∷ (ts ++ rest)) (λ z. let bad : true ≡ false = sym z ∙ shut in cc) (omega (arith, again, long, inside)))
       (else_step e (statement e) n c x s t (ts ++ rest) rest (complete_statement q e rest closed (omega (arith, again, long, inside, part)))))
@@ -451,16 +467,24 @@ mutual
       (complete_condition h e a b ss rest (omega arith))
       (complete_statement t e rest closed (omega (arith, again, long))))
   complete_statement (grammar.do_loop {x = x} {s = s} {xs = xs} {ss = ss} n a b c f t h) d rest closed lt =
-      deeply d (fixed n terminal.Do ∷ ((ss ++ fixed a terminal.While ∷ fixed b terminal.Open ∷ (xs ++ fixed c terminal.Close ∷ fixed f terminal.Semicolon ∷ [])) ++ rest)) (Got (stmt.do_loop n s x) rest) lt (λ e le.
+      deeply d (fixed n terminal.Do ∷
+      ((ss ++ fixed a terminal.While ∷ fixed b terminal.Open ∷
+      (xs ++ fixed c terminal.Close ∷ fixed f terminal.Semicolon ∷ [])) ++ rest)) (Got (stmt.do_loop n s x) rest) lt
+      (λ e le.
       let regroup = append_assoc ss (fixed a terminal.While ∷ fixed b terminal.Open ∷ (xs ++ fixed c terminal.Close ∷ fixed f terminal.Semicolon ∷ [])) rest in
       let again = ap length regroup in
       let long = length-append ss (fixed a terminal.While ∷ fixed b terminal.Open ∷ ((xs ++ fixed c terminal.Close ∷ fixed f terminal.Semicolon ∷ []) ++ rest)) in
-      do_step e (statement e) n a f x s ((ss ++ fixed a terminal.While ∷ fixed b terminal.Open ∷ (xs ++ fixed c terminal.Close ∷ fixed f terminal.Semicolon ∷ [])) ++ rest) (fixed b terminal.Open ∷ ((xs ++ fixed c terminal.Close ∷ fixed f terminal.Semicolon ∷ []) ++ rest)) rest
+      do_step e (statement e) n a f x s
+      ((ss ++ fixed a terminal.While ∷ fixed b terminal.Open ∷
+      (xs ++ fixed c terminal.Close ∷ fixed f terminal.Semicolon ∷ [])) ++ rest)
+      (fixed b terminal.Open ∷ ((xs ++ fixed c terminal.Close ∷ fixed f terminal.Semicolon ∷ []) ++ rest)) rest
       (ap (statement e) regroup ∙ complete_statement t e (fixed a terminal.While ∷ fixed b terminal.Open ∷ ((xs ++ fixed c terminal.Close ∷ fixed f terminal.Semicolon ∷ []) ++ rest))
       (λ z. no_else_at terminal.While a (fixed b terminal.Open ∷ ((xs ++ fixed c terminal.Close ∷ fixed f terminal.Semicolon ∷ []) ++ rest)) not_else_while) (omega (arith, again)))
       (complete_condition h e b c (fixed f terminal.Semicolon ∷ []) rest (omega (arith, again, long))))
   complete_statement (grammar.for_loop {x = x} {y = y} {z = z} {s = s} {xs = xs} {ys = ys} {zs = zs} {ss = ss} n a b c f hx hy hz t) d rest closed lt =
-      deeply d (fixed n terminal.For ∷ fixed a terminal.Open ∷ ((xs ++ fixed b terminal.Semicolon ∷ (ys ++ fixed c terminal.Semicolon ∷ (zs ++ fixed f terminal.Close ∷ ss))) ++ rest)) (Got (stmt.for_loop n x y z s) rest) lt (λ e le.
+      deeply d (fixed n terminal.For ∷ fixed a terminal.Open ∷
+      ((xs ++ fixed b terminal.Semicolon ∷ (ys ++ fixed c terminal.Semicolon ∷ (zs ++ fixed f terminal.Close ∷ ss)))
+      ++ rest)) (Got (stmt.for_loop n x y z s) rest) lt (λ e le.
       let third = (zs ++ fixed f terminal.Close ∷ ss) in
       let second = (ys ++ fixed c terminal.Semicolon ∷ (zs ++ fixed f terminal.Close ∷ ss)) in
       let again = ap length (append_assoc xs (fixed b terminal.Semicolon ∷ (ys ++ fixed c terminal.Semicolon ∷ (zs ++ fixed f terminal.Close ∷ ss))) rest) in
@@ -475,11 +499,16 @@ mutual
       (complete_optional hz terminal.Close close_optional e f ss rest (omega (arith, again, long, again2, long2)))
       (complete_statement t e rest closed (omega (arith, again, long, again2, long2, again3, long3))))
   complete_statement (grammar.switch {x = x} {all = all} {xs = xs} {ys = ys} n a b c f h es) d rest closed lt =
-      deeply d (fixed n terminal.Switch ∷ fixed a terminal.Open ∷ ((xs ++ fixed b terminal.Close ∷ fixed c terminal.OpenBrace ∷ (ys ++ fixed f terminal.CloseBrace ∷ [])) ++ rest)) (Got (stmt.switch n x all) rest) lt (λ e le.
+      deeply d (fixed n terminal.Switch ∷ fixed a terminal.Open ∷
+      ((xs ++ fixed b terminal.Close ∷ fixed c terminal.OpenBrace ∷ (ys ++ fixed f terminal.CloseBrace ∷ []))
+      ++ rest)) (Got (stmt.switch n x all) rest) lt (λ e le.
       let again = ap length (append_assoc xs (fixed b terminal.Close ∷ fixed c terminal.OpenBrace ∷ (ys ++ fixed f terminal.CloseBrace ∷ [])) rest) in
       let long = length-append xs (fixed b terminal.Close ∷ fixed c terminal.OpenBrace ∷ ((ys ++ fixed f terminal.CloseBrace ∷ []) ++ rest)) in
       let inside = ap length (append_assoc ys (fixed f terminal.CloseBrace ∷ []) rest) in
-      switch_step e (statement e) n c x all (fixed a terminal.Open ∷ ((xs ++ fixed b terminal.Close ∷ fixed c terminal.OpenBrace ∷ (ys ++ fixed f terminal.CloseBrace ∷ [])) ++ rest)) ((ys ++ fixed f terminal.CloseBrace ∷ []) ++ rest) rest
+      switch_step e (statement e) n c x all
+      (fixed a terminal.Open ∷ ((xs
+      ++ fixed b terminal.Close ∷ fixed c terminal.OpenBrace ∷ (ys ++ fixed f terminal.CloseBrace ∷ [])) ++ rest))
+      ((ys ++ fixed f terminal.CloseBrace ∷ []) ++ rest) rest
       (complete_condition h e a b (fixed c terminal.OpenBrace ∷ (ys ++ fixed f terminal.CloseBrace ∷ [])) rest (omega arith))
       (in_braces e true all ys f rest (complete_entries es e e stmt.no_stmt f rest (omega (arith, again, long, inside)) (omega (arith, again, long, inside)))))
   complete_statement (grammar.break_off n k) d rest closed lt =
@@ -490,7 +519,9 @@ mutual
       deeply d (fixed n terminal.Return ∷ ((xs ++ fixed k terminal.Semicolon ∷ []) ++ rest)) (Got (stmt.return_from n x) rest) lt (λ e le.
       return_step e (statement e) n k x ((xs ++ fixed k terminal.Semicolon ∷ []) ++ rest) rest (complete_optional h terminal.Semicolon semicolon_optional e k [] rest (omega arith)))
 
-  complete_entry : {labels : Bool} {s : SourceStmt} {xs : List Numbered} → Entry labels s xs → (e : ℕ) (rest : List Numbered) → sees terminal.Else rest ≡ false → suc (length (xs ++ rest)) < e → entry e (statement e) labels (xs ++ rest) ≡ Got s rest
+  complete_entry : {labels : Bool} {s : SourceStmt} {xs : List Numbered} → Entry labels s xs
+      → (e : ℕ) (rest : List Numbered) → sees terminal.Else rest ≡ false → suc (length (xs ++ rest)) < e
+      → entry e (statement e) labels (xs ++ rest) ≡ Got s rest
   complete_entry (grammar.statement {labels = labels} {s = s} {ss = ss} h) e rest shut lt =
       let starts = starts_append begins_statement ss rest (starts_statement h) in
       entry_statement_step e (statement e) labels (ss ++ rest) rest s (no_type_first (ss ++ rest) starts)
@@ -505,7 +536,9 @@ mutual
       (names_whole names e k rest (omega (arith, again, long))))
   complete_entry (grammar.case_label {c = c} {cs = cs} n k h) e rest shut lt =
       entry_case_step e (statement e) n ((cs ++ fixed k terminal.Colon ∷ []) ++ rest) rest (stmt.case_label n c)
-      (case_step n k c ((cs ++ fixed k terminal.Colon ∷ []) ++ rest) rest (ap constant_value (append_assoc cs (fixed k terminal.Colon ∷ []) rest) ∙ complete_constant h (fixed k terminal.Colon ∷ rest)))
+      (case_step n k c ((cs ++ fixed k terminal.Colon ∷ []) ++ rest) rest
+      (ap constant_value (append_assoc cs (fixed k terminal.Colon ∷ []) rest)
+      ∙ complete_constant h (fixed k terminal.Colon ∷ rest)))
   complete_entry (grammar.default_label n k) e rest shut lt =
       entry_default_step e (statement e) n (fixed k terminal.Colon ∷ rest) rest (stmt.default_label n) (default_step n k rest)
 

@@ -90,7 +90,10 @@ module _ (d e : ℕ) (le : d ≤ e) where
 
     local_do : Local (do_statement d inner) (do_statement e outer)
     unfolding do_statement
-    local_do = local_bind local_take (λ n. local_bind local (λ s. local_bind (local_expect terminal.While) (λ a. local_bind local_condition (λ x. local_bind (local_expect terminal.Semicolon) (λ k. local_pure (stmt.do_loop n s x))))))
+    local_do = local_bind local_take
+        (λ n. local_bind local (λ s. local_bind (local_expect terminal.While)
+        (λ a. local_bind local_condition
+        (λ x. local_bind (local_expect terminal.Semicolon) (λ k. local_pure (stmt.do_loop n s x))))))
 
     local_for : Local (for_statement d inner) (for_statement e outer)
     unfolding for_statement
@@ -102,7 +105,10 @@ module _ (d e : ℕ) (le : d ≤ e) where
 
     local_switch : Local (switch_statement d inner) (switch_statement e outer)
     unfolding switch_statement
-    local_switch = local_bind local_take (λ n. local_bind local_condition (λ x. local_bind (local_expect terminal.OpenBrace) (λ c. local_bind (local_entries true) (λ all. local_pure (stmt.switch n x all)))))
+    local_switch = local_bind local_take
+        (λ n. local_bind local_condition
+        (λ x. local_bind (local_expect terminal.OpenBrace)
+        (λ c. local_bind (local_entries true) (λ all. local_pure (stmt.switch n x all)))))
 
     local_statement_by : (o : Option Symbol) → Local (statement_by d inner o) (statement_by e outer o)
     local_statement_by (Some (symbol.Fixed terminal.OpenBrace)) = local_block

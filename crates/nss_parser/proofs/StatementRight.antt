@@ -42,26 +42,39 @@ if_from n {x} {cs} {s} {ss} (inside {xs = xs} a b h) t =
 else_from : (n c : ℕ) {x : PlainExpr} {cs : List Numbered} {s t : SourceStmt} {ss ts : List Numbered} → Condition x cs → Statement s ss → ends_open s ≡ false → Statement t ts
     → Statement (stmt.if_else n x s t) (fixed n terminal.If ∷ (cs ++ (ss ++ fixed c terminal.Else ∷ ts)))
 else_from n c {x} {cs} {s} {t} {ss} {ts} (inside {xs = xs} a b h) p shut q =
-    subst (λ (z : List Numbered). Statement (stmt.if_else n x s t) (fixed n terminal.If ∷ fixed a terminal.Open ∷ z)) (sym (append_assoc xs (fixed b terminal.Close ∷ []) (ss ++ fixed c terminal.Else ∷ ts))) (grammar.if_else n a b c h p shut q)
+    subst (λ (z : List Numbered). Statement (stmt.if_else n x s t) (fixed n terminal.If ∷ fixed a terminal.Open ∷ z))
+    (sym (append_assoc xs (fixed b terminal.Close ∷ []) (ss ++ fixed c terminal.Else ∷ ts)))
+    (grammar.if_else n a b c h p shut q)
 
-while_from : (n : ℕ) {x : PlainExpr} {cs : List Numbered} {s : SourceStmt} {ss : List Numbered} → Condition x cs → Statement s ss → Statement (stmt.while_loop n x s) (fixed n terminal.While ∷ (cs ++ ss))
+while_from : (n : ℕ) {x : PlainExpr} {cs : List Numbered} {s : SourceStmt} {ss : List Numbered} → Condition x cs
+    → Statement s ss → Statement (stmt.while_loop n x s) (fixed n terminal.While ∷ (cs ++ ss))
 while_from n {x} {cs} {s} {ss} (inside {xs = xs} a b h) t =
-    subst (λ (z : List Numbered). Statement (stmt.while_loop n x s) (fixed n terminal.While ∷ fixed a terminal.Open ∷ z)) (sym (append_assoc xs (fixed b terminal.Close ∷ []) ss)) (grammar.while_loop n a b h t)
+    subst (λ (z : List Numbered). Statement (stmt.while_loop n x s)
+    (fixed n terminal.While ∷ fixed a terminal.Open ∷ z)) (sym (append_assoc xs (fixed b terminal.Close ∷ []) ss))
+    (grammar.while_loop n a b h t)
 
-do_from : (n a f : ℕ) {s : SourceStmt} {ss : List Numbered} {x : PlainExpr} {cs : List Numbered} → Statement s ss → Condition x cs → Statement (stmt.do_loop n s x) (fixed n terminal.Do ∷ (ss ++ fixed a terminal.While ∷ (cs ++ fixed f terminal.Semicolon ∷ [])))
+do_from : (n a f : ℕ) {s : SourceStmt} {ss : List Numbered} {x : PlainExpr} {cs : List Numbered} → Statement s ss
+    → Condition x cs → Statement (stmt.do_loop n s x)
+    (fixed n terminal.Do ∷ (ss ++ fixed a terminal.While ∷ (cs ++ fixed f terminal.Semicolon ∷ [])))
 do_from n a f {s} {ss} {x} {cs} t (inside {xs = xs} b c h) =
-    subst (λ (z : List Numbered). Statement (stmt.do_loop n s x) (fixed n terminal.Do ∷ (ss ++ fixed a terminal.While ∷ fixed b terminal.Open ∷ z))) (sym (append_assoc xs (fixed c terminal.Close ∷ []) (fixed f terminal.Semicolon ∷ []))) (grammar.do_loop n a b c f t h)
+    subst (λ (z : List Numbered). Statement (stmt.do_loop n s x)
+    (fixed n terminal.Do ∷ (ss ++ fixed a terminal.While ∷ fixed b terminal.Open ∷ z)))
+    (sym (append_assoc xs (fixed c terminal.Close ∷ []) (fixed f terminal.Semicolon ∷ [])))
+    (grammar.do_loop n a b c f t h)
 
 switch_from : (n c f : ℕ) {x : PlainExpr} {cs : List Numbered} {all : SourceStmts} {ys : List Numbered} → Condition x cs → Entries true all ys
     → Statement (stmt.switch n x all) (fixed n terminal.Switch ∷ (cs ++ fixed c terminal.OpenBrace ∷ (ys ++ fixed f terminal.CloseBrace ∷ [])))
 switch_from n c f {x} {cs} {all} {ys} (inside {xs = xs} a b h) es =
-    subst (λ (z : List Numbered). Statement (stmt.switch n x all) (fixed n terminal.Switch ∷ fixed a terminal.Open ∷ z)) (sym (append_assoc xs (fixed b terminal.Close ∷ []) (fixed c terminal.OpenBrace ∷ (ys ++ fixed f terminal.CloseBrace ∷ [])))) (grammar.switch n a b c f h es)
+    subst (λ (z : List Numbered). Statement (stmt.switch n x all) (fixed n terminal.Switch ∷ fixed a terminal.Open ∷ z))
+    (sym (append_assoc xs (fixed b terminal.Close ∷ [])
+    (fixed c terminal.OpenBrace ∷ (ys ++ fixed f terminal.CloseBrace ∷ [])))) (grammar.switch n a b c f h es)
 
 -- what stands in braces, with the `}`
 pub data Braced (labels : Bool) : SourceStmts → List Numbered → Type 0 where
   braced : {all : SourceStmts} {xs : List Numbered} (k : ℕ) → Entries labels all xs → Braced labels all (xs ++ fixed k terminal.CloseBrace ∷ [])
 
-braced_more : {labels : Bool} {s : SourceStmt} {xs : List Numbered} → Entry labels s xs → {all : SourceStmts} {ys : List Numbered} → Braced labels all ys → Braced labels (stmt.more_stmts s all) (xs ++ ys)
+braced_more : {labels : Bool} {s : SourceStmt} {xs : List Numbered} → Entry labels s xs
+    → {all : SourceStmts} {ys : List Numbered} → Braced labels all ys → Braced labels (stmt.more_stmts s all) (xs ++ ys)
 braced_more {labels} {s} {xs} h {all} {ys} (braced {xs = ws} k es) =
     subst (λ (z : List Numbered). Braced labels (stmt.more_stmts s all) z) (append_assoc xs ws (fixed k terminal.CloseBrace ∷ [])) (braced k (grammar.more h es))
 
@@ -100,13 +113,15 @@ right_break i n r e =
     after_take _ n (symbol.Fixed terminal.Break) r e
     (then_expect terminal.Semicolon r (λ k z e'. right_pure (grammar.break_off n k, λ h. refl)) (λ j. (by_terminal terminal.Semicolon ∷ [], stmt.break_off n, grammar.break_off n j)))
 
-right_continue : (i : List Numbered) (n : ℕ) (r : List Numbered) → i ≡ fixed n terminal.Continue ∷ r → Right (λ s xs rest. Statement s xs × ElseFree s rest) (Viable Statement) ⊥ i (continue_statement i)
+right_continue : (i : List Numbered) (n : ℕ) (r : List Numbered) → i ≡ fixed n terminal.Continue ∷ r
+    → Right (λ s xs rest. Statement s xs × ElseFree s rest) (Viable Statement) ⊥ i (continue_statement i)
 unfolding continue_statement
 right_continue i n r e =
     after_take _ n (symbol.Fixed terminal.Continue) r e
     (then_expect terminal.Semicolon r (λ k z e'. right_pure (grammar.continue_on n k, λ h. refl)) (λ j. (by_terminal terminal.Semicolon ∷ [], stmt.continue_on n, grammar.continue_on n j)))
 
-right_return : (d : ℕ) (i : List Numbered) (n : ℕ) (r : List Numbered) → i ≡ fixed n terminal.Return ∷ r → Right (λ s xs rest. Statement s xs × ElseFree s rest) (Viable Statement) (d ≤ length r) i (return_statement d i)
+right_return : (d : ℕ) (i : List Numbered) (n : ℕ) (r : List Numbered) → i ≡ fixed n terminal.Return ∷ r
+    → Right (λ s xs rest. Statement s xs × ElseFree s rest) (Viable Statement) (d ≤ length r) i (return_statement d i)
 unfolding return_statement
 right_return d i n r e =
     after_take _ n (symbol.Fixed terminal.Return) r e
@@ -117,7 +132,9 @@ right_return d i n r e =
     (λ deep. deep))
 
 -- the first token of an expression is that of the tokens that it begins
-first_of_expression : (n : ℕ) (s : Symbol) (r : List Numbered) {x : PlainExpr} (xs rest : List Numbered) (k : ℕ) → Expression x xs → at n s ∷ r ≡ xs ++ rest → Statement (stmt.expression n x) (xs ++ fixed k terminal.Semicolon ∷ [])
+first_of_expression : (n : ℕ) (s : Symbol) (r : List Numbered) {x : PlainExpr} (xs rest : List Numbered) (k : ℕ)
+    → Expression x xs → at n s ∷ r ≡ xs ++ rest
+    → Statement (stmt.expression n x) (xs ++ fixed k terminal.Semicolon ∷ [])
 first_of_expression n s r [] rest k h e = absurd (starts_expression h)
 first_of_expression n s r {x} (y ∷ ys) rest k h e =
     let same : y.number ≡ n = ap (λ (l : List Numbered). number_at l) (sym e) in
@@ -197,7 +214,9 @@ module _ (d : ℕ) (inner : Parser SourceStmt)
       (λ n r e. right_as (right_default i n r e) (λ s xs rest h. h) (λ xs v. v) (λ bad. absurd bad))
       (λ other. right_plain true i))
 
-  right_entry_by : (labels b : Bool) (i : List Numbered) → Right (λ s xs rest. Entry labels s xs) (Viable (Entry labels)) (d ≤ suc (length i)) i (branch b (declaration d) (branch labels (labelled d inner) inner) i)
+  right_entry_by : (labels b : Bool) (i : List Numbered)
+      → Right (λ s xs rest. Entry labels s xs) (Viable (Entry labels)) (d ≤ suc (length i)) i
+      (branch b (declaration d) (branch labels (labelled d inner) inner) i)
   right_entry_by labels true i = right_as (right_declaration d labels i) (λ s xs rest h. h) (λ xs v. v) (λ deep. omega arith)
   right_entry_by true false i = right_labelled i
   right_entry_by false false i = right_plain false i
@@ -207,7 +226,8 @@ module _ (d : ℕ) (inner : Parser SourceStmt)
   right_entry labels i = right_entry_by labels (type_begins (first i)) i
 
   right_entries_from : (labels : Bool) (t : ℕ) (before : SourceStmts) (i : List Numbered)
-      → Right (λ all xs rest. (more : SourceStmts) × (all ≡ joined_stmts before more) × Braced labels more xs) (Viable (Braced labels)) ((t ≤ length i) ⊎ (d ≤ suc (length i))) i (entries_from d inner labels t before i)
+      → Right (λ all xs rest. (more : SourceStmts) × (all ≡ joined_stmts before more) × Braced labels more xs)
+      (Viable (Braced labels)) ((t ≤ length i) ⊎ (d ≤ suc (length i))) i (entries_from d inner labels t before i)
   right_entries_from labels zero before i = right_deep (inl (omega arith))
   right_entries_from labels (suc t) before i =
       right_choice terminal.CloseBrace i _ _
@@ -231,7 +251,10 @@ module _ (d : ℕ) (inner : Parser SourceStmt)
       (λ xs v. v)
       (λ deep. elim deep [ inl a ↦ omega arith | inr b ↦ b ])
 
-  right_block : (n : ℕ) (r : List Numbered) → Right (λ v xs rest. Statement v xs × ElseFree v rest) (Viable Statement) (d ≤ length (fixed n terminal.OpenBrace ∷ r)) (fixed n terminal.OpenBrace ∷ r) (block d inner (fixed n terminal.OpenBrace ∷ r))
+  right_block : (n : ℕ) (r : List Numbered)
+      → Right (λ v xs rest. Statement v xs × ElseFree v rest) (Viable Statement)
+      (d ≤ length (fixed n terminal.OpenBrace ∷ r)) (fixed n terminal.OpenBrace ∷ r)
+      (block d inner (fixed n terminal.OpenBrace ∷ r))
   unfolding block
   right_block n r =
       after_take _ n (symbol.Fixed terminal.OpenBrace) r refl
@@ -241,7 +264,9 @@ module _ (d : ℕ) (inner : Parser SourceStmt)
       (λ deep. deep))
 
   right_after_then : (n : ℕ) (x : PlainExpr) (cs : List Numbered) (s : SourceStmt) (ss i : List Numbered) → Condition x cs → Statement s ss → ElseFree s i
-      → Right (λ v vs rest. Statement v (fixed n terminal.If ∷ (cs ++ (ss ++ vs))) × ElseFree v rest) (λ vs. Viable Statement (fixed n terminal.If ∷ (cs ++ (ss ++ vs)))) (d ≤ length i) i (after_then d inner n x s i)
+      → Right (λ v vs rest. Statement v (fixed n terminal.If ∷ (cs ++ (ss ++ vs))) × ElseFree v rest)
+      (λ vs. Viable Statement (fixed n terminal.If ∷ (cs ++ (ss ++ vs)))) (d ≤ length i) i
+      (after_then d inner n x s i)
   unfolding after_then
   right_after_then n x cs s ss i condition_is then_is free =
       right_choice terminal.Else i _ _
@@ -249,17 +274,31 @@ module _ (d : ℕ) (inner : Parser SourceStmt)
       let shut : ends_open s ≡ false = free (sees_else c r e) in
       after_take _ c (symbol.Fixed terminal.Else) r e
       (then (right r)
-      (λ t ts rest h is. right_pure (subst (λ (z : List Numbered). Statement (stmt.if_else n x s t) (fixed n terminal.If ∷ (cs ++ (ss ++ fixed c terminal.Else ∷ z)))) (sym (append-nil ts)) (else_from n c condition_is then_is shut h.0), h.1))
+      (λ t ts rest h is. right_pure (
+        subst (λ (z : List Numbered). Statement (stmt.if_else n x s t)
+            (fixed n terminal.If ∷ (cs ++ (ss ++ fixed c terminal.Else ∷ z)))) (sym (append-nil ts))
+            (else_from n c condition_is then_is shut h.0),
+        h.1,
+      ))
       (λ ts v. viable_under (λ w ys. Statement w (fixed n terminal.If ∷ ys)) cs (ss ++ fixed c terminal.Else ∷ ts)
       (viable_under (λ w ys. Statement w (fixed n terminal.If ∷ (cs ++ ys))) ss (fixed c terminal.Else ∷ ts)
-      (viable_as Statement (λ w ys. Statement w (fixed n terminal.If ∷ (cs ++ (ss ++ fixed c terminal.Else ∷ ys)))) ts v (λ t ys h. (stmt.if_else n x s t, else_from n c condition_is then_is shut h)))))
+      (viable_as Statement (λ w ys. Statement w (fixed n terminal.If ∷ (cs ++ (ss ++ fixed c terminal.Else ∷ ys)))) ts v
+      (λ t ys h. (stmt.if_else n x s t, else_from n c condition_is then_is shut h)))))
       (λ deep. let shorter : length i ≡ suc (length r) = ap length e in omega arith)))
-      (λ other. right_pure (subst (λ (z : List Numbered). Statement (stmt.if_only n x s) (fixed n terminal.If ∷ (cs ++ z))) (sym (append-nil ss)) (if_from n condition_is then_is), λ g. absurd (let bad : true ≡ false = sym g ∙ other in cc)))
+      (λ other. right_pure (
+        subst
+            (λ (z : List Numbered). Statement (stmt.if_only n x s) (fixed n terminal.If ∷ (cs ++ z)))
+            (sym (append-nil ss)) (if_from n condition_is then_is),
+        λ g. absurd
+            (let bad : true ≡ false = sym g ∙ other in cc),
+      ))
     where
       sees_else : (c : ℕ) (r : List Numbered) → i ≡ fixed c terminal.Else ∷ r → sees terminal.Else i ≡ true
       sees_else c r e = ap (sees terminal.Else) e ∙ else_seen c r
 
-  right_if : (n : ℕ) (r : List Numbered) → Right (λ v xs rest. Statement v xs × ElseFree v rest) (Viable Statement) (d ≤ length (fixed n terminal.If ∷ r)) (fixed n terminal.If ∷ r) (if_statement d inner (fixed n terminal.If ∷ r))
+  right_if : (n : ℕ) (r : List Numbered)
+      → Right (λ v xs rest. Statement v xs × ElseFree v rest) (Viable Statement) (d ≤ length (fixed n terminal.If ∷ r))
+      (fixed n terminal.If ∷ r) (if_statement d inner (fixed n terminal.If ∷ r))
   unfolding if_statement
   right_if n r =
       after_take _ n (symbol.Fixed terminal.If) r refl
@@ -271,10 +310,15 @@ module _ (d : ℕ) (inner : Parser SourceStmt)
       (λ ss v. viable_under (λ w ys. Statement w (fixed n terminal.If ∷ ys)) cs ss
       (viable_as Statement (λ w ys. Statement w (fixed n terminal.If ∷ (cs ++ ys))) ss v (λ s ys h. (stmt.if_only n x s, if_from n c h))))
       (λ deep. omega (arith, rest_length r cs rest is)))
-      (λ cs v. viable_then Condition (λ w ys. Statement w (fixed n terminal.If ∷ ys)) cs (by_terminal terminal.Semicolon ∷ []) v (λ x ys k c. (stmt.if_only n x (stmt.empty k), if_from n c (grammar.empty k))))
+      (λ cs v. viable_then Condition (λ w ys. Statement w (fixed n terminal.If ∷ ys)) cs
+      (by_terminal terminal.Semicolon ∷ []) v
+      (λ x ys k c. (stmt.if_only n x (stmt.empty k), if_from n c (grammar.empty k))))
       (λ deep. omega arith))
 
-  right_while : (n : ℕ) (r : List Numbered) → Right (λ v xs rest. Statement v xs × ElseFree v rest) (Viable Statement) (d ≤ length (fixed n terminal.While ∷ r)) (fixed n terminal.While ∷ r) (while_statement d inner (fixed n terminal.While ∷ r))
+  right_while : (n : ℕ) (r : List Numbered)
+      → Right (λ v xs rest. Statement v xs × ElseFree v rest) (Viable Statement)
+      (d ≤ length (fixed n terminal.While ∷ r)) (fixed n terminal.While ∷ r)
+      (while_statement d inner (fixed n terminal.While ∷ r))
   unfolding while_statement
   right_while n r =
       after_take _ n (symbol.Fixed terminal.While) r refl
@@ -285,10 +329,14 @@ module _ (d : ℕ) (inner : Parser SourceStmt)
       (λ ss v. viable_under (λ w ys. Statement w (fixed n terminal.While ∷ ys)) cs ss
       (viable_as Statement (λ w ys. Statement w (fixed n terminal.While ∷ (cs ++ ys))) ss v (λ s ys h. (stmt.while_loop n x s, while_from n c h))))
       (λ deep. omega (arith, rest_length r cs rest is)))
-      (λ cs v. viable_then Condition (λ w ys. Statement w (fixed n terminal.While ∷ ys)) cs (by_terminal terminal.Semicolon ∷ []) v (λ x ys k c. (stmt.while_loop n x (stmt.empty k), while_from n c (grammar.empty k))))
+      (λ cs v. viable_then Condition (λ w ys. Statement w (fixed n terminal.While ∷ ys)) cs
+      (by_terminal terminal.Semicolon ∷ []) v
+      (λ x ys k c. (stmt.while_loop n x (stmt.empty k), while_from n c (grammar.empty k))))
       (λ deep. omega arith))
 
-  right_do : (n : ℕ) (r : List Numbered) → Right (λ v xs rest. Statement v xs × ElseFree v rest) (Viable Statement) (d ≤ length (fixed n terminal.Do ∷ r)) (fixed n terminal.Do ∷ r) (do_statement d inner (fixed n terminal.Do ∷ r))
+  right_do : (n : ℕ) (r : List Numbered)
+      → Right (λ v xs rest. Statement v xs × ElseFree v rest) (Viable Statement) (d ≤ length (fixed n terminal.Do ∷ r))
+      (fixed n terminal.Do ∷ r) (do_statement d inner (fixed n terminal.Do ∷ r))
   unfolding do_statement
   right_do n r =
       after_take _ n (symbol.Fixed terminal.Do) r refl
@@ -298,7 +346,8 @@ module _ (d : ℕ) (inner : Parser SourceStmt)
       (λ x cs rest2 f r3 c e2 is2. right_pure (do_from n a f h.0 c, λ g. refl))
       (λ x cs rest2 c. viable_done Condition x cs c)
       (λ cs v. viable_under (λ w ys. Statement w (fixed n terminal.Do ∷ ys)) ss (fixed a terminal.While ∷ cs)
-      (viable_then Condition (λ w ys. Statement w (fixed n terminal.Do ∷ (ss ++ fixed a terminal.While ∷ ys))) cs (by_terminal terminal.Semicolon ∷ []) v (λ x ys k c. (stmt.do_loop n s x, do_from n a k h.0 c))))
+      (viable_then Condition (λ w ys. Statement w (fixed n terminal.Do ∷ (ss ++ fixed a terminal.While ∷ ys))) cs
+      (by_terminal terminal.Semicolon ∷ []) v (λ x ys k c. (stmt.do_loop n s x, do_from n a k h.0 c))))
       (λ deep. let long = rest_length r ss rest is in let shorter : length rest ≡ suc (length r2) = ap length e in omega arith))
       (λ s ss rest h. viable_done Statement s ss h.0)
       (λ ss v. viable_then Statement (λ w ys. Statement w (fixed n terminal.Do ∷ ys)) ss
@@ -306,7 +355,9 @@ module _ (d : ℕ) (inner : Parser SourceStmt)
       (λ s ys k h. (stmt.do_loop n s (tree.int (k + 1 + 1) (cast_signed w32 0)), do_from n k (k + 1 + 1 + 1 + 1) h (inside (k + 1) (k + 1 + 1 + 1) (zero_expression (k + 1 + 1))))))
       (λ deep. deep))
 
-  right_for : (n : ℕ) (r : List Numbered) → Right (λ v xs rest. Statement v xs × ElseFree v rest) (Viable Statement) (d ≤ length (fixed n terminal.For ∷ r)) (fixed n terminal.For ∷ r) (for_statement d inner (fixed n terminal.For ∷ r))
+  right_for : (n : ℕ) (r : List Numbered)
+      → Right (λ v xs rest. Statement v xs × ElseFree v rest) (Viable Statement) (d ≤ length (fixed n terminal.For ∷ r))
+      (fixed n terminal.For ∷ r) (for_statement d inner (fixed n terminal.For ∷ r))
   unfolding for_statement
   right_for n r =
       after_take _ n (symbol.Fixed terminal.For) r refl
@@ -320,29 +371,42 @@ module _ (d : ℕ) (inner : Parser SourceStmt)
       (λ z zs q3 f r4 hz e4 is3. let m3 = rest_length r3 zs q3 is3 in let l4 : length q3 ≡ suc (length r4) = ap length e4 in
       then (right r4)
       (λ s ss rest h is4. right_pure (
-        subst (λ (w : List Numbered). Statement (stmt.for_loop n x y z s) (fixed n terminal.For ∷ fixed a terminal.Open ∷ (xs ++ fixed b terminal.Semicolon ∷ (ys ++ fixed c terminal.Semicolon ∷ (zs ++ fixed f terminal.Close ∷ w))))) (sym (append-nil ss))
+        subst (λ (w : List Numbered). Statement (stmt.for_loop n x y z s)
+            (fixed n terminal.For ∷ fixed a terminal.Open ∷
+            (xs ++ fixed b terminal.Semicolon ∷
+            (ys ++ fixed c terminal.Semicolon ∷ (zs ++ fixed f terminal.Close ∷ w))))) (sym (append-nil ss))
             (grammar.for_loop n a b c f hx hy hz h.0),
         h.1,
       ))
-      (λ ss v. viable_under (λ w vs. Statement w (fixed n terminal.For ∷ fixed a terminal.Open ∷ vs)) xs (fixed b terminal.Semicolon ∷ (ys ++ fixed c terminal.Semicolon ∷ (zs ++ fixed f terminal.Close ∷ ss)))
+      (λ ss v. viable_under (λ w vs. Statement w (fixed n terminal.For ∷ fixed a terminal.Open ∷ vs)) xs
+      (fixed b terminal.Semicolon ∷ (ys ++ fixed c terminal.Semicolon ∷ (zs ++ fixed f terminal.Close ∷ ss)))
       (viable_under (λ w vs. Statement w (fixed n terminal.For ∷ fixed a terminal.Open ∷ (xs ++ fixed b terminal.Semicolon ∷ vs))) ys (fixed c terminal.Semicolon ∷ (zs ++ fixed f terminal.Close ∷ ss))
       (viable_under (λ w vs. Statement w (fixed n terminal.For ∷ fixed a terminal.Open ∷ (xs ++ fixed b terminal.Semicolon ∷ (ys ++ fixed c terminal.Semicolon ∷ vs)))) zs (fixed f terminal.Close ∷ ss)
-      (viable_as Statement (λ w vs. Statement w (fixed n terminal.For ∷ fixed a terminal.Open ∷ (xs ++ fixed b terminal.Semicolon ∷ (ys ++ fixed c terminal.Semicolon ∷ (zs ++ fixed f terminal.Close ∷ vs))))) ss v
+      (viable_as Statement (λ w vs. Statement w
+      (fixed n terminal.For ∷ fixed a terminal.Open ∷
+      (xs ++ fixed b terminal.Semicolon ∷
+      (ys ++ fixed c terminal.Semicolon ∷ (zs ++ fixed f terminal.Close ∷ vs))))) ss v
       (λ s vs h. (stmt.for_loop n x y z s, grammar.for_loop n a b c f hx hy hz h))))))
       (λ deep. omega arith))
       (λ z zs rest h. viable_done Optional z zs h)
       (λ zs v. viable_under (λ w vs. Statement w (fixed n terminal.For ∷ fixed a terminal.Open ∷ vs)) xs (fixed b terminal.Semicolon ∷ (ys ++ fixed c terminal.Semicolon ∷ zs))
       (viable_under (λ w vs. Statement w (fixed n terminal.For ∷ fixed a terminal.Open ∷ (xs ++ fixed b terminal.Semicolon ∷ vs))) ys (fixed c terminal.Semicolon ∷ zs)
-      (viable_then Optional (λ w vs. Statement w (fixed n terminal.For ∷ fixed a terminal.Open ∷ (xs ++ fixed b terminal.Semicolon ∷ (ys ++ fixed c terminal.Semicolon ∷ vs)))) zs (by_terminal terminal.Close ∷ by_terminal terminal.Semicolon ∷ []) v
+      (viable_then Optional (λ w vs. Statement w
+      (fixed n terminal.For ∷ fixed a terminal.Open ∷
+      (xs ++ fixed b terminal.Semicolon ∷ (ys ++ fixed c terminal.Semicolon ∷ vs)))) zs
+      (by_terminal terminal.Close ∷ by_terminal terminal.Semicolon ∷ []) v
       (λ z vs k h. (stmt.for_loop n x y z (stmt.empty (k + 1)), grammar.for_loop n a b c k hx hy h (grammar.empty (k + 1)))))))
       (λ deep. omega arith))
       (λ y ys rest h. viable_done Optional y ys h)
       (λ ys v. viable_under (λ w vs. Statement w (fixed n terminal.For ∷ fixed a terminal.Open ∷ vs)) xs (fixed b terminal.Semicolon ∷ ys)
-      (viable_then Optional (λ w vs. Statement w (fixed n terminal.For ∷ fixed a terminal.Open ∷ (xs ++ fixed b terminal.Semicolon ∷ vs))) ys (by_terminal terminal.Semicolon ∷ by_terminal terminal.Close ∷ by_terminal terminal.Semicolon ∷ []) v
+      (viable_then Optional (λ w vs. Statement w
+      (fixed n terminal.For ∷ fixed a terminal.Open ∷ (xs ++ fixed b terminal.Semicolon ∷ vs))) ys
+      (by_terminal terminal.Semicolon ∷ by_terminal terminal.Close ∷ by_terminal terminal.Semicolon ∷ []) v
       (λ y vs k h. (stmt.for_loop n x y None (stmt.empty (k + 1 + 1)), grammar.for_loop n a b k (k + 1) hx h grammar.absent (grammar.empty (k + 1 + 1))))))
       (λ deep. omega arith))
       (λ x xs rest h. viable_done Optional x xs h)
-      (λ xs v. viable_then Optional (λ w vs. Statement w (fixed n terminal.For ∷ fixed a terminal.Open ∷ vs)) xs (by_terminal terminal.Semicolon ∷ by_terminal terminal.Semicolon ∷ by_terminal terminal.Close ∷ by_terminal terminal.Semicolon ∷ []) v
+      (λ xs v. viable_then Optional (λ w vs. Statement w (fixed n terminal.For ∷ fixed a terminal.Open ∷ vs)) xs
+      (by_terminal terminal.Semicolon ∷ by_terminal terminal.Semicolon ∷ by_terminal terminal.Close ∷ by_terminal terminal.Semicolon ∷ []) v
       (λ x vs k h. (stmt.for_loop n x None None (stmt.empty (k + 1 + 1 + 1)), grammar.for_loop n a k (k + 1) (k + 1 + 1) h grammar.absent grammar.absent (grammar.empty (k + 1 + 1 + 1)))))
       (λ deep. omega arith))
       (λ k. (
@@ -351,14 +415,22 @@ module _ (d : ℕ) (inner : Parser SourceStmt)
         grammar.for_loop n k (k + 1) (k + 1 + 1) (k + 1 + 1 + 1) grammar.absent grammar.absent grammar.absent (grammar.empty (k + 1 + 1 + 1 + 1)),
       )))
 
-  right_switch : (n : ℕ) (r : List Numbered) → Right (λ v xs rest. Statement v xs × ElseFree v rest) (Viable Statement) (d ≤ length (fixed n terminal.Switch ∷ r)) (fixed n terminal.Switch ∷ r) (switch_statement d inner (fixed n terminal.Switch ∷ r))
+  right_switch : (n : ℕ) (r : List Numbered)
+      → Right (λ v xs rest. Statement v xs × ElseFree v rest) (Viable Statement)
+      (d ≤ length (fixed n terminal.Switch ∷ r)) (fixed n terminal.Switch ∷ r)
+      (switch_statement d inner (fixed n terminal.Switch ∷ r))
   unfolding switch_statement
   right_switch n r =
       after_take _ n (symbol.Fixed terminal.Switch) r refl
       (then_fixed terminal.OpenBrace (right_condition d r)
       (λ x cs rest c r2 h e is.
       then (right_entries true r2)
-      (λ all ys rest2 b is2. right_pure (subst (λ (z : List Numbered). Statement (stmt.switch n x all) (fixed n terminal.Switch ∷ (cs ++ fixed c terminal.OpenBrace ∷ z))) (sym (append-nil ys)) (switch_braced n c h b), λ g. refl))
+      (λ all ys rest2 b is2. right_pure (
+        subst (λ (z : List Numbered). Statement (stmt.switch n x all)
+            (fixed n terminal.Switch ∷ (cs ++ fixed c terminal.OpenBrace ∷ z))) (sym (append-nil ys))
+            (switch_braced n c h b),
+        λ g. refl,
+      ))
       (λ ys v. viable_under (λ w vs. Statement w (fixed n terminal.Switch ∷ vs)) cs (fixed c terminal.OpenBrace ∷ ys)
       (viable_as (Braced true) (λ w vs. Statement w (fixed n terminal.Switch ∷ (cs ++ fixed c terminal.OpenBrace ∷ vs))) ys v (λ all vs b. (stmt.switch n x all, switch_braced n c h b))))
       (λ deep. let long = rest_length r cs rest is in let shorter : length rest ≡ suc (length r2) = ap length e in omega arith))
@@ -367,7 +439,9 @@ module _ (d : ℕ) (inner : Parser SourceStmt)
       (λ x vs k h. (stmt.switch n x stmt.no_stmt, switch_braced n k h (braced (k + 1) grammar.none))))
       (λ deep. omega arith))
 
-  right_statement_at : (n : ℕ) (s : Symbol) (r : List Numbered) → Right (λ v xs rest. Statement v xs × ElseFree v rest) (Viable Statement) (d ≤ length (at n s ∷ r)) (at n s ∷ r) (statement_by d inner (Some s) (at n s ∷ r))
+  right_statement_at : (n : ℕ) (s : Symbol) (r : List Numbered)
+      → Right (λ v xs rest. Statement v xs × ElseFree v rest) (Viable Statement) (d ≤ length (at n s ∷ r)) (at n s ∷ r)
+      (statement_by d inner (Some s) (at n s ∷ r))
   unfolding take
   right_statement_at n (symbol.Fixed terminal.OpenBrace) r = right_block n r
   right_statement_at n (symbol.Fixed terminal.Semicolon) r = right_got (fixed n terminal.Semicolon ∷ []) refl (grammar.empty n, λ g. refl)

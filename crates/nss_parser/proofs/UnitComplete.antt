@@ -49,7 +49,9 @@ complete_field_names (spelled.one n f) t before k rest lt =
     ∙ fields_end t k (before ++ record { token = n; name = f } ∷ []) rest (omega arith)
 complete_field_names (spelled.more {all = all} {xs = xs} n c f hs) t before k rest lt =
     ap (λ (z : Outcome Identifier). and_then z (λ x. more_fields t (before ++ x ∷ []))) (identifier_step n f (fixed c terminal.Comma ∷ (xs ++ fixed k terminal.Semicolon ∷ rest)))
-    ∙ field_turn t c (before ++ record { token = n; name = f } ∷ []) (xs ++ fixed k terminal.Semicolon ∷ rest) (Got (before ++ record { token = n; name = f } ∷ all) (fixed k terminal.Semicolon ∷ rest)) (omega arith) (λ t' le.
+    ∙ field_turn t c (before ++ record { token = n; name = f } ∷ []) (xs ++ fixed k terminal.Semicolon ∷ rest)
+    (Got (before ++ record { token = n; name = f } ∷ all) (fixed k terminal.Semicolon ∷ rest)) (omega arith)
+    (λ t' le.
     complete_field_names hs t' (before ++ record { token = n; name = f } ∷ []) k rest le
     ∙ ap (λ (z : List Identifier). Got z (fixed k terminal.Semicolon ∷ rest)) (append_assoc before (record { token = n; name = f } ∷ []) all))
 
@@ -58,7 +60,9 @@ field_step : (d n k : ℕ) (t : TypeName) (names : List Identifier) (i j rest : 
     → field d i ≡ Got (record { token = n; ty = t; names = names }) rest
 unfolding field first take same_terminal
 field_step d n k t names i j rest typed_is names_are =
-    ap (λ (z : Outcome (ℕ × TypeName)). and_then z (λ p. identifier >>= λ x. more_fields d (x ∷ []) >>= λ names. expect terminal.Semicolon >>= λ k. pure (record { token = p.0; ty = p.1; names = names }))) typed_is
+    ap (λ (z : Outcome (ℕ × TypeName)). and_then z
+    (λ p. identifier >>= λ x. more_fields d (x ∷ []) >>= λ names. expect terminal.Semicolon >>= λ k. pure
+    (record { token = p.0; ty = p.1; names = names }))) typed_is
     ∙ bind_assoc (identifier j) (λ x. more_fields d (x ∷ [])) (λ names. expect terminal.Semicolon >>= λ k. pure (record { token = n; ty = t; names = names }))
     ∙ ap (λ (z : Outcome (List Identifier)). and_then z (λ names. expect terminal.Semicolon >>= λ k. pure (record { token = n; ty = t; names = names }))) names_are
 
@@ -84,14 +88,18 @@ starts_fields : {all : List SourceLine} {xs : List Numbered} → Fields all xs �
 starts_fields (spelled.one h) = starts_field h
 starts_fields (spelled.more {xs = xs} {ys = ys} h hs) = starts_append begins_type xs ys (starts_field h)
 
-last_field : (d t k : ℕ) (before : List SourceLine) (f : SourceLine) (i rest : List Numbered) → field d i ≡ Got f (fixed k terminal.CloseBrace ∷ rest) → fields_from d (suc t) before i ≡ Got (before ++ f ∷ []) rest
+last_field : (d t k : ℕ) (before : List SourceLine) (f : SourceLine) (i rest : List Numbered)
+    → field d i ≡ Got f (fixed k terminal.CloseBrace ∷ rest)
+    → fields_from d (suc t) before i ≡ Got (before ++ f ∷ []) rest
 unfolding first take same_terminal
 last_field d t k before f i rest e = rw e refl
 
-next_field : (d t : ℕ) (before : List SourceLine) (f : SourceLine) (i j : List Numbered) → field d i ≡ Got f j → sees terminal.CloseBrace j ≡ false → fields_from d (suc t) before i ≡ fields_from d t (before ++ f ∷ []) j
+next_field : (d t : ℕ) (before : List SourceLine) (f : SourceLine) (i j : List Numbered) → field d i ≡ Got f j
+    → sees terminal.CloseBrace j ≡ false → fields_from d (suc t) before i ≡ fields_from d t (before ++ f ∷ []) j
 next_field d t before f i j e absent = rw (e, absent) refl
 
-fields_turn : (d t : ℕ) (before : List SourceLine) (i : List Numbered) (o : Outcome (List SourceLine)) → length i < t → ((t' : ℕ) → length i ≤ t' → fields_from d (suc t') before i ≡ o) → fields_from d t before i ≡ o
+fields_turn : (d t : ℕ) (before : List SourceLine) (i : List Numbered) (o : Outcome (List SourceLine)) → length i < t
+    → ((t' : ℕ) → length i ≤ t' → fields_from d (suc t') before i ≡ o) → fields_from d t before i ≡ o
 fields_turn d zero before i o lt h = absurd (omega arith)
 fields_turn d (suc t) before i o lt h = h t (omega arith)
 
@@ -103,8 +111,12 @@ complete_fields (spelled.one {f = f} {xs = xs} h) d t before k rest ld lt =
     last_field d t' k before f (xs ++ fixed k terminal.CloseBrace ∷ rest) rest (complete_field h d (fixed k terminal.CloseBrace ∷ rest) ld))
 complete_fields (spelled.more {f = f} {all = all} {xs = xs} {ys = ys} h hs) d t before k rest ld lt =
     let regroup = append_assoc xs ys (fixed k terminal.CloseBrace ∷ rest) in
-    let again : length ((xs ++ ys) ++ fixed k terminal.CloseBrace ∷ rest) ≡ length xs + length (ys ++ fixed k terminal.CloseBrace ∷ rest) = ap length regroup ∙ length-append xs (ys ++ fixed k terminal.CloseBrace ∷ rest) in
-    let whole : length (xs ++ (ys ++ fixed k terminal.CloseBrace ∷ rest)) ≡ length xs + length (ys ++ fixed k terminal.CloseBrace ∷ rest) = length-append xs (ys ++ fixed k terminal.CloseBrace ∷ rest) in
+    let again : length ((xs ++ ys) ++ fixed k terminal.CloseBrace ∷ rest)
+    ≡ length xs + length (ys ++ fixed k terminal.CloseBrace ∷ rest) = ap length regroup
+    ∙ length-append xs (ys ++ fixed k terminal.CloseBrace ∷ rest) in
+    let whole : length (xs ++ (ys ++ fixed k terminal.CloseBrace ∷ rest))
+    ≡ length xs + length (ys ++ fixed k terminal.CloseBrace ∷ rest) = length-append xs
+    (ys ++ fixed k terminal.CloseBrace ∷ rest) in
     let some = starts_length begins_type xs (starts_field h) in
     ap (fields_from d t before) regroup
     ∙ fields_turn d t before (xs ++ (ys ++ fixed k terminal.CloseBrace ∷ rest)) (Got (before ++ f ∷ all) rest) (omega arith) (λ t' le.
@@ -140,7 +152,9 @@ complete_parameter (spelled.bare {t = t} {ts = ts} n k f typ) rest absent =
     ∙ default_bare n t f rest absent
 complete_parameter (spelled.valued {t = t} {c = c} {ts = ts} {cs = cs} n k a f typ h) rest absent =
     ap parameter (append_assoc ts (at k (symbol.Name f) ∷ fixed a terminal.Assign ∷ cs) rest)
-    ∙ parameter_step n k t f (ts ++ at k (symbol.Name f) ∷ fixed a terminal.Assign ∷ (cs ++ rest)) (fixed a terminal.Assign ∷ (cs ++ rest)) (complete_typed typ (at k (symbol.Name f) ∷ fixed a terminal.Assign ∷ (cs ++ rest)))
+    ∙ parameter_step n k t f (ts ++ at k (symbol.Name f) ∷ fixed a terminal.Assign ∷ (cs ++ rest))
+    (fixed a terminal.Assign ∷ (cs ++ rest))
+    (complete_typed typ (at k (symbol.Name f) ∷ fixed a terminal.Assign ∷ (cs ++ rest)))
     ∙ default_valued n a t f c (cs ++ rest) rest (complete_constant h rest)
 
 starts_parameter : {p : SourceParameter} {xs : List Numbered} → ParameterTokens p xs → Starts begins_type xs
@@ -151,15 +165,20 @@ starts_parameters : {all : List SourceParameter} {xs : List Numbered} → Parame
 starts_parameters (spelled.one h) = starts_parameter h
 starts_parameters (spelled.more {xs = xs} {ys = ys} n h hs) = starts_append begins_type xs (fixed n terminal.Comma ∷ ys) (starts_parameter h)
 
-last_parameter : (t k : ℕ) (before : List SourceParameter) (p : SourceParameter) (i rest : List Numbered) → parameter i ≡ Got p (fixed k terminal.Close ∷ rest) → parameters_from (suc t) before i ≡ Got (before ++ p ∷ []) rest
+last_parameter : (t k : ℕ) (before : List SourceParameter) (p : SourceParameter) (i rest : List Numbered)
+    → parameter i ≡ Got p (fixed k terminal.Close ∷ rest)
+    → parameters_from (suc t) before i ≡ Got (before ++ p ∷ []) rest
 unfolding first take same_terminal
 last_parameter t k before p i rest e = rw e refl
 
-next_parameter : (t n : ℕ) (before : List SourceParameter) (p : SourceParameter) (i j : List Numbered) → parameter i ≡ Got p (fixed n terminal.Comma ∷ j) → parameters_from (suc t) before i ≡ parameters_from t (before ++ p ∷ []) j
+next_parameter : (t n : ℕ) (before : List SourceParameter) (p : SourceParameter) (i j : List Numbered)
+    → parameter i ≡ Got p (fixed n terminal.Comma ∷ j)
+    → parameters_from (suc t) before i ≡ parameters_from t (before ++ p ∷ []) j
 unfolding first take same_terminal
 next_parameter t n before p i j e = rw e refl
 
-parameter_turn : (t : ℕ) (before : List SourceParameter) (i : List Numbered) (o : Outcome (List SourceParameter)) → length i < t → ((t' : ℕ) → length i ≤ t' → parameters_from (suc t') before i ≡ o) → parameters_from t before i ≡ o
+parameter_turn : (t : ℕ) (before : List SourceParameter) (i : List Numbered) (o : Outcome (List SourceParameter))
+    → length i < t → ((t' : ℕ) → length i ≤ t' → parameters_from (suc t') before i ≡ o) → parameters_from t before i ≡ o
 parameter_turn zero before i o lt h = absurd (omega arith)
 parameter_turn (suc t) before i o lt h = h t (omega arith)
 
@@ -178,8 +197,12 @@ complete_parameters (spelled.one {p = p} {xs = xs} h) t before k rest lt =
     last_parameter t' k before p (xs ++ fixed k terminal.Close ∷ rest) rest (complete_parameter h (fixed k terminal.Close ∷ rest) (no_assign_close k rest)))
 complete_parameters (spelled.more {p = p} {all = all} {xs = xs} {ys = ys} n h hs) t before k rest lt =
     let regroup = append_assoc xs (fixed n terminal.Comma ∷ ys) (fixed k terminal.Close ∷ rest) in
-    let again : length ((xs ++ fixed n terminal.Comma ∷ ys) ++ fixed k terminal.Close ∷ rest) ≡ length xs + (length (ys ++ fixed k terminal.Close ∷ rest) + 1) = ap length regroup ∙ tail_length xs (ys ++ fixed k terminal.Close ∷ rest) (fixed n terminal.Comma) in
-    let whole : length (xs ++ fixed n terminal.Comma ∷ (ys ++ fixed k terminal.Close ∷ rest)) ≡ length xs + (length (ys ++ fixed k terminal.Close ∷ rest) + 1) = tail_length xs (ys ++ fixed k terminal.Close ∷ rest) (fixed n terminal.Comma) in
+    let again : length ((xs ++ fixed n terminal.Comma ∷ ys) ++ fixed k terminal.Close ∷ rest)
+    ≡ length xs + (length (ys ++ fixed k terminal.Close ∷ rest) + 1) = ap length regroup
+    ∙ tail_length xs (ys ++ fixed k terminal.Close ∷ rest) (fixed n terminal.Comma) in
+    let whole : length (xs ++ fixed n terminal.Comma ∷ (ys ++ fixed k terminal.Close ∷ rest))
+    ≡ length xs + (length (ys ++ fixed k terminal.Close ∷ rest) + 1) = tail_length xs
+    (ys ++ fixed k terminal.Close ∷ rest) (fixed n terminal.Comma) in
     ap (parameters_from t before) regroup
     ∙ parameter_turn t before (xs ++ fixed n terminal.Comma ∷ (ys ++ fixed k terminal.Close ∷ rest)) (Got (before ++ p ∷ all) rest) (omega arith) (λ t' le.
     next_parameter t' n before p (xs ++ fixed n terminal.Comma ∷ (ys ++ fixed k terminal.Close ∷ rest)) (ys ++ fixed k terminal.Close ∷ rest)
@@ -199,7 +222,9 @@ complete_parameter_list : {all : List SourceParameter} {xs : List Numbered} → 
     → length (xs ++ fixed k terminal.Close ∷ rest) < d → parameters d (xs ++ fixed k terminal.Close ∷ rest) ≡ Got all rest
 complete_parameter_list spelled.absent d k rest lt = no_parameters d k rest
 complete_parameter_list (spelled.present {all = all} {xs = xs} hs) d k rest lt =
-    some_parameters d (xs ++ fixed k terminal.Close ∷ rest) (no_fixed begins_type terminal.Close refl (xs ++ fixed k terminal.Close ∷ rest) (starts_append begins_type xs (fixed k terminal.Close ∷ rest) (starts_parameters hs)))
+    some_parameters d (xs ++ fixed k terminal.Close ∷ rest)
+    (no_fixed begins_type terminal.Close refl (xs ++ fixed k terminal.Close ∷ rest)
+    (starts_append begins_type xs (fixed k terminal.Close ∷ rest) (starts_parameters hs)))
     ∙ complete_parameters hs d [] k rest lt
 
 constant_step : (a n k b : ℕ) (t : TypeName) (f : List ℕ) (c : Constant) (i j rest : List Numbered) (e : ℕ) → typed i ≡ Got (n, t) (at k (symbol.Name f) ∷ fixed b terminal.Assign ∷ j)
@@ -262,7 +287,8 @@ module _ (d safe : ℕ) (fits : safe ≤ d) (entries : Parser SourceStmts)
   unfolding after_type first same_terminal
   opens_function n k a t f i = rw (identifier_step k f (fixed a terminal.Open ∷ i)) refl
 
-  opens_global : (n k : ℕ) (t : TypeName) (f : List ℕ) (z : List Numbered) → sees terminal.Open z ≡ false → after_type d entries n t (at k (symbol.Name f) ∷ z) ≡ global d n t (record { token = k; name = f }) z
+  opens_global : (n k : ℕ) (t : TypeName) (f : List ℕ) (z : List Numbered) → sees terminal.Open z ≡ false
+      → after_type d entries n t (at k (symbol.Name f) ∷ z) ≡ global d n t (record { token = k; name = f }) z
   unfolding after_type
   opens_global n k t f z absent = rw (identifier_step k f z, absent) refl
 
@@ -273,12 +299,16 @@ module _ (d safe : ℕ) (fits : safe ≤ d) (entries : Parser SourceStmts)
   type_item (grammar.word n m t is) k f z =
       let no_struct = no_fixed begins_word terminal.Struct refl (fixed n m ∷ at k (symbol.Name f) ∷ z) (ap is_type is) in
       let no_const = no_fixed begins_word terminal.Const refl (fixed n m ∷ at k (symbol.Name f) ∷ z) (ap is_type is) in
-      ap (λ (b : Bool). branch b (after_struct d entries) (λ i. branch (sees terminal.Const i) constant_line (typed >>= λ p. after_type d entries p.0 p.1) i) (fixed n m ∷ at k (symbol.Name f) ∷ z)) no_struct
+      ap (λ (b : Bool). branch b (after_struct d entries)
+      (λ i. branch (sees terminal.Const i) constant_line (typed >>= λ p. after_type d entries p.0 p.1) i)
+      (fixed n m ∷ at k (symbol.Name f) ∷ z)) no_struct
       ∙ ap (λ (b : Bool). branch b constant_line (typed >>= λ p. after_type d entries p.0 p.1) (fixed n m ∷ at k (symbol.Name f) ∷ z)) no_const
       ∙ ap (λ (o : Outcome (ℕ × TypeName)). and_then o (λ p. after_type d entries p.0 p.1)) (complete_typed (grammar.word n m t is) (at k (symbol.Name f) ∷ z))
   type_item (grammar.structure n m g) k f z = rw (identifier_step m g (at k (symbol.Name f) ∷ z)) refl
 
-  struct_item : (a n b : ℕ) (f : List ℕ) (i : List Numbered) → item d entries (fixed a terminal.Struct ∷ at n (symbol.Name f) ∷ fixed b terminal.OpenBrace ∷ i) ≡ structure d (record { token = n; name = f }) (fixed b terminal.OpenBrace ∷ i)
+  struct_item : (a n b : ℕ) (f : List ℕ) (i : List Numbered)
+      → item d entries (fixed a terminal.Struct ∷ at n (symbol.Name f) ∷ fixed b terminal.OpenBrace ∷ i)
+      ≡ structure d (record { token = n; name = f }) (fixed b terminal.OpenBrace ∷ i)
   unfolding item after_struct first take same_terminal
   struct_item a n b f i = rw (identifier_step n f (fixed b terminal.OpenBrace ∷ i)) refl
 
@@ -301,13 +331,15 @@ module _ (d safe : ℕ) (fits : safe ≤ d) (entries : Parser SourceStmts)
   pub complete_item : {x : SourceItem} {xs : List Numbered} → Item x xs → (rest : List Numbered) → length (xs ++ rest) < safe → item d entries (xs ++ rest) ≡ Got x rest
   complete_item (spelled.structure {all = all} {xs = xs} a n b c e f h) rest lt =
       let regroup = append_assoc xs (fixed c terminal.CloseBrace ∷ fixed e terminal.Semicolon ∷ []) rest in
-      let again : length ((xs ++ fixed c terminal.CloseBrace ∷ fixed e terminal.Semicolon ∷ []) ++ rest) ≡ length (xs ++ fixed c terminal.CloseBrace ∷ fixed e terminal.Semicolon ∷ rest) = ap length regroup in
+      let again : length ((xs ++ fixed c terminal.CloseBrace ∷ fixed e terminal.Semicolon ∷ []) ++ rest)
+      ≡ length (xs ++ fixed c terminal.CloseBrace ∷ fixed e terminal.Semicolon ∷ rest) = ap length regroup in
       struct_item a n b f ((xs ++ fixed c terminal.CloseBrace ∷ fixed e terminal.Semicolon ∷ []) ++ rest)
       ∙ structure_step d b e (record { token = n; name = f }) all ((xs ++ fixed c terminal.CloseBrace ∷ fixed e terminal.Semicolon ∷ []) ++ rest) rest
       (ap (fields_from d d []) regroup ∙ complete_fields h d d [] c (fixed e terminal.Semicolon ∷ rest) (omega arith) (omega arith))
   complete_item (spelled.constant {t = t} {c = c} {ts = ts} {cs = cs} a n k b e f typ h) rest lt =
       let inner = append_assoc cs (fixed e terminal.Semicolon ∷ []) rest in
-      let regroup : (ts ++ at k (symbol.Name f) ∷ fixed b terminal.Assign ∷ (cs ++ fixed e terminal.Semicolon ∷ [])) ++ rest ≡ ts ++ at k (symbol.Name f) ∷ fixed b terminal.Assign ∷ (cs ++ fixed e terminal.Semicolon ∷ rest) =
+      let regroup : (ts ++ at k (symbol.Name f) ∷ fixed b terminal.Assign ∷ (cs ++ fixed e terminal.Semicolon ∷ []))
+      ++ rest ≡ ts ++ at k (symbol.Name f) ∷ fixed b terminal.Assign ∷ (cs ++ fixed e terminal.Semicolon ∷ rest) =
       append_assoc ts (at k (symbol.Name f) ∷ fixed b terminal.Assign ∷ (cs ++ fixed e terminal.Semicolon ∷ [])) rest ∙ ap (λ z. ts ++ at k (symbol.Name f) ∷ fixed b terminal.Assign ∷ z) inner in
       const_item a ((ts ++ at k (symbol.Name f) ∷ fixed b terminal.Assign ∷ (cs ++ fixed e terminal.Semicolon ∷ [])) ++ rest)
       ∙ ap (λ z. constant_line (fixed a terminal.Const ∷ z)) regroup
@@ -321,9 +353,12 @@ module _ (d safe : ℕ) (fits : safe ≤ d) (entries : Parser SourceStmts)
       ap (item d entries) regroup ∙ complete_global n k t typ h rest (omega arith)
   complete_item (spelled.function {t = t} {all = all} {body = b} {ts = ts} {xs = xs} {bs = bs} n k a c f typ ps h) rest lt =
       let inner : (xs ++ fixed c terminal.Close ∷ bs) ++ rest ≡ xs ++ fixed c terminal.Close ∷ (bs ++ rest) = append_assoc xs (fixed c terminal.Close ∷ bs) rest in
-      let regroup : (ts ++ at k (symbol.Name f) ∷ fixed a terminal.Open ∷ (xs ++ fixed c terminal.Close ∷ bs)) ++ rest ≡ ts ++ at k (symbol.Name f) ∷ fixed a terminal.Open ∷ (xs ++ fixed c terminal.Close ∷ (bs ++ rest)) =
+      let regroup : (ts ++ at k (symbol.Name f) ∷ fixed a terminal.Open ∷ (xs ++ fixed c terminal.Close ∷ bs)) ++ rest
+      ≡ ts ++ at k (symbol.Name f) ∷ fixed a terminal.Open ∷ (xs ++ fixed c terminal.Close ∷ (bs ++ rest)) =
       append_assoc ts (at k (symbol.Name f) ∷ fixed a terminal.Open ∷ (xs ++ fixed c terminal.Close ∷ bs)) rest ∙ ap (λ z. ts ++ at k (symbol.Name f) ∷ fixed a terminal.Open ∷ z) inner in
-      let again : length ((ts ++ at k (symbol.Name f) ∷ fixed a terminal.Open ∷ (xs ++ fixed c terminal.Close ∷ bs)) ++ rest) ≡ length (ts ++ at k (symbol.Name f) ∷ fixed a terminal.Open ∷ (xs ++ fixed c terminal.Close ∷ (bs ++ rest))) = ap length regroup in
+      let again : length ((ts ++ at k (symbol.Name f) ∷ fixed a terminal.Open ∷ (xs ++ fixed c terminal.Close ∷ bs))
+      ++ rest) ≡ length (ts ++ at k (symbol.Name f) ∷ fixed a terminal.Open ∷
+      (xs ++ fixed c terminal.Close ∷ (bs ++ rest))) = ap length regroup in
       let shorter = after_length ts (at k (symbol.Name f) ∷ fixed a terminal.Open ∷ (xs ++ fixed c terminal.Close ∷ (bs ++ rest))) in
       let body_shorter = after_length xs (fixed c terminal.Close ∷ (bs ++ rest)) in
       ap (item d entries) regroup
@@ -334,7 +369,12 @@ module _ (d safe : ℕ) (fits : safe ≤ d) (entries : Parser SourceStmts)
 
   -- an item has tokens
   some_item : {x : SourceItem} {xs : List Numbered} → Item x xs → (s : Numbered) × (r : List Numbered) × (xs ≡ s ∷ r)
-  some_item (spelled.structure {xs = xs} a n b c e f h) = (fixed a terminal.Struct, at n (symbol.Name f) ∷ fixed b terminal.OpenBrace ∷ (xs ++ fixed c terminal.CloseBrace ∷ fixed e terminal.Semicolon ∷ []), refl)
+  some_item (spelled.structure {xs = xs} a n b c e f h) = (
+    fixed a terminal.Struct,
+    at n (symbol.Name f) ∷ fixed b terminal.OpenBrace ∷
+        (xs ++ fixed c terminal.CloseBrace ∷ fixed e terminal.Semicolon ∷ []),
+    refl,
+  )
   some_item (spelled.constant {ts = ts} {cs = cs} a n k b e f typ h) = (fixed a terminal.Const, ts ++ at k (symbol.Name f) ∷ fixed b terminal.Assign ∷ (cs ++ fixed e terminal.Semicolon ∷ []), refl)
   some_item (spelled.global {xs = xs} n k typ h) = type_first typ (xs ++ fixed k terminal.Semicolon ∷ [])
     where
@@ -356,11 +396,13 @@ module _ (d safe : ℕ) (fits : safe ≤ d) (entries : Parser SourceStmts)
   unfolding first
   items_more t before s r x rest e = rw e refl
 
-  items_turn : (t : ℕ) (before : SourceItems) (i : List Numbered) (o : Outcome SourceItems) → length i < t → ((t' : ℕ) → length i ≤ t' → items_from d entries (suc t') before i ≡ o) → items_from d entries t before i ≡ o
+  items_turn : (t : ℕ) (before : SourceItems) (i : List Numbered) (o : Outcome SourceItems) → length i < t
+      → ((t' : ℕ) → length i ≤ t' → items_from d entries (suc t') before i ≡ o) → items_from d entries t before i ≡ o
   items_turn zero before i o lt h = absurd (omega arith)
   items_turn (suc t) before i o lt h = h t (omega arith)
 
-  complete_items_from : {all : SourceItems} {xs : List Numbered} → Items all xs → (t : ℕ) (before : SourceItems) → length xs < safe → length xs < t → items_from d entries t before xs ≡ Got (before ++ all) []
+  complete_items_from : {all : SourceItems} {xs : List Numbered} → Items all xs → (t : ℕ) (before : SourceItems)
+      → length xs < safe → length xs < t → items_from d entries t before xs ≡ Got (before ++ all) []
   complete_items_from spelled.none t before ls lt = items_turn t before [] (Got (before ++ []) []) lt (λ t' le. items_end t' before ∙ ap (λ (z : SourceItems). Got z []) (sym (append-nil before)))
   complete_items_from (spelled.more {x = x} {all = all} {xs = xs} {ys = ys} h hs) t before ls lt =
       let (s, r, is) = some_item h in

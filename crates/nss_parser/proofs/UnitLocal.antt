@@ -15,7 +15,9 @@ use Rattle.nss_parser.proofs.DeclarationLocal.{local_typed, local_constant, loca
 local_more_fields : (t t' : ℕ) → t ≤ t' → (all : List Identifier) → Local (more_fields t all) (more_fields t' all)
 local_more_fields zero t' lt all = local_deep (more_fields t' all)
 local_more_fields (suc t) zero lt all = absurd (omega arith)
-local_more_fields (suc t) (suc t') lt all = local_choice (is_terminal terminal.Comma) (local_bind local_take (λ n. local_bind local_identifier (λ x. local_more_fields t t' (omega arith) (all ++ x ∷ [])))) (local_pure all)
+local_more_fields (suc t) (suc t') lt all = local_choice (is_terminal terminal.Comma)
+    (local_bind local_take (λ n. local_bind local_identifier
+    (λ x. local_more_fields t t' (omega arith) (all ++ x ∷ [])))) (local_pure all)
 
 local_field : (d e : ℕ) → d ≤ e → Local (field d) (field e)
 unfolding field
@@ -35,7 +37,10 @@ local_structure d e le x = local_bind local_take (λ b. local_bind (local_fields
 local_constant_line : Local constant_line constant_line
 unfolding constant_line
 local_constant_line =
-    local_bind local_take (λ a. local_bind local_typed (λ p. local_bind local_identifier (λ x. local_bind (local_expect terminal.Assign) (λ b. local_bind local_constant (λ c. local_bind (local_expect terminal.Semicolon) (λ k. local_pure _))))))
+    local_bind local_take (λ a. local_bind local_typed
+    (λ p. local_bind local_identifier
+    (λ x. local_bind (local_expect terminal.Assign)
+    (λ b. local_bind local_constant (λ c. local_bind (local_expect terminal.Semicolon) (λ k. local_pure _))))))
 
 local_default : (n : ℕ) (t : TypeName) (f : List ℕ) → Local (default n t f) (default n t f)
 unfolding default
@@ -49,7 +54,10 @@ local_parameters_from : (t t' : ℕ) → t ≤ t' → (all : List SourceParamete
 local_parameters_from zero t' lt all = local_deep (parameters_from t' all)
 local_parameters_from (suc t) zero lt all = absurd (omega arith)
 local_parameters_from (suc t) (suc t') lt all =
-    local_bind local_parameter (λ x. local_choice (is_terminal terminal.Comma) (local_bind local_take (λ n. local_parameters_from t t' (omega arith) (all ++ x ∷ []))) (local_bind (local_expect terminal.Close) (λ k. local_pure _)))
+    local_bind local_parameter
+    (λ x. local_choice (is_terminal terminal.Comma)
+    (local_bind local_take (λ n. local_parameters_from t t' (omega arith) (all ++ x ∷ [])))
+    (local_bind (local_expect terminal.Close) (λ k. local_pure _)))
 
 local_parameters : (d e : ℕ) → d ≤ e → Local (parameters d) (parameters e)
 unfolding parameters
@@ -63,7 +71,8 @@ local_global d e le n t x =
 module _ (d e : ℕ) (le : d ≤ e) (inner outer : Parser SourceStmts) (local : Local inner outer) where
   local_body : Local (body d inner) (body e outer)
   unfolding body
-  local_body = local_choice (is_terminal terminal.Semicolon) (local_bind local_take (λ k. local_pure None)) (local_bind (local_expect terminal.OpenBrace) (λ n. local_bind local (λ all. local_pure (Some all))))
+  local_body = local_choice (is_terminal terminal.Semicolon) (local_bind local_take (λ k. local_pure None))
+      (local_bind (local_expect terminal.OpenBrace) (λ n. local_bind local (λ all. local_pure (Some all))))
 
   local_function : (t : TypeName) (x : Identifier) → Local (function d inner t x) (function e outer t x)
   unfolding function
@@ -75,13 +84,17 @@ module _ (d e : ℕ) (le : d ≤ e) (inner outer : Parser SourceStmts) (local : 
 
   local_after_struct : Local (after_struct d inner) (after_struct e outer)
   unfolding after_struct
-  local_after_struct = local_bind local_take (λ a. local_bind local_identifier (λ x. local_choice (is_terminal terminal.OpenBrace) (local_structure d e le x) (local_after_type a (type.Struct x.name))))
+  local_after_struct = local_bind local_take
+      (λ a. local_bind local_identifier
+      (λ x. local_choice (is_terminal terminal.OpenBrace) (local_structure d e le x)
+      (local_after_type a (type.Struct x.name))))
 
   local_item : Local (item d inner) (item e outer)
   unfolding item
   local_item = local_choice (is_terminal terminal.Struct) local_after_struct (local_choice (is_terminal terminal.Const) local_constant_line (local_bind local_typed (λ p. local_after_type p.0 p.1)))
 
-  local_items_by : (p q : SourceItems → Parser SourceItems) → ((all : SourceItems) → Local (p all) (q all)) → (all : SourceItems) (o : Option Symbol) → Local (items_by d inner p all o) (items_by e outer q all o)
+  local_items_by : (p q : SourceItems → Parser SourceItems) → ((all : SourceItems) → Local (p all) (q all))
+      → (all : SourceItems) (o : Option Symbol) → Local (items_by d inner p all o) (items_by e outer q all o)
   local_items_by p q l all None = local_pure all
   local_items_by p q l all (Some s) = local_bind local_item (λ x. l (all ++ x ∷ []))
 

@@ -33,7 +33,8 @@ then_type {Q = Q} {E = E} N f i go prefixes =
     (λ n. λ j. let (more, x, p) = prefixes n (type.Struct some_name) (fixed n terminal.Struct ∷ at j (symbol.Name some_name) ∷ []) (grammar.structure n j some_name) (j + 1) in (by_name ∷ more, x, p))
 
 -- names of fields
-fields_push : {all : List Identifier} {xs : List Numbered} → FieldNames all xs → (c n : ℕ) (f : List ℕ) → FieldNames (all ++ record { token = n; name = f } ∷ []) (xs ++ fixed c terminal.Comma ∷ at n (symbol.Name f) ∷ [])
+fields_push : {all : List Identifier} {xs : List Numbered} → FieldNames all xs → (c n : ℕ) (f : List ℕ)
+    → FieldNames (all ++ record { token = n; name = f } ∷ []) (xs ++ fixed c terminal.Comma ∷ at n (symbol.Name f) ∷ [])
 fields_push (spelled.one m g) c n f = spelled.more m c g (spelled.one n f)
 fields_push (spelled.more m b g hs) c n f = spelled.more m b g (fields_push hs c n f)
 
@@ -60,10 +61,23 @@ right_field d i =
     (λ names ns rest' m z h is' e'. right_pure (spelled.line n m typ h))
     (λ names ns rest' h. viable_done FieldNames names (at k (symbol.Name f) ∷ ns) h)
     (λ ns v. viable_under Field ts (at k (symbol.Name f) ∷ ns)
-    (viable_then FieldNames (λ y zs. Field y (ts ++ zs)) (at k (symbol.Name f) ∷ ns) (by_terminal terminal.Semicolon ∷ []) v (λ names zs m h. (record { token = n; ty = t; names = names }, spelled.line n m typ h))))
+    (viable_then FieldNames (λ y zs. Field y (ts ++ zs)) (at k (symbol.Name f) ∷ ns)
+    (by_terminal terminal.Semicolon ∷ []) v
+    (λ names zs m h. (record { token = n; ty = t; names = names }, spelled.line n m typ h))))
     (λ deep. let one : length rest ≡ suc (length r) = ap length is in omega (arith, rest_length i ts rest e)))
-    (viable_under Field ts [] (λ j. (by_name ∷ by_terminal terminal.Semicolon ∷ [], record { token = n; ty = t; names = record { token = j; name = some_name } ∷ [] }, spelled.line n (j + 1) typ (spelled.one j some_name)))))
-    (λ n t ts typ j. (by_name ∷ by_terminal terminal.Semicolon ∷ [], record { token = n; ty = t; names = record { token = j; name = some_name } ∷ [] }, spelled.line n (j + 1) typ (spelled.one j some_name)))
+    (viable_under Field ts []
+    (λ j. (
+      by_name ∷ by_terminal terminal.Semicolon ∷ [],
+      record { token = n; ty = t; names = record { token = j; name = some_name } ∷ [] },
+      spelled.line n (j + 1) typ
+          (spelled.one j some_name),
+    ))))
+    (λ n t ts typ j. (
+      by_name ∷ by_terminal terminal.Semicolon ∷ [],
+      record { token = n; ty = t; names = record { token = j; name = some_name } ∷ [] },
+      spelled.line n (j + 1) typ
+          (spelled.one j some_name),
+    ))
 
 some_field : {f : SourceLine} {xs : List Numbered} → Field f xs → 0 < length xs
 some_field (spelled.line {ts = ts} {ns = ns} n k typ hs) = type_some typ (ns ++ fixed k terminal.Semicolon ∷ [])
@@ -100,14 +114,21 @@ struct_spelled a n b m f {all = all} c =
     (spelled.structure a n b c.number m f c.holds)
 
 right_structure : (d a n b : ℕ) (f : List ℕ) (i r : List Numbered) → i ≡ fixed b terminal.OpenBrace ∷ r
-    → Right (λ y ys rest. Item y (fixed a terminal.Struct ∷ at n (symbol.Name f) ∷ ys)) (λ ys. Viable Item (fixed a terminal.Struct ∷ at n (symbol.Name f) ∷ ys)) (d ≤ suc (length i)) i (structure d (record { token = n; name = f }) i)
+    → Right (λ y ys rest. Item y (fixed a terminal.Struct ∷ at n (symbol.Name f) ∷ ys))
+    (λ ys. Viable Item (fixed a terminal.Struct ∷ at n (symbol.Name f) ∷ ys)) (d ≤ suc (length i)) i
+    (structure d (record { token = n; name = f }) i)
 unfolding structure
 right_structure d a n b f i r is =
     after_take (λ b. fields_from d d [] >>= λ all. expect terminal.Semicolon >>= λ k. pure (unit.structure n f all)) b (symbol.Fixed terminal.OpenBrace) r is
     (then_fixed terminal.Semicolon (right_fields_from d d [] r)
-    (λ all xs rest m z h is' e. let (more, same, c) = h in right_pure (subst (λ (w : List SourceLine). Item (unit.structure n f w) (fixed a terminal.Struct ∷ at n (symbol.Name f) ∷ fixed b terminal.OpenBrace ∷ (xs ++ fixed m terminal.Semicolon ∷ []))) (sym same) (struct_spelled a n b m f c)))
+    (λ all xs rest m z h is' e. let (more, same, c) = h in right_pure
+    (subst (λ (w : List SourceLine). Item (unit.structure n f w)
+    (fixed a terminal.Struct ∷ at n (symbol.Name f) ∷ fixed b terminal.OpenBrace ∷
+    (xs ++ fixed m terminal.Semicolon ∷ []))) (sym same) (struct_spelled a n b m f c)))
     (λ all xs rest h. let (more, same, c) = h in viable_done (Closed Fields terminal.CloseBrace) more xs c)
-    (λ xs v. viable_then (Closed Fields terminal.CloseBrace) (λ y zs. Item y (fixed a terminal.Struct ∷ at n (symbol.Name f) ∷ fixed b terminal.OpenBrace ∷ zs)) xs (by_terminal terminal.Semicolon ∷ []) v
+    (λ xs v. viable_then (Closed Fields terminal.CloseBrace)
+    (λ y zs. Item y (fixed a terminal.Struct ∷ at n (symbol.Name f) ∷ fixed b terminal.OpenBrace ∷ zs)) xs
+    (by_terminal terminal.Semicolon ∷ []) v
     (λ all zs m c. (unit.structure n f all, struct_spelled a n b m f c)))
     (λ deep. let one : length i ≡ suc (length r) = ap length is in elim deep [ inl x ↦ omega arith | inr y ↦ omega arith ]))
 
@@ -115,7 +136,8 @@ right_constant_line : (a : ℕ) (i r : List Numbered) (E : Type 0) → i ≡ fix
 unfolding constant_line
 right_constant_line a i r E is =
     after_take (λ a. typed >>= λ p. identifier >>= λ x. expect terminal.Assign >>= λ b. constant_value >>= λ c. expect terminal.Semicolon >>= λ k. pure (unit.constant p.0 p.1 x c)) a (symbol.Fixed terminal.Const) r is
-    (then_type (λ x ys. Item x (fixed a terminal.Const ∷ ys)) (λ p. identifier >>= λ x. expect terminal.Assign >>= λ b. constant_value >>= λ c. expect terminal.Semicolon >>= λ k. pure (unit.constant p.0 p.1 x c)) r
+    (then_type (λ x ys. Item x (fixed a terminal.Const ∷ ys))
+    (λ p. identifier >>= λ x. expect terminal.Assign >>= λ b. constant_value >>= λ c. expect terminal.Semicolon >>= λ k. pure (unit.constant p.0 p.1 x c)) r
     (λ n t ts rest typ e. then_identifier (λ x. expect terminal.Assign >>= λ b. constant_value >>= λ c. expect terminal.Semicolon >>= λ k. pure (unit.constant n t x c)) rest
     (λ k f z is'. then_expect terminal.Assign z
     (λ b w is''. then_fixed terminal.Semicolon (right_constant w)
@@ -151,9 +173,14 @@ right_default n k t f ts i typ =
     right_choice terminal.Assign i _ _
     (λ a r is. after_take (λ a. constant_value >>= λ c. pure (record { token = n; ty = t; name = f; default = Some c })) a (symbol.Fixed terminal.Assign) r is
     (then (right_constant r)
-    (λ c cs rest h e. right_pure (subst (λ (z : List Numbered). ParameterTokens (record { token = n; ty = t; name = f; default = Some c }) (ts ++ at k (symbol.Name f) ∷ fixed a terminal.Assign ∷ z)) (sym (append-nil cs)) (spelled.valued n k a f typ h)))
+    (λ c cs rest h e. right_pure
+    (subst (λ (z : List Numbered). ParameterTokens (record { token = n; ty = t; name = f; default = Some c })
+    (ts ++ at k (symbol.Name f) ∷ fixed a terminal.Assign ∷ z)) (sym (append-nil cs))
+    (spelled.valued n k a f typ h)))
     (λ cs v. viable_under ParameterTokens ts (at k (symbol.Name f) ∷ fixed a terminal.Assign ∷ cs)
-    (viable_as ConstantTokens (λ y zs. ParameterTokens y (ts ++ at k (symbol.Name f) ∷ fixed a terminal.Assign ∷ zs)) cs v (λ c zs h. (record { token = n; ty = t; name = f; default = Some c }, spelled.valued n k a f typ h))))
+    (viable_as ConstantTokens
+    (λ y zs. ParameterTokens y (ts ++ at k (symbol.Name f) ∷ fixed a terminal.Assign ∷ zs)) cs v
+    (λ c zs h. (record { token = n; ty = t; name = f; default = Some c }, spelled.valued n k a f typ h))))
     (λ deep. absurd deep)))
     (λ other. right_pure (spelled.bare n k f typ))
 
@@ -189,13 +216,17 @@ right_parameters_from (suc t) before i =
       p ∷ more,
       same ∙ append_assoc before (p ∷ []) more,
       subst (λ (z : List Numbered). Closed ParameterList terminal.Close (p ∷ more) z) (append_assoc xs (fixed n terminal.Comma ∷ []) ys)
-          (closed_after (xs ++ fixed n terminal.Comma ∷ []) (p ∷ more) (λ zs hs. subst (λ (z : List Numbered). ParameterList (p ∷ more) z) (sym (append_assoc xs (fixed n terminal.Comma ∷ []) zs)) (spelled.more n h hs)) c),
+          (closed_after (xs ++ fixed n terminal.Comma ∷ []) (p ∷ more)
+          (λ zs hs. subst (λ (z : List Numbered). ParameterList (p ∷ more) z)
+          (sym (append_assoc xs (fixed n terminal.Comma ∷ []) zs)) (spelled.more n h hs)) c),
     ))
     (λ ys v. viable_under (Closed ParameterList terminal.Close) xs (fixed n terminal.Comma ∷ ys)
     (viable_as (Closed ParameterList terminal.Close) (λ all zs. Closed ParameterList terminal.Close all (xs ++ fixed n terminal.Comma ∷ zs)) ys v (λ all zs c. (
       p ∷ all,
       subst (λ (z : List Numbered). Closed ParameterList terminal.Close (p ∷ all) z) (append_assoc xs (fixed n terminal.Comma ∷ []) zs)
-          (closed_after (xs ++ fixed n terminal.Comma ∷ []) (p ∷ all) (λ ws hs. subst (λ (z : List Numbered). ParameterList (p ∷ all) z) (sym (append_assoc xs (fixed n terminal.Comma ∷ []) ws)) (spelled.more n h hs)) c),
+          (closed_after (xs ++ fixed n terminal.Comma ∷ []) (p ∷ all)
+          (λ ws hs. subst (λ (z : List Numbered). ParameterList (p ∷ all) z)
+          (sym (append_assoc xs (fixed n terminal.Comma ∷ []) ws)) (spelled.more n h hs)) c),
     ))))
     (λ deep. let one : length rest ≡ suc (length r) = ap length is in omega (arith, rest_length i xs rest e))))
     (λ other. then_expect terminal.Close rest
@@ -211,11 +242,24 @@ right_parameters d i =
     right_choice terminal.Close i _ _
     (λ k r is. after_take (λ k. pure []) k (symbol.Fixed terminal.Close) r is (right_pure (record { tokens = []; number = k; is = refl; holds = spelled.absent })))
     (λ other. right_as (right_parameters_from d [] i)
-    (λ all xs rest q. let (more, same, c) = q in subst (λ (w : List SourceParameter). Closed Parameters terminal.Close w xs) (sym same) (record { tokens = c.tokens; number = c.number; is = c.is; holds = spelled.present c.holds }))
-    (λ xs v. viable_as (Closed ParameterList terminal.Close) (Closed Parameters terminal.Close) xs v (λ all ys c. (all, record { tokens = c.tokens; number = c.number; is = c.is; holds = spelled.present c.holds })))
+    (λ all xs rest q. let (more, same, c) = q in subst
+    (λ (w : List SourceParameter). Closed Parameters terminal.Close w xs) (sym same)
+    (record { tokens = c.tokens; number = c.number; is = c.is; holds = spelled.present c.holds }))
+    (λ xs v. viable_as (Closed ParameterList terminal.Close) (Closed Parameters terminal.Close) xs v
+    (λ all ys c. (
+      all,
+      record {
+        tokens = c.tokens;
+        number = c.number;
+        is = c.is;
+        holds = spelled.present c.holds;
+      },
+    )))
     (λ deep. deep))
 
-function_spelled : (n k a : ℕ) (t : TypeName) (f : List ℕ) {ts : List Numbered} {all : List SourceParameter} {b : Option SourceStmts} {xs bs : List Numbered} → TypeTokens n t ts → Closed Parameters terminal.Close all xs → Body b bs
+function_spelled : (n k a : ℕ) (t : TypeName)
+    (f : List ℕ) {ts : List Numbered} {all : List SourceParameter} {b : Option SourceStmts} {xs bs : List Numbered}
+    → TypeTokens n t ts → Closed Parameters terminal.Close all xs → Body b bs
     → Item (unit.function k t f all b) (ts ++ at k (symbol.Name f) ∷ fixed a terminal.Open ∷ (xs ++ bs))
 function_spelled n k a t f {ts = ts} {all = all} {b = b} {bs = bs} typ c h =
     subst (λ (z : List Numbered). Item (unit.function k t f all b) (ts ++ at k (symbol.Name f) ∷ fixed a terminal.Open ∷ z))
@@ -233,14 +277,20 @@ right_global d n k t f ts i typ =
     (subst (λ (w : List Numbered). Item (unit.global n t all) (ts ++ at k (symbol.Name f) ∷ w)) (append_assoc ys zs (fixed m terminal.Semicolon ∷ [])) (spelled.global n m typ names)))
     (λ all zs rest' names. viable_done DeclaredNames all (at k (symbol.Name f) ∷ (ys ++ zs)) names)
     (λ zs v. viable_under Item ts (at k (symbol.Name f) ∷ (ys ++ zs))
-    (viable_then DeclaredNames (λ x ws. Item x (ts ++ ws)) (at k (symbol.Name f) ∷ (ys ++ zs)) (by_terminal terminal.Semicolon ∷ []) v (λ all ws m names. (unit.global n t all, spelled.global n m typ names))))
+    (viable_then DeclaredNames (λ x ws. Item x (ts ++ ws)) (at k (symbol.Name f) ∷ (ys ++ zs))
+    (by_terminal terminal.Semicolon ∷ []) v
+    (λ all ws m names. (unit.global n t all, spelled.global n m typ names))))
     (λ deep. let lengths = rest_length i ys rest e in elim deep [ inl a ↦ omega arith | inr b ↦ omega arith ]))
     (λ ys v. viable_under Item ts (at k (symbol.Name f) ∷ ys)
-    (viable_then Declared (λ x ws. Item x (ts ++ ws)) (at k (symbol.Name f) ∷ ys) (by_terminal terminal.Semicolon ∷ []) v (λ y ws m h. (unit.global n t (y ∷ []), spelled.global n m typ (grammar.one h)))))
+    (viable_then Declared (λ x ws. Item x (ts ++ ws)) (at k (symbol.Name f) ∷ ys)
+    (by_terminal terminal.Semicolon ∷ []) v
+    (λ y ws m h. (unit.global n t (y ∷ []), spelled.global n m typ (grammar.one h)))))
     (λ deep. omega arith)
 
 module _ (d : ℕ) (entries : Parser SourceStmts)
-    (right_entries : (i : List Numbered) → Right (λ all xs rest. Closed (Entries false) terminal.CloseBrace all xs) (Viable (Closed (Entries false) terminal.CloseBrace)) (d ≤ suc (length i)) i (entries i)) where
+    (right_entries : (i : List Numbered)
+    → Right (λ all xs rest. Closed (Entries false) terminal.CloseBrace all xs)
+    (Viable (Closed (Entries false) terminal.CloseBrace)) (d ≤ suc (length i)) i (entries i)) where
   block_spelled : (n : ℕ) (all : SourceStmts) (xs : List Numbered) → Closed (Entries false) terminal.CloseBrace all xs → Body (Some all) (fixed n terminal.OpenBrace ∷ xs)
   block_spelled n all xs c = subst (λ (z : List Numbered). Body (Some all) (fixed n terminal.OpenBrace ∷ z)) (sym c.is) (spelled.block n c.number c.holds)
 
@@ -257,13 +307,18 @@ module _ (d : ℕ) (entries : Parser SourceStmts)
       (λ j. (by_terminal terminal.Semicolon ∷ [], None, spelled.prototype j)))
 
   right_function : (n k a : ℕ) (t : TypeName) (f : List ℕ) (ts i r : List Numbered) → TypeTokens n t ts → i ≡ fixed a terminal.Open ∷ r
-      → Right (λ y ys rest. Item y (ts ++ at k (symbol.Name f) ∷ ys)) (λ ys. Viable Item (ts ++ at k (symbol.Name f) ∷ ys)) (d ≤ suc (length i)) i (function d entries t (record { token = k; name = f }) i)
+      → Right (λ y ys rest. Item y (ts ++ at k (symbol.Name f) ∷ ys))
+      (λ ys. Viable Item (ts ++ at k (symbol.Name f) ∷ ys)) (d ≤ suc (length i)) i
+      (function d entries t (record { token = k; name = f }) i)
   unfolding function
   right_function n k a t f ts i r typ is =
       after_take (λ a. parameters d >>= λ all. body d entries >>= λ b. pure (unit.function k t f all b)) a (symbol.Fixed terminal.Open) r is
       (then (right_parameters d r)
       (λ all xs rest c e. then (right_body rest)
-      (λ b bs rest' h e'. right_pure (subst (λ (z : List Numbered). Item (unit.function k t f all b) (ts ++ at k (symbol.Name f) ∷ fixed a terminal.Open ∷ (xs ++ z))) (sym (append-nil bs)) (function_spelled n k a t f typ c h)))
+      (λ b bs rest' h e'. right_pure
+      (subst (λ (z : List Numbered). Item (unit.function k t f all b)
+      (ts ++ at k (symbol.Name f) ∷ fixed a terminal.Open ∷ (xs ++ z))) (sym (append-nil bs))
+      (function_spelled n k a t f typ c h)))
       (λ bs v. viable_under Item ts (at k (symbol.Name f) ∷ fixed a terminal.Open ∷ (xs ++ bs))
       (viable_under (λ x ws. Item x (ts ++ at k (symbol.Name f) ∷ fixed a terminal.Open ∷ ws)) xs bs
       (viable_as Body (λ x ws. Item x (ts ++ at k (symbol.Name f) ∷ fixed a terminal.Open ∷ (xs ++ ws))) bs v (λ b ws h. (unit.function k t f all b, function_spelled n k a t f typ c h)))))
@@ -283,7 +338,13 @@ module _ (d : ℕ) (entries : Parser SourceStmts)
       (λ a z is'. right_function n k a t f ts r z typ is')
       (λ other. right_global d n k t f ts r typ))
       (λ y ys rest q. q) (λ ys v. v) (λ deep. let one : length i ≡ suc (length r) = ap length is in omega arith))
-      (viable_under Item ts [] (λ j. (by_name ∷ by_terminal terminal.Semicolon ∷ [], unit.global n t (record { token = j; name = some_name; value = None } ∷ []), spelled.global n (j + 1) typ (grammar.one (grammar.bare j some_name)))))
+      (viable_under Item ts [] (λ j. (
+        by_name ∷ by_terminal terminal.Semicolon ∷ [],
+        unit.global n t
+            (record { token = j; name = some_name; value = None } ∷ []),
+        spelled.global n (j + 1) typ
+            (grammar.one (grammar.bare j some_name)),
+      )))
 
   right_after_struct : (a : ℕ) (i r : List Numbered) → i ≡ fixed a terminal.Struct ∷ r → Right (λ y ys rest. Item y ys) (Viable Item) (d ≤ suc (length i)) i (after_struct d entries i)
   unfolding after_struct
@@ -311,7 +372,13 @@ module _ (d : ℕ) (entries : Parser SourceStmts)
       (λ a r is. right_constant_line a i r (d ≤ suc (length i)) is)
       (λ other'. then_type Item (λ p. after_type d entries p.0 p.1) i
       (λ n t ts rest typ e. right_as (right_after_type n t ts rest typ) (λ y ys end q. q) (λ ys v. v) (λ deep. omega (arith, rest_length i ts rest e)))
-      (λ n t ts typ j. (by_name ∷ by_terminal terminal.Semicolon ∷ [], unit.global n t (record { token = j; name = some_name; value = None } ∷ []), spelled.global n (j + 1) typ (grammar.one (grammar.bare j some_name))))))
+      (λ n t ts typ j. (
+        by_name ∷ by_terminal terminal.Semicolon ∷ [],
+        unit.global n t
+            (record { token = j; name = some_name; value = None } ∷ []),
+        spelled.global n (j + 1) typ
+            (grammar.one (grammar.bare j some_name)),
+      ))))
 
   some_tokens : {x : SourceItem} {xs : List Numbered} → Item x xs → 0 < length xs
   some_tokens (spelled.structure a n b c e f h) = omega arith

@@ -24,7 +24,9 @@ fields_more d t all x i r e brace =
 pub parameters_more : (t n : ℕ) (all : List SourceParameter) (x : SourceParameter) (i j r : List Numbered) → parameter i ≡ Got x j → sees terminal.Comma j ≡ true → take j ≡ Got n r
     → parameters_from (suc t) all i ≡ parameters_from t (all ++ x ∷ []) r
 parameters_more t n all x i j r e comma taken =
-    ap (λ (z : Outcome SourceParameter). and_then z (λ y k. branch (sees terminal.Comma k) (λ k'. and_then (take k') (λ m. parameters_from t (all ++ y ∷ []))) (λ k'. and_then (expect terminal.Close k') (λ m k''. Got (all ++ y ∷ []) k'')) k)) e
+    ap (λ (z : Outcome SourceParameter). and_then z
+    (λ y k. branch (sees terminal.Comma k) (λ k'. and_then (take k') (λ m. parameters_from t (all ++ y ∷ [])))
+    (λ k'. and_then (expect terminal.Close k') (λ m k''. Got (all ++ y ∷ []) k'')) k)) e
     ∙ ap (λ (b : Bool). branch b (λ k'. and_then (take k') (λ m. parameters_from t (all ++ x ∷ []))) (λ k'. and_then (expect terminal.Close k') (λ m k''. Got (all ++ x ∷ []) k'')) j) comma
     ∙ ap (λ (z : Outcome ℕ). and_then z (λ m. parameters_from t (all ++ x ∷ []))) taken
 

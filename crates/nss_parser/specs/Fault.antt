@@ -22,8 +22,10 @@ Misreads tokens NoMemory = Unit {0}
 
 -- A list of tokens is refused for one reason at most, want of memory aside.
 abbrev pub OneRefusal : Type 0
-OneRefusal = (tokens : List Symbol) (one other : ParseFault) → Refuses tokens one → Refuses tokens other → one ≢ NoMemory → other ≢ NoMemory → one ≡ other
+OneRefusal = (tokens : List Symbol) (one other : ParseFault) → Refuses tokens one
+    → Refuses tokens other → one ≢ NoMemory → other ≢ NoMemory → one ≡ other
 
 -- A list of tokens with a tree and within the nest is refused only for want of memory.
 abbrev pub NoRefusalOfTrees : Type 0
-NoRefusalOfTrees = (tokens : List Symbol) (x : SourceTree) (fault : ParseFault) → Parses tokens x → IsWithinNest tokens → Refuses tokens fault → fault ≡ NoMemory
+NoRefusalOfTrees = (tokens : List Symbol) (x : SourceTree) (fault : ParseFault) → Parses tokens x
+    → IsWithinNest tokens → Refuses tokens fault → fault ≡ NoMemory

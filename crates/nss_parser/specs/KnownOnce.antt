@@ -65,7 +65,8 @@ mutual
   stmt_once (stmt.if_else n e a b) = ×_prop (known_once e) (×_prop (stmt_once a) (stmt_once b))
   stmt_once (stmt.while_loop n e a) = ×_prop (known_once e) (stmt_once a)
   stmt_once (stmt.do_loop n a e) = ×_prop (stmt_once a) (known_once e)
-  stmt_once (stmt.for_loop n x y z a) = ×_prop (some_once x) (×_prop (some_once y) (×_prop (some_once z) (stmt_once a)))
+  stmt_once (stmt.for_loop n x y z a) = ×_prop (some_once x)
+      (×_prop (some_once y) (×_prop (some_once z) (stmt_once a)))
   stmt_once (stmt.switch n e xs) = ×_prop (known_once e) (stmts_once xs)
   stmt_once (stmt.break_off n) = unit_once
   stmt_once (stmt.continue_on n) = unit_once

@@ -42,7 +42,8 @@ constant_by (Some symbol.Float) = take >>= λ n. pure (constant.Float n false)
 constant_by (Some (symbol.Text bytes)) = take >>= λ n. pure (constant.Text n bytes)
 constant_by (Some (symbol.Name f)) = take >>= λ n. pure (constant.Name n f)
 constant_by (Some (symbol.Fixed terminal.ObjectSelf)) = take >>= λ n. pure (constant.ObjectSelf n)
-constant_by (Some (symbol.Fixed terminal.ObjectInvalid)) = take >>= λ n. pure (constant.ObjectInvalid n)
+constant_by (Some (symbol.Fixed terminal.ObjectInvalid)) = take >>= λ n. pure
+    (constant.ObjectInvalid n)
 constant_by (Some (symbol.Fixed terminal.Minus)) = take >>= λ k. peek negated_by
 constant_by _ = stuck
 
@@ -56,7 +57,8 @@ identifier = here >>= λ n. name >>= λ f. pure (record { token = n; name = f })
 -- what follows a declared name: its first value, where `=` comes next
 unfoldable pub declared_after : ℕ → Identifier → Parser SourceDeclared
 declared_after d n = choice (is_terminal terminal.Assign)
-    (take >>= λ k. level d 0 >>= λ x. pure (record { token = n.token; name = n.name; value = Some x }))
+    (take >>= λ k. level d 0 >>= λ x. pure
+    (record { token = n.token; name = n.name; value = Some x }))
     (pure (record { token = n.token; name = n.name; value = None }))
 
 unfoldable pub declared : ℕ → Parser SourceDeclared
@@ -65,7 +67,8 @@ declared d = identifier >>= declared_after d
 -- further declared names, each after a comma, in so many turns
 abbrev pub more_declared : ℕ → ℕ → List SourceDeclared → Parser (List SourceDeclared)
 more_declared d zero all = deep
-more_declared d (suc t) all = choice (is_terminal terminal.Comma) (take >>= λ n. declared d >>= λ x. more_declared d t (all ++ x ∷ [])) (pure all)
+more_declared d (suc t) all = choice (is_terminal terminal.Comma)
+    (take >>= λ n. declared d >>= λ x. more_declared d t (all ++ x ∷ [])) (pure all)
 
 unfoldable pub declared_names : ℕ → Parser (List SourceDeclared)
 declared_names d = declared d >>= λ x. more_declared d d (x ∷ [])

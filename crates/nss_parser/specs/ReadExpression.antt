@@ -46,7 +46,8 @@ unfoldable pub suffix : Suffix → PlainExpr → Parser PlainExpr
 suffix Member x = take >>= λ n. member n x
 suffix (Step o) x = take >>= λ n. pure (tree.postfix n o x)
 
-abbrev pub suffixes_by : (PlainExpr → Parser PlainExpr) → PlainExpr → Option Suffix → Parser PlainExpr
+abbrev pub suffixes_by : (PlainExpr → Parser PlainExpr) → PlainExpr → Option Suffix
+    → Parser PlainExpr
 suffixes_by more x (Some k) = suffix k x >>= more
 suffixes_by more x None = pure x
 
@@ -61,19 +62,23 @@ operand level least = take >>= λ n. level least >>= λ x. pure (n, x)
 
 module _ (d : ℕ) (level : ℕ → Parser PlainExpr) where
   abbrev pub after_argument : (PlainExprs → Parser PlainExprs) → PlainExprs → Parser PlainExprs
-  after_argument more all = choice (is_terminal terminal.Comma) (take >>= λ n. more all) (expect terminal.Close >>= λ k. pure all)
+  after_argument more all = choice (is_terminal terminal.Comma) (take >>= λ n. more all)
+      (expect terminal.Close >>= λ k. pure all)
 
   -- arguments up to `)`, after those read before
   abbrev pub arguments_from : ℕ → PlainExprs → Parser PlainExprs
   arguments_from zero before = deep
-  arguments_from (suc t) before = level 0 >>= λ x. after_argument (arguments_from t) (joined_exprs before (tree.more_exprs x tree.no_expr))
+  arguments_from (suc t) before = level 0 >>= λ x. after_argument (arguments_from t)
+      (joined_exprs before (tree.more_exprs x tree.no_expr))
 
   unfoldable pub arguments : Parser PlainExprs
-  arguments = choice (is_terminal terminal.Close) (take >>= λ k. pure tree.no_expr) (arguments_from d tree.no_expr)
+  arguments = choice (is_terminal terminal.Close) (take >>= λ k. pure tree.no_expr)
+      (arguments_from d tree.no_expr)
 
   -- a name, or a call where `(` follows
   unfoldable pub after_name : ℕ → List ℕ → Parser PlainExpr
-  after_name n f = choice (is_terminal terminal.Open) (take >>= λ m. arguments >>= λ all. pure (tree.call n f all)) (pure (tree.name n f))
+  after_name n f = choice (is_terminal terminal.Open)
+      (take >>= λ m. arguments >>= λ all. pure (tree.call n f all)) (pure (tree.name n f))
 
   abbrev pub primary_by : Option Symbol → Parser PlainExpr
   primary_by (Some (symbol.Int v)) = take >>= λ n. pure (tree.int n (cast_signed w32 v))
@@ -81,7 +86,8 @@ module _ (d : ℕ) (level : ℕ → Parser PlainExpr) where
   primary_by (Some (symbol.Text bytes)) = take >>= λ n. pure (tree.text n bytes)
   primary_by (Some (symbol.Name f)) = take >>= λ n. after_name n f
   primary_by (Some (symbol.Fixed terminal.ObjectSelf)) = take >>= λ n. pure (tree.object_self n)
-  primary_by (Some (symbol.Fixed terminal.ObjectInvalid)) = take >>= λ n. pure (tree.object_invalid n)
+  primary_by (Some (symbol.Fixed terminal.ObjectInvalid)) = take >>= λ n. pure
+      (tree.object_invalid n)
   primary_by (Some (symbol.Fixed terminal.Open)) = take >>= λ m. level 0 >>= λ x. expect terminal.Close >>= λ k. pure x
   primary_by _ = stuck
 
@@ -97,11 +103,14 @@ module _ (d : ℕ) (level : ℕ → Parser PlainExpr) where
 
   -- an operator and its right operand, after its left one
   unfoldable pub operation : BinaryOperator → PlainExpr → Parser PlainExpr
-  operation o left = take >>= λ n. level (level_of o + 1) >>= λ right. pure (tree.binary n o left right)
+  operation o left = take >>= λ n. level (level_of o + 1) >>= λ right. pure
+      (tree.binary n o left right)
 
-  abbrev pub climb_by : (PlainExpr → Parser PlainExpr) → ℕ → PlainExpr → Option BinaryOperator → Parser PlainExpr
+  abbrev pub climb_by : (PlainExpr → Parser PlainExpr) → ℕ → PlainExpr → Option BinaryOperator
+      → Parser PlainExpr
   climb_by more least left None = pure left
-  climb_by more least left (Some o) = branch (nat_lt (level_of o) least) (pure left) (operation o left >>= more)
+  climb_by more least left (Some o) = branch (nat_lt (level_of o) least) (pure left)
+      (operation o left >>= more)
 
   -- the operators from a level on, after a left operand, in so many turns
   abbrev pub climb : ℕ → ℕ → PlainExpr → Parser PlainExpr

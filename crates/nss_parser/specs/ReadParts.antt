@@ -14,7 +14,8 @@ use Rattle.nss_parser.specs.ReadStatement.{condition, optional}
 
 -- `else` and its statement, where one comes next
 unfoldable pub else_part : Parser SourceStmt → Parser (Option SourceStmt)
-else_part statement = choice (is_terminal terminal.Else) (take >>= λ c. statement >>= λ t. pure (Some t)) (pure None)
+else_part statement = choice (is_terminal terminal.Else)
+    (take >>= λ c. statement >>= λ t. pure (Some t)) (pure None)
 
 abbrev pub if_of : ℕ → PlainExpr → SourceStmt → Option SourceStmt → SourceStmt
 if_of n x s (Some t) = stmt.if_else n x s t
@@ -36,7 +37,11 @@ unfoldable pub for_part : ℕ → Terminal → Parser (Option PlainExpr)
 for_part d end = optional d end >>= λ x. expect end >>= λ k. pure x
 
 abbrev pub plain_head : ForHead Expr → ForHead PlainExpr
-plain_head h = record { start = option_map plain_expr h.start; condition = option_map plain_expr h.condition; step = option_map plain_expr h.step }
+plain_head h = record {
+  start = option_map plain_expr h.start;
+  condition = option_map plain_expr h.condition;
+  step = option_map plain_expr h.step;
+}
 
 -- the head of a `for`, from its `(` through its `)`
 unfoldable pub for_head : ℕ → Parser (ForHead PlainExpr)

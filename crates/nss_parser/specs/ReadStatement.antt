@@ -34,16 +34,19 @@ optional d end = choice (is_terminal end) (pure None) (level d 0 >>= λ x. pure 
 
 -- names of one type, with their first values
 unfoldable pub declaration : ℕ → Parser SourceStmt
-declaration d = typed >>= λ p. declared_names d >>= λ all. expect terminal.Semicolon >>= λ k. pure (stmt.declaration p.0 p.1 all)
+declaration d = typed >>= λ p. declared_names d >>= λ all. expect terminal.Semicolon >>= λ k. pure
+    (stmt.declaration p.0 p.1 all)
 
 unfoldable pub case_label : Parser SourceStmt
-case_label = take >>= λ n. constant_value >>= λ c. expect terminal.Colon >>= λ k. pure (stmt.case_label n c)
+case_label = take >>= λ n. constant_value >>= λ c. expect terminal.Colon >>= λ k. pure
+    (stmt.case_label n c)
 
 unfoldable pub default_label : Parser SourceStmt
 default_label = take >>= λ n. expect terminal.Colon >>= λ k. pure (stmt.default_label n)
 
 unfoldable pub expression_statement : ℕ → Parser SourceStmt
-expression_statement d = here >>= λ n. level d 0 >>= λ x. expect terminal.Semicolon >>= λ k. pure (stmt.expression n x)
+expression_statement d = here >>= λ n. level d 0 >>= λ x. expect terminal.Semicolon >>= λ k. pure
+    (stmt.expression n x)
 
 unfoldable pub break_statement : Parser SourceStmt
 break_statement = take >>= λ n. expect terminal.Semicolon >>= λ k. pure (stmt.break_off n)
@@ -57,7 +60,8 @@ return_statement d = take >>= λ n. optional d terminal.Semicolon >>= λ x. expe
 module _ (d : ℕ) (statement : Parser SourceStmt) where
   -- a label, or a statement
   unfoldable pub labelled : Parser SourceStmt
-  labelled = choice (is_terminal terminal.Case) case_label (choice (is_terminal terminal.Default) default_label statement)
+  labelled = choice (is_terminal terminal.Case) case_label
+      (choice (is_terminal terminal.Default) default_label statement)
 
   -- what stands in a block, or with labels in the body of a switch
   unfoldable pub entry : Bool → Parser SourceStmt
@@ -67,7 +71,9 @@ module _ (d : ℕ) (statement : Parser SourceStmt) where
   abbrev pub entries_from : Bool → ℕ → SourceStmts → Parser SourceStmts
   entries_from labels zero before = deep
   entries_from labels (suc t) before =
-      choice (is_terminal terminal.CloseBrace) (take >>= λ k. pure before) (entry labels >>= λ s. entries_from labels t (joined_stmts before (stmt.more_stmts s stmt.no_stmt)))
+      choice (is_terminal terminal.CloseBrace) (take >>= λ k. pure before)
+      (entry labels >>= λ s. entries_from labels t
+      (joined_stmts before (stmt.more_stmts s stmt.no_stmt)))
 
   unfoldable pub entries : Bool → Parser SourceStmts
   entries labels = entries_from labels d stmt.no_stmt
@@ -77,13 +83,15 @@ module _ (d : ℕ) (statement : Parser SourceStmt) where
 
   -- an `else` belongs to the `if` before it
   unfoldable pub after_then : ℕ → PlainExpr → SourceStmt → Parser SourceStmt
-  after_then n x s = choice (is_terminal terminal.Else) (take >>= λ c. statement >>= λ t. pure (stmt.if_else n x s t)) (pure (stmt.if_only n x s))
+  after_then n x s = choice (is_terminal terminal.Else)
+      (take >>= λ c. statement >>= λ t. pure (stmt.if_else n x s t)) (pure (stmt.if_only n x s))
 
   unfoldable pub if_statement : Parser SourceStmt
   if_statement = take >>= λ n. condition d >>= λ x. statement >>= λ s. after_then n x s
 
   unfoldable pub while_statement : Parser SourceStmt
-  while_statement = take >>= λ n. condition d >>= λ x. statement >>= λ s. pure (stmt.while_loop n x s)
+  while_statement = take >>= λ n. condition d >>= λ x. statement >>= λ s. pure
+      (stmt.while_loop n x s)
 
   unfoldable pub do_statement : Parser SourceStmt
   do_statement = take >>= λ n. statement >>= λ s. expect terminal.While >>= λ a. condition d >>= λ x. expect terminal.Semicolon >>= λ k. pure (stmt.do_loop n s x)

@@ -17,5 +17,6 @@ unit d = items d (body_rest d)
 -- what reading gives, within any nest, is the tokens' tree
 abbrev pub ReadingGivesTree : Type 0
 ReadingGivesTree =
-    (tokens : List Symbol) (d : ℕ) (x : SourceItems) (rest : List Numbered) → unit d (numbered_from 0 tokens) ≡ Got x rest
+    (tokens : List Symbol) (d : ℕ) (x : SourceItems) (rest : List Numbered)
+    → unit d (numbered_from 0 tokens) ≡ Got x rest
     → Parses tokens (record { items = x; count = length tokens })

@@ -37,4 +37,5 @@ OneTree = (tokens : List Symbol) (x y : SourceTree) → Parses tokens x → Pars
 
 -- it has a tree, or a place
 abbrev pub TreeOrPlace : Type 0
-TreeOrPlace = (tokens : List Symbol) → ((x : SourceTree) × Parses tokens x) ⊎ ((i : ℕ) × IsPlace tokens i)
+TreeOrPlace = (tokens : List Symbol)
+    → ((x : SourceTree) × Parses tokens x) ⊎ ((i : ℕ) × IsPlace tokens i)

@@ -88,7 +88,8 @@ abbrev mutual
   stmt_size (stmt.if_else n e a b) = 1 + (size e + (stmt_size a + stmt_size b))
   stmt_size (stmt.while_loop n e a) = 1 + (size e + stmt_size a)
   stmt_size (stmt.do_loop n a e) = 1 + (stmt_size a + size e)
-  stmt_size (stmt.for_loop n x y z a) = 1 + (some_size x + (some_size y + (some_size z + stmt_size a)))
+  stmt_size (stmt.for_loop n x y z a) = 1 +
+      (some_size x + (some_size y + (some_size z + stmt_size a)))
   stmt_size (stmt.switch n e xs) = 1 + (size e + all_stmt_size xs)
   stmt_size (stmt.break_off n) = 1
   stmt_size (stmt.continue_on n) = 1
@@ -110,7 +111,8 @@ abbrev mutual
   IsKnownStmt (stmt.if_else n e a b) = IsKnown e × (IsKnownStmt a × IsKnownStmt b)
   IsKnownStmt (stmt.while_loop n e a) = IsKnown e × IsKnownStmt a
   IsKnownStmt (stmt.do_loop n a e) = IsKnownStmt a × IsKnown e
-  IsKnownStmt (stmt.for_loop n x y z a) = IsSomeKnown x × (IsSomeKnown y × (IsSomeKnown z × IsKnownStmt a))
+  IsKnownStmt (stmt.for_loop n x y z a) = IsSomeKnown x
+      × (IsSomeKnown y × (IsSomeKnown z × IsKnownStmt a))
   IsKnownStmt (stmt.switch n e xs) = IsKnown e × AreKnownStmts xs
   IsKnownStmt (stmt.break_off n) = Unit {0}
   IsKnownStmt (stmt.continue_on n) = Unit {0}
@@ -170,4 +172,5 @@ pub record IsKnownTree (u : SourceTree) : Type 0 where
 
 -- that of a list of tokens whose literals are within bounds
 abbrev pub EachTreeIsKnown : Type 0
-EachTreeIsKnown = (tokens : List Symbol) (u : SourceTree) → AllByRecursion IsLiteral tokens → Parses tokens u → IsKnownTree u
+EachTreeIsKnown = (tokens : List Symbol) (u : SourceTree) → AllByRecursion IsLiteral tokens
+    → Parses tokens u → IsKnownTree u

@@ -96,7 +96,9 @@ module _ (x : List ℕ) where
       → is_some (find_from g x (map entry_in ss)) ≡ since base (last_from found n x ss)
   found_since g found base n [] le is = is
   found_since g found base n (s ∷ ss) le is =
-      found_since (if bytes_eq x s.entry.called then Some (entry_in s) else g) (if bytes_eq x s.entry.called then Some n else found) base (n + 1) ss (omega (arith, le)) (by (bytes_eq x s.entry.called))
+      found_since (if bytes_eq x s.entry.called then Some (entry_in s) else g)
+      (if bytes_eq x s.entry.called then Some n else found) base (n + 1) ss (omega (arith, le))
+      (by (bytes_eq x s.entry.called))
     where
       by : (b : Bool) → is_some (if b then Some (entry_in s) else g) ≡ since base (if b then Some n else found)
       by true = grind (arith, nat_tests, le)

@@ -6,7 +6,11 @@ use Rattle.typing_rules.specs.Sight.{Labels}
 use Rattle.typing_rules.specs.Rules.{is_among_ints}
 
 abbrev pub labels_of : List ℤ → Bool → Bool → Labels
-labels_of cases has_default is_late = record { cases = cases; has_default = has_default; is_late = is_late }
+labels_of cases has_default is_late = record {
+  cases = cases;
+  has_default = has_default;
+  is_late = is_late;
+}
 
 -- the set has the values of the cases
 abbrev pub HasCases : List ℤ → List ℤ → Type 0

@@ -29,7 +29,11 @@ abbrev pub signature_of : Signature → sight.Signature
 signature_of s = record { params = s.params; result = s.result }
 
 abbrev pub head_of : Head → sight.Head
-head_of h = record { called = h.called; types = option_map signature_of h.types; has_body = h.has_body }
+head_of h = record {
+  called = h.called;
+  types = option_map signature_of h.types;
+  has_body = h.has_body;
+}
 
 -- ---- what is kept of structs and of declarations of functions, with the places of their names
 

@@ -22,7 +22,8 @@ entry_in s = entry_of s.entry
 -- the place of the last of a name, counted from a number on
 abbrev pub last_from : Option ℕ → ℕ → List ℕ → List Slot → Option ℕ
 last_from found n x [] = found
-last_from found n x (s ∷ ss) = last_from (if bytes_eq x s.entry.called then Some n else found) (n + 1) x ss
+last_from found n x (s ∷ ss) = last_from (if bytes_eq x s.entry.called then Some n else found)
+    (n + 1) x ss
 
 abbrev pub last_place : List ℕ → List Slot → Option ℕ
 last_place x ss = last_from None 0 x ss
@@ -30,7 +31,8 @@ last_place x ss = last_from None 0 x ss
 -- each hides the last one of its name before it
 abbrev pub Shadows : List Slot → List Slot → Type 0
 Shadows before [] = Unit {0}
-Shadows before (s ∷ ss) = (s.hidden ≡ last_place s.entry.called before) × Shadows (before ++ s ∷ []) ss
+Shadows before (s ∷ ss) = (s.hidden ≡ last_place s.entry.called before)
+    × Shadows (before ++ s ∷ []) ss
 
 -- the index has the place of the last of each name
 pub record HasLast (slots : List Slot) (index : List (List ℕ × ℕ)) : Type 0 where

@@ -47,7 +47,8 @@ four_read f g (Some a) (Some b) None r = refl
 four_read f g (Some a) (Some b) (Some c) None = refl
 four_read f g (Some a) (Some b) (Some c) (Some d) = refl
 
-pub four_is : {A B C D : Type 0} (f : A → C) (g : B → D) (o p q : Option A) (r : Option B) (x : Option (A × A)) (y : Option (A × B)) (z : Option ((A × A) × (A × B))) → x ≡ two o p → y ≡ two q r → z ≡ two x y
+pub four_is : {A B C D : Type 0} (f : A → C) (g : B → D) (o p q : Option A) (r : Option B) (x : Option (A × A))
+    (y : Option (A × B)) (z : Option ((A × A) × (A × B))) → x ≡ two o p → y ≡ two q r → z ≡ two x y
     → four (option_map f o) (option_map f p) (option_map f q) (option_map g r) ≡ option_map (λ s. (f s.0.0, f s.0.1, f s.1.0, g s.1.1)) z
 four_is f g o p q r x y z left right whole =
     four_read f g o p q r ∙ ap (option_map (λ s. (f s.0.0, f s.0.1, f s.1.0, g s.1.1))) (ap (λ t. two t (two q r)) (sym left) ∙ (ap (two x) (sym right) ∙ sym whole))
@@ -74,7 +75,8 @@ module _ {P A B : Type 0} (f : P → A) (rows : A → Rows) (rule : A → Option
   pub made_value : (o r : Option P) (q : Option A) (x : Option B) → q ≡ option_map f o → r ≡ fine (asked fit_rows (fit_rule fits) o) → x ≡ option_map made r → x ≡ fine (asked rows rule q)
   made_value o r q x read is h = h ∙ (ap (option_map made) is ∙ (sym (made_fine o) ∙ ap (λ p. fine (asked rows rule p)) (sym read)))
 
-  pub made_least : (n : ℕ) (old new : Option Fault) (o : Option P) (q : Option A) → q ≡ option_map f o → new ≡ kept old (at n (asked fit_rows (fit_rule fits) o)) → new ≡ kept old (at n (asked rows rule q))
+  pub made_least : (n : ℕ) (old new : Option Fault) (o : Option P) (q : Option A) → q ≡ option_map f o
+      → new ≡ kept old (at n (asked fit_rows (fit_rule fits) o)) → new ≡ kept old (at n (asked rows rule q))
   made_least n old new o q read is = is ∙ ap (kept old) (sym (made_at n o) ∙ ap (λ p. at n (asked rows rule p)) (sym read))
 
 -- what is made of them may want memory

@@ -17,31 +17,45 @@ use Rattle.nss_tree.specs.Statements.{map_stmt, map_stmts}
 
 -- ---- a statement that is known
 
-pub block_is : (the : Stmt Expr Constant TypeName (List ℕ)) (n : ℕ) (xs ys : List (Stmt Expr Constant TypeName (List ℕ))) → tree_of_stmt the ≡ s.block n (tree_of_stmts xs) → ys ≡ xs → plain_stmt the ≡ s.block n (plain_stmts ys)
+pub block_is : (the : Stmt Expr Constant TypeName (List ℕ)) (n : ℕ)
+    (xs ys : List (Stmt Expr Constant TypeName (List ℕ))) → tree_of_stmt the ≡ s.block n (tree_of_stmts xs) → ys ≡ xs
+    → plain_stmt the ≡ s.block n (plain_stmts ys)
 block_is the n xs ys is same = ap (map_stmt plain_expr) is ∙ ap (λ zs. s.block n (plain_stmts zs)) (sym same)
 
-pub if_only_is : (the : Stmt Expr Constant TypeName (List ℕ)) (n : ℕ) (e : Expr) (a y : Stmt Expr Constant TypeName (List ℕ)) → tree_of_stmt the ≡ s.if_only n e (tree_of_stmt a) → y ≡ a → plain_stmt the ≡ s.if_only n (plain_expr e) (plain_stmt y)
+pub if_only_is : (the : Stmt Expr Constant TypeName (List ℕ)) (n : ℕ) (e : Expr)
+    (a y : Stmt Expr Constant TypeName (List ℕ)) → tree_of_stmt the ≡ s.if_only n e (tree_of_stmt a) → y ≡ a
+    → plain_stmt the ≡ s.if_only n (plain_expr e) (plain_stmt y)
 if_only_is the n e a y is same = ap (map_stmt plain_expr) is ∙ ap (λ z. s.if_only n (plain_expr e) (plain_stmt z)) (sym same)
 
-pub if_else_is : (the : Stmt Expr Constant TypeName (List ℕ)) (n : ℕ) (e : Expr) (a b y z : Stmt Expr Constant TypeName (List ℕ)) → tree_of_stmt the ≡ s.if_else n e (tree_of_stmt a) (tree_of_stmt b) → y ≡ a → z ≡ b
+pub if_else_is : (the : Stmt Expr Constant TypeName (List ℕ)) (n : ℕ) (e : Expr)
+    (a b y z : Stmt Expr Constant TypeName (List ℕ))
+    → tree_of_stmt the ≡ s.if_else n e (tree_of_stmt a) (tree_of_stmt b) → y ≡ a → z ≡ b
     → plain_stmt the ≡ s.if_else n (plain_expr e) (plain_stmt y) (plain_stmt z)
 if_else_is the n e a b y z is first second =
     ap (map_stmt plain_expr) is ∙ (ap (λ w. s.if_else n (plain_expr e) (plain_stmt w) (plain_stmt b)) (sym first) ∙ ap (λ w. s.if_else n (plain_expr e) (plain_stmt y) (plain_stmt w)) (sym second))
 
-pub while_is : (the : Stmt Expr Constant TypeName (List ℕ)) (n : ℕ) (e : Expr) (a y : Stmt Expr Constant TypeName (List ℕ)) → tree_of_stmt the ≡ s.while_loop n e (tree_of_stmt a) → y ≡ a → plain_stmt the ≡ s.while_loop n (plain_expr e) (plain_stmt y)
+pub while_is : (the : Stmt Expr Constant TypeName (List ℕ)) (n : ℕ) (e : Expr)
+    (a y : Stmt Expr Constant TypeName (List ℕ)) → tree_of_stmt the ≡ s.while_loop n e (tree_of_stmt a) → y ≡ a
+    → plain_stmt the ≡ s.while_loop n (plain_expr e) (plain_stmt y)
 while_is the n e a y is same = ap (map_stmt plain_expr) is ∙ ap (λ z. s.while_loop n (plain_expr e) (plain_stmt z)) (sym same)
 
-pub do_is : (the : Stmt Expr Constant TypeName (List ℕ)) (n : ℕ) (e : Expr) (a y : Stmt Expr Constant TypeName (List ℕ)) → tree_of_stmt the ≡ s.do_loop n (tree_of_stmt a) e → y ≡ a → plain_stmt the ≡ s.do_loop n (plain_stmt y) (plain_expr e)
+pub do_is : (the : Stmt Expr Constant TypeName (List ℕ)) (n : ℕ) (e : Expr) (a y : Stmt Expr Constant TypeName (List ℕ))
+    → tree_of_stmt the ≡ s.do_loop n (tree_of_stmt a) e → y ≡ a
+    → plain_stmt the ≡ s.do_loop n (plain_stmt y) (plain_expr e)
 do_is the n e a y is same = ap (map_stmt plain_expr) is ∙ ap (λ z. s.do_loop n (plain_stmt z) (plain_expr e)) (sym same)
 
 pub for_is : (the : Stmt Expr Constant TypeName (List ℕ)) (n : ℕ) (x y z : Option Expr) (a w : Stmt Expr Constant TypeName (List ℕ)) → tree_of_stmt the ≡ s.for_loop n x y z (tree_of_stmt a) → w ≡ a
     → plain_stmt the ≡ s.for_loop n (option_map plain_expr x) (option_map plain_expr y) (option_map plain_expr z) (plain_stmt w)
 for_is the n x y z a w is same = ap (map_stmt plain_expr) is ∙ ap (λ v. s.for_loop n (option_map plain_expr x) (option_map plain_expr y) (option_map plain_expr z) (plain_stmt v)) (sym same)
 
-pub switch_is : (the : Stmt Expr Constant TypeName (List ℕ)) (n : ℕ) (e : Expr) (xs ys : List (Stmt Expr Constant TypeName (List ℕ))) → tree_of_stmt the ≡ s.switch n e (tree_of_stmts xs) → ys ≡ xs → plain_stmt the ≡ s.switch n (plain_expr e) (plain_stmts ys)
+pub switch_is : (the : Stmt Expr Constant TypeName (List ℕ)) (n : ℕ) (e : Expr)
+    (xs ys : List (Stmt Expr Constant TypeName (List ℕ))) → tree_of_stmt the ≡ s.switch n e (tree_of_stmts xs) → ys ≡ xs
+    → plain_stmt the ≡ s.switch n (plain_expr e) (plain_stmts ys)
 switch_is the n e xs ys is same = ap (map_stmt plain_expr) is ∙ ap (λ zs. s.switch n (plain_expr e) (plain_stmts zs)) (sym same)
 
-pub declaration_is : (the : Stmt Expr Constant TypeName (List ℕ)) (n : ℕ) (t : TypeName) (xs ys : List (DeclaredName Expr (List ℕ))) → tree_of_stmt the ≡ s.declaration n t xs → ys ≡ xs → plain_stmt the ≡ s.declaration n t (plain_names ys)
+pub declaration_is : (the : Stmt Expr Constant TypeName (List ℕ)) (n : ℕ) (t : TypeName)
+    (xs ys : List (DeclaredName Expr (List ℕ))) → tree_of_stmt the ≡ s.declaration n t xs → ys ≡ xs
+    → plain_stmt the ≡ s.declaration n t (plain_names ys)
 declaration_is the n t xs ys is same = ap (map_stmt plain_expr) is ∙ ap (λ zs. s.declaration n t (plain_names zs)) (sym same)
 
 -- ---- how large a statement is, so that the walk ends

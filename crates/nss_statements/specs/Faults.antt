@@ -18,7 +18,8 @@ by_fault None a = Fine a
 by_fault (Some k) a = Wrong k
 
 -- it is that of the rule, whatever is typed
-pub ruled_when : {A : Type 0} (fits : Bool) (k : FaultKind) (a : A) → ruled k (when fits a) ≡ by_fault (fault_unless fits k) a
+pub ruled_when : {A : Type 0} (fits : Bool) (k : FaultKind) (a : A)
+    → ruled k (when fits a) ≡ by_fault (fault_unless fits k) a
 ruled_when true k a = refl
 ruled_when false k a = refl
 

@@ -94,13 +94,16 @@ passes tokens i before terminal after s t so h after-is t-is over =
       before = so.under;
     }
 
-pub all_within : (tokens : List Symbol) (i : ℕ) (before terminal : Option Terminal) (s : State) → SoFar (map terminal_in tokens) i before terminal s → length (map terminal_in tokens) ≤ i → IsWithinNest tokens
+pub all_within : (tokens : List Symbol) (i : ℕ) (before terminal : Option Terminal) (s : State)
+    → SoFar (map terminal_in tokens) i before terminal s → length (map terminal_in tokens) ≤ i → IsWithinNest tokens
 unfolding nests
 all_within tokens i before terminal s so past k = elim (cases_lt k i) [ inl h ↦ so.under k h | inr h ↦ beyond h ]
   where
     beyond : i ≤ k → get_or (all (map terminal_in tokens)) k 0 ≤ 256
     beyond h =
-        let long : length (all (map terminal_in tokens)) ≤ k = subst (λ n. n ≤ k) (sym (nests_length None start (map terminal_in tokens))) (let e : length (map terminal_in tokens) ≤ k = omega arith in e)
+        let long : length (all (map terminal_in tokens)) ≤ k = subst (λ n. n ≤ k)
+        (sym (nests_length None start (map terminal_in tokens)))
+        (let e : length (map terminal_in tokens) ≤ k = omega arith in e)
         in subst (λ n. n ≤ 256) (sym (get_or_past (all (map terminal_in tokens)) k 0 long)) (let z : 0 ≤ 256 = omega arith in z)
 
 terminals_length : (xs : List Seen) → length (map terminal_in (map plain_symbol xs)) ≡ length xs

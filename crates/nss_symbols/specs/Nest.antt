@@ -109,7 +109,10 @@ is_some_and p None = false
 
 -- an opening bracket appends the number 1
 abbrev pub opened : Terminal → State → State
-opened m s = if is_opening m then record { last = record { number = 1; dos = 0 }; below = s.last ∷ s.below } else s
+opened m s = if is_opening m then record {
+  last = record { number = 1; dos = 0 };
+  below = s.last ∷ s.below;
+} else s
 
 abbrev pub without_last : Level → List Level → State
 without_last last [] = record { last = last; below = [] }
@@ -124,15 +127,19 @@ with_last s l = record { last = l; below = s.below }
 
 -- a head adds 1 to the last number
 abbrev pub headed : Terminal → State → State
-headed m s = if is_head m then with_last s (record { number = s.last.number + 1; dos = s.last.dos }) else s
+headed m s = if is_head m then with_last s
+    (record { number = s.last.number + 1; dos = s.last.dos }) else s
 
 -- a `do` also raises the count of the last number by 1
 abbrev pub do_counted : Terminal → State → State
-do_counted m s = if is_do m then with_last s (record { number = s.last.number; dos = s.last.dos + 1 }) else s
+do_counted m s = if is_do m then with_last s
+    (record { number = s.last.number; dos = s.last.dos + 1 }) else s
 
 -- a `while` directly after `}` or `;` lowers the count of the last number by 1 where it isn't 0
 abbrev pub uncounted : Option Terminal → Terminal → State → State
-uncounted before m s = if is_while m && is_some_and is_end before then with_last s (record { number = s.last.number; dos = s.last.dos - 1 }) else s
+uncounted before m s = if is_while m
+    && is_some_and is_end before then with_last s
+    (record { number = s.last.number; dos = s.last.dos - 1 }) else s
 
 abbrev pub reset_number : List Level → ℕ
 reset_number [] = 0
@@ -145,14 +152,16 @@ is_positive n = not (n == 0)
 -- to 0; but not before `else`, and not before `while` where the count is above 0.
 abbrev pub reset : Terminal → Option Terminal → State → State
 reset m after s =
-    if is_end m && not (is_some_and is_else after) && not (is_some_and is_while after && is_positive s.last.dos)
+    if is_end m && not (is_some_and is_else after)
+    && not (is_some_and is_while after && is_positive s.last.dos)
     then with_last s (record { number = reset_number s.below; dos = 0 })
     else s
 
 -- what a token makes of the numbers, by the one before it and the one after it
 abbrev pub changed : Option Terminal → Option Terminal → Option Terminal → State → State
 changed before None after s = s
-changed before (Some m) after s = reset m after (uncounted before m (do_counted m (headed m (closed m (opened m s)))))
+changed before (Some m) after s = reset m after
+    (uncounted before m (do_counted m (headed m (closed m (opened m s)))))
 
 -- the sum of the numbers
 abbrev pub total : State → ℕ

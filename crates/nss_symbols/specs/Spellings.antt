@@ -87,10 +87,20 @@ each_is_read terminal.Question = refl
 each_is_read terminal.Hash = refl
 
 by_word : (t : Terminal) → IsTrue (is_word (spelling t)) → IsSpelled (Fixed t)
-by_word t h = record { kind = kind.Word; text = spelling t; lexeme = (h, tt); seen = ap of_terminal (each_is_read t) }
+by_word t h = record {
+  kind = kind.Word;
+  text = spelling t;
+  lexeme = (h, tt);
+  seen = ap of_terminal (each_is_read t);
+}
 
 by_sign : (t : Terminal) → IsTrue (is_sign (spelling t)) → IsSpelled (Fixed t)
-by_sign t h = record { kind = kind.Sign; text = spelling t; lexeme = (h, tt); seen = ap of_terminal (each_is_read t) }
+by_sign t h = record {
+  kind = kind.Sign;
+  text = spelling t;
+  lexeme = (h, tt);
+  seen = ap of_terminal (each_is_read t);
+}
 
 pub each_is_spelled : (t : Terminal) → IsSpelled (Fixed t)
 unfolding is_word is_sign spelling

@@ -118,7 +118,9 @@ IsWrittenSo = (text : List ℕ) (t : Terminal) → terminal_of text ≡ Some t �
 
 -- Each word and each sign of the lexer is a terminal.
 abbrev pub EachWordIsTerminal : Type 0
-EachWordIsTerminal = (text : List ℕ) → IsTrue (is_word text) → (t : Terminal) × (terminal_of text ≡ Some t)
+EachWordIsTerminal = (text : List ℕ) → IsTrue (is_word text)
+    → (t : Terminal) × (terminal_of text ≡ Some t)
 
 abbrev pub EachSignIsTerminal : Type 0
-EachSignIsTerminal = (text : List ℕ) → IsTrue (is_sign text) → (t : Terminal) × (terminal_of text ≡ Some t)
+EachSignIsTerminal = (text : List ℕ) → IsTrue (is_sign text)
+    → (t : Terminal) × (terminal_of text ≡ Some t)

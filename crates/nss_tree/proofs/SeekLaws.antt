@@ -70,7 +70,9 @@ pub assign_sought : (the : Expr) (n : ℕ) (o : AssignOperator) (x y : Box Expr 
     → b ≡ sought (places_expr (plain_expr x.value)) a → c ≡ sought (places_expr (plain_expr y.value)) b → c ≡ sought (places_expr (plain_expr the)) s
 assign_sought the n o x y s a b c is = two _ _ _ n s a b c (ap places_expr (plain_assign the n o x y is))
 
-pub if_else_sought : (the : Stmt Expr Constant TypeName (List ℕ)) (n : ℕ) (x : Expr) (y z : Box (Stmt Expr Constant TypeName (List ℕ)) Global) (s a b c d : Seek) → the ≡ stmt.IfElse n x y z → a ≡ passed n s
+pub if_else_sought : (the : Stmt Expr Constant TypeName (List ℕ)) (n : ℕ) (x : Expr)
+    (y z : Box (Stmt Expr Constant TypeName (List ℕ)) Global) (s a b c d : Seek) → the ≡ stmt.IfElse n x y z
+    → a ≡ passed n s
     → b ≡ sought (places_expr (plain_expr x)) a → c ≡ sought (places_stmt (plain_stmt y.value)) b → d ≡ sought (places_stmt (plain_stmt z.value)) c → d ≡ sought (places_stmt (plain_stmt the)) s
 if_else_sought the n x y z s a b c d is = three _ _ _ _ n s a b c d (ap (λ s. places_stmt (map_stmt plain_expr s)) (tree_if_else the n x y z is))
 
@@ -86,7 +88,9 @@ pub do_sought : (the : Stmt Expr Constant TypeName (List ℕ)) (n : ℕ) (y : Bo
     → b ≡ sought (places_stmt (plain_stmt y.value)) a → c ≡ sought (places_expr (plain_expr x)) b → c ≡ sought (places_stmt (plain_stmt the)) s
 do_sought the n y x s a b c is = two _ _ _ n s a b c (ap (λ s. places_stmt (map_stmt plain_expr s)) (tree_do_loop the n y x is))
 
-pub for_sought : (the : Stmt Expr Constant TypeName (List ℕ)) (n : ℕ) (x y z : Option Expr) (body : Box (Stmt Expr Constant TypeName (List ℕ)) Global) (s a b c d e : Seek) → the ≡ stmt.For n x y z body → a ≡ passed n s
+pub for_sought : (the : Stmt Expr Constant TypeName (List ℕ)) (n : ℕ) (x y z : Option Expr)
+    (body : Box (Stmt Expr Constant TypeName (List ℕ)) Global) (s a b c d e : Seek) → the ≡ stmt.For n x y z body
+    → a ≡ passed n s
     → b ≡ sought (places_if places_expr (option_map plain_expr x)) a → c ≡ sought (places_if places_expr (option_map plain_expr y)) b
     → d ≡ sought (places_if places_expr (option_map plain_expr z)) c → e ≡ sought (places_stmt (plain_stmt body.value)) d
     → e ≡ sought (places_stmt (plain_stmt the)) s

@@ -68,7 +68,9 @@ abbrev mutual
   places_stmt (if_else n x a b) = n ∷ (places_expr x ++ (places_stmt a ++ places_stmt b))
   places_stmt (while_loop n x a) = n ∷ (places_expr x ++ places_stmt a)
   places_stmt (do_loop n a x) = n ∷ (places_stmt a ++ places_expr x)
-  places_stmt (for_loop n x y z a) = n ∷ (places_if places_expr x ++ (places_if places_expr y ++ (places_if places_expr z ++ places_stmt a)))
+  places_stmt (for_loop n x y z a) = n ∷
+      (places_if places_expr x ++
+      (places_if places_expr y ++ (places_if places_expr z ++ places_stmt a)))
   places_stmt (switch n x xs) = n ∷ (places_expr x ++ places_stmts xs)
   places_stmt (break_off n) = n ∷ []
   places_stmt (continue_on n) = n ∷ []
@@ -95,7 +97,8 @@ abbrev pub places_item : SourceItem → List ℕ
 places_item (structure n f lines) = n ∷ places_each places_line lines
 places_item (constant n t x c) = n ∷ (x.token ∷ of_constant c)
 places_item (global n t ds) = n ∷ places_each places_declared ds
-places_item (function n t f ps body) = n ∷ (places_each places_parameter ps ++ places_if places_stmts body)
+places_item (function n t f ps body) = n ∷
+    (places_each places_parameter ps ++ places_if places_stmts body)
 
 unfoldable pub places : SourceTree → List ℕ
 places t = places_each places_item t.items

@@ -30,7 +30,8 @@ mutual
     more_stmts : PlainStmt E C T N → PlainStmts E C T N → PlainStmts E C T N
 
 -- one list after another
-abbrev pub joined_stmts : {E C T N : Type 0} → PlainStmts E C T N → PlainStmts E C T N → PlainStmts E C T N
+abbrev pub joined_stmts : {E C T N : Type 0} → PlainStmts E C T N → PlainStmts E C T N
+    → PlainStmts E C T N
 joined_stmts no_stmt ys = ys
 joined_stmts (more_stmts x xs) ys = more_stmts x (joined_stmts xs ys)
 
@@ -47,7 +48,8 @@ abbrev mutual
   map_stmt f (if_else n x a b) = if_else n (f x) (map_stmt f a) (map_stmt f b)
   map_stmt f (while_loop n x a) = while_loop n (f x) (map_stmt f a)
   map_stmt f (do_loop n a x) = do_loop n (map_stmt f a) (f x)
-  map_stmt f (for_loop n x y z a) = for_loop n (option_map f x) (option_map f y) (option_map f z) (map_stmt f a)
+  map_stmt f (for_loop n x y z a) = for_loop n (option_map f x) (option_map f y) (option_map f z)
+      (map_stmt f a)
   map_stmt f (switch n x xs) = switch n (f x) (map_stmts f xs)
   map_stmt f (break_off n) = break_off n
   map_stmt f (continue_on n) = continue_on n

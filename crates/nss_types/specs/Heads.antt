@@ -12,7 +12,10 @@ typed_head h = record { params = h.params; result = h.result }
 
 -- the head of a function, where it is known whether its name is another thing's and whether it has
 -- a second body
-abbrev pub head_rule_by : Bool → Bool → List TypedParameter × Meant × Option Signature → Option rules.TypedHead
+abbrev pub head_rule_by : Bool → Bool → List TypedParameter × Meant × Option Signature
+    → Option rules.TypedHead
 head_rule_by is_taken is_second p = option_and_then
-    (λ t. when (not is_taken && (agrees p.2 (signature_of (record { params = p.0; result = t })) && not is_second)) (record { params = p.0; result = t }))
+    (λ t. when (not is_taken &&
+    (agrees p.2 (signature_of (record { params = p.0; result = t })) && not is_second))
+    (record { params = p.0; result = t }))
     (any_type p.1)

@@ -26,8 +26,15 @@ abbrev pub memory_code : Coded Memory
 memory_code =
     code_by (Held × (List ℕ × (ℕ × (ℕ × (ℕ × (ℕ × ℕ))))))
     (coded× (contents.code (coded_list coded_ℕ) (coded_list coded_ℕ))
-    (coded× (coded_list coded_ℕ) (coded× coded_ℕ (coded× coded_ℕ (coded× coded_ℕ (coded× coded_ℕ coded_ℕ))))))
-    (λ m. (m.contents, (m.failing, (m.calls, (m.reads, (m.counts.faults, (m.counts.absences, m.counts.longs)))))))
+    (coded× (coded_list coded_ℕ)
+    (coded× coded_ℕ (coded× coded_ℕ (coded× coded_ℕ (coded× coded_ℕ coded_ℕ))))))
+    (λ m. (
+      m.contents,
+      (
+        m.failing,
+        (m.calls, (m.reads, (m.counts.faults, (m.counts.absences, m.counts.longs)))),
+      ),
+    ))
     (λ p. record {
       contents = p.0;
       failing = p.1.0;
@@ -49,14 +56,29 @@ counted m false = record m { calls = next m.calls }
 -- files after a read with this answer
 abbrev pub after_read : Memory → Read → Memory
 after_read m (Bytes bytes) = record m { calls = next m.calls; reads = next m.reads }
-after_read m Missing = record m { calls = next m.calls; reads = next m.reads; counts = with_next Absences m.counts }
-after_read m Failed = record m { calls = next m.calls; reads = next m.reads; counts = with_next Faults m.counts }
-after_read m Long = record m { calls = next m.calls; reads = next m.reads; counts = with_next Longs m.counts }
+after_read m Missing = record m {
+  calls = next m.calls;
+  reads = next m.reads;
+  counts = with_next Absences m.counts;
+}
+after_read m Failed = record m {
+  calls = next m.calls;
+  reads = next m.reads;
+  counts = with_next Faults m.counts;
+}
+after_read m Long = record m {
+  calls = next m.calls;
+  reads = next m.reads;
+  counts = with_next Longs m.counts;
+}
 after_read m NoMemory = record m { calls = next m.calls; reads = next m.reads }
 
 -- files after a write of these bytes with this answer
 abbrev pub after_write : Memory → List ℕ → List ℕ → Done → Memory
-after_write m name bytes done.Ok = record m { calls = next m.calls; contents = contents.insert m.contents name bytes }
+after_write m name bytes done.Ok = record m {
+  calls = next m.calls;
+  contents = contents.insert m.contents name bytes;
+}
 after_write m name bytes done.Failed = counted m true
 after_write m name bytes done.NoMemory = counted m false
 

@@ -49,9 +49,21 @@ no_counts = record { faults = 0; absences = 0; longs = 0 }
 
 -- the counts of files where this one rose by one
 abbrev pub with_next : CountOf → FileCounts → FileCounts
-with_next Faults counts = record { faults = next counts.faults; absences = counts.absences; longs = counts.longs }
-with_next Absences counts = record { faults = counts.faults; absences = next counts.absences; longs = counts.longs }
-with_next Longs counts = record { faults = counts.faults; absences = counts.absences; longs = next counts.longs }
+with_next Faults counts = record {
+  faults = next counts.faults;
+  absences = counts.absences;
+  longs = counts.longs;
+}
+with_next Absences counts = record {
+  faults = counts.faults;
+  absences = next counts.absences;
+  longs = counts.longs;
+}
+with_next Longs counts = record {
+  faults = counts.faults;
+  absences = counts.absences;
+  longs = next counts.longs;
+}
 
 -- no count of files rose
 abbrev pub NoneRose : FileCounts → FileCounts → Type 0
@@ -114,7 +126,8 @@ pub record IsApart (c : Contents) (name other : List ℕ) : Type 0 where
 -- every name that leads to another place than this one has what it had
 pub record KeepsOthers (name : List ℕ) (before after : Contents) : Type 0 where
   pub ways : SameWays before after
-  pub others : (other : List ℕ) → IsApart before name other → content after other ≡ content before other
+  pub others : (other : List ℕ) → IsApart before name other
+      → content after other ≡ content before other
 
 -- what a write leaves: the bytes under the name, or under it something that is not told
 abbrev pub Leaves : Contents → Contents → List ℕ → List ℕ → Done → Type 0

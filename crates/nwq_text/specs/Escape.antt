@@ -42,13 +42,15 @@ pub record IsTextual (bytes : List ℕ) : Type 0 where
 -- escaped text of none
 abbrev pub ReadsText : List ℕ → Option (List ℕ) → Type 0
 ReadsText text read =
-    MatchOption read ((bytes : List ℕ) → IsTextual bytes → text ≢ escaped bytes) (λ bytes. IsTextual bytes × (text ≡ escaped bytes))
+    MatchOption read ((bytes : List ℕ) → IsTextual bytes → text ≢ escaped bytes)
+    (λ bytes. IsTextual bytes × (text ≡ escaped bytes))
 
 -- what is read is the bytes, however many, whose quoted text this is, and nothing exactly where
 -- this is the quoted text of none
 abbrev pub ReadsQuoted : List ℕ → Option (List ℕ) → Type 0
 ReadsQuoted text read =
-    MatchOption read ((bytes : List ℕ) → AreBytes bytes → text ≢ quoted bytes) (λ bytes. AreBytes bytes × (text ≡ quoted bytes))
+    MatchOption read ((bytes : List ℕ) → AreBytes bytes → text ≢ quoted bytes)
+    (λ bytes. AreBytes bytes × (text ≡ quoted bytes))
 
 -- each list of bytes has an escaped text of its own
 abbrev pub EscapesApart : Type 0

@@ -8,4 +8,5 @@ is_script_byte b = nat_le 97 b && nat_le b 122 || nat_le 48 b && nat_le b 57 || 
 
 -- 1 to 16 bytes of these
 unfoldable pub is_script_name : List ℕ → Bool
-is_script_name name = nat_lt 0 (length name) && nat_le (length name) 16 && list_all is_script_byte name
+is_script_name name = nat_lt 0 (length name) && nat_le (length name) 16
+    && list_all is_script_byte name

@@ -5,7 +5,8 @@ use Rattle.nwq_text.specs.Escape.{is_plain, spelling, AreBytes}
 
 -- the number of a hexadecimal digit in lower case
 abbrev pub hex_value : ℕ → Option ℕ
-hex_value c = if nat_le 48 c && nat_le c 57 then Some (c - 48) else if nat_le 97 c && nat_le c 102 then Some (c - 87) else None
+hex_value c = if nat_le 48 c && nat_le c 57 then Some (c - 48) else if nat_le 97 c
+    && nat_le c 102 then Some (c - 87) else None
 
 -- a byte that has no shorter spelling than its hexadecimal digits
 abbrev pub is_spelled_in_hex : Bool → ℕ → Bool
@@ -28,7 +29,8 @@ after_x q (high ∷ low ∷ rest) = hex_pair q (hex_value high) (hex_value low) 
 abbrev pub after_backslash : Bool → List ℕ → Option (ℕ × List ℕ)
 after_backslash q [] = None
 after_backslash q (c ∷ rest) =
-    if c == 92 then Some (92, rest) else if c == 110 then Some (10, rest) else if c == 120 then after_x q rest else None
+    if c == 92 then Some (92, rest) else if c == 110 then Some
+    (10, rest) else if c == 120 then after_x q rest else None
 
 -- the byte that is spelled at the front of a text, in quotes or without, and what follows it
 unfoldable pub front_spelled : Bool → List ℕ → Option (ℕ × List ℕ)
@@ -39,8 +41,10 @@ front_spelled q (c ∷ rest) =
 -- the bytes whose spellings in a row the text is, and nothing exactly where it is that of none
 abbrev pub Unescapes : Bool → List ℕ → Option (List ℕ) → Type 0
 Unescapes q text read =
-    MatchOption read ((bytes : List ℕ) → AreBytes bytes → text ≢ flat_map (spelling q) bytes) (λ bytes. AreBytes bytes × (text ≡ flat_map (spelling q) bytes))
+    MatchOption read ((bytes : List ℕ) → AreBytes bytes → text ≢ flat_map (spelling q) bytes)
+    (λ bytes. AreBytes bytes × (text ≡ flat_map (spelling q) bytes))
 
 -- the text is all of the bytes, where it may have so many, and else there is none
 abbrev pub KeepsAll : List ℕ → Option (List ℕ) → Type 0
-KeepsAll bytes read = MatchOption read (text_limit < length bytes) (λ text. (length bytes ≤ text_limit) × (text ≡ bytes))
+KeepsAll bytes read = MatchOption read (text_limit < length bytes)
+    (λ text. (length bytes ≤ text_limit) × (text ≡ bytes))

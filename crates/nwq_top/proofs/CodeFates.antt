@@ -40,7 +40,8 @@ module _ (sizes : SizeLaws) where
   shorter bytes s n fits =
       omega (arith, fits, ap length s.is, length-append (spelling s.op) s.rest, sizes.op s.op, sizes.some s.op)
 
-  rest_by : (n : ℕ) (b : ℕ) (bytes : List ℕ) → Bytes (b ∷ bytes) → length (b ∷ bytes) < suc n → ((s : Spelled (b ∷ bytes)) → Row s.rest) → (o : Option CodeFault) → fault_of (b ∷ bytes) ≡ o → Row (b ∷ bytes)
+  rest_by : (n : ℕ) (b : ℕ) (bytes : List ℕ) → Bytes (b ∷ bytes) → length (b ∷ bytes) < suc n
+      → ((s : Spelled (b ∷ bytes)) → Row s.rest) → (o : Option CodeFault) → fault_of (b ∷ bytes) ≡ o → Row (b ∷ bytes)
   rest_by n b bytes held fits next (Some fault) e = stops [] (b ∷ bytes) fault tt refl (λ same. absurd cc) e
   rest_by n b bytes held fits next None e = let s = begins_spelled (b ∷ bytes) held e in one_more (b ∷ bytes) s (next s)
 

@@ -314,11 +314,17 @@ unfolding has_type args_size
 all_rows =
     let bare : (op : PlainOp) (code own : ℕ) → spelling op ≡ code ∷ own ∷ [] → IsOp op → (kind : ℕ) (args : List ℕ) → IsTrue (kind == own) → Spelled (code ∷ kind ∷ args) =
     λ op code own is is_op kind args same. bare_row op code own is is_op kind args (eqb-true kind own same) in (
-      λ _ kind args small bytes type long. copied_row CpDownSp 0x01 0x01 (λ n size. refl) (λ n size fits few. record { row = record { kind = refl; sizes = tt }; fits = (fits, few) }) kind args bytes (eqb-true kind 0x01 type) long,
+      λ _ kind args small bytes type long. copied_row CpDownSp 0x01 0x01 (λ n size. refl)
+          (λ n size fits few. record { row = record { kind = refl; sizes = tt }; fits = (fits, few) }) kind args bytes
+          (eqb-true kind 0x01 type) long,
       (
         λ _ kind args small bytes type long. typed_row RsAdd 0x02 (λ k. refl) kind args (record { row = record { kind = type; sizes = tt }; fits = small }),
         (
-          λ _ kind args small bytes type long. copied_row CpTopSp 0x03 0x01 (λ n size. refl) (λ n size fits few. record { row = record { kind = refl; sizes = tt }; fits = (fits, few) }) kind args bytes (eqb-true kind 0x01 type) long,
+          λ _ kind args small bytes type long. copied_row CpTopSp 0x03 0x01 (λ n size. refl)
+              (λ n size fits few. record {
+                row = record { kind = refl; sizes = tt };
+                fits = (fits, few);
+              }) kind args bytes (eqb-true kind 0x01 type) long,
           (
             λ _. literal_row,
             (
@@ -334,9 +340,17 @@ all_rows =
                       (
                         λ _ kind args small bytes type long. bare BoolAnd 0x0A 0x20 refl (record { row = record { kind = refl; sizes = tt }; fits = tt }) kind args type,
                         (
-                          λ _ kind args small bytes type long. sized_row Equal 0x0B (λ k size. refl) (λ k size byte t without few. record { row = record { kind = t; sizes = without }; fits = (byte, few) }) kind args small bytes type (kind == 0x24) refl long,
+                          λ _ kind args small bytes type long. sized_row Equal 0x0B (λ k size. refl)
+                              (λ k size byte t without few. record {
+                                row = record { kind = t; sizes = without };
+                                fits = (byte, few);
+                              }) kind args small bytes type (kind == 0x24) refl long,
                           (
-                            λ _ kind args small bytes type long. sized_row Nequal 0x0C (λ k size. refl) (λ k size byte t without few. record { row = record { kind = t; sizes = without }; fits = (byte, few) }) kind args small bytes type (kind == 0x24) refl long,
+                            λ _ kind args small bytes type long. sized_row Nequal 0x0C (λ k size. refl)
+                                (λ k size byte t without few. record {
+                                  row = record { kind = t; sizes = without };
+                                  fits = (byte, few);
+                                }) kind args small bytes type (kind == 0x24) refl long,
                             (
                               λ _ kind args small bytes type long. typed_row Geq 0x0D (λ k. refl) kind args (record { row = record { kind = type; sizes = tt }; fits = small }),
                               (
@@ -366,7 +380,8 @@ all_rows =
                                                       (
                                                         λ _ kind args small bytes type long. bare Comp 0x1A 0x03 refl (record { row = record { kind = refl; sizes = tt }; fits = tt }) kind args type,
                                                         (
-                                                          λ _ kind args small bytes type long. moved_row MovSp 0x1B 0x00 (λ n. refl) (λ n fits. record { row = record { kind = refl; sizes = tt }; fits = fits }) kind args bytes (eqb-true kind 0x00 type) long,
+                                                          λ _ kind args small bytes type long. moved_row MovSp 0x1B 0x00
+                                                              (λ n. refl) (λ n fits. record { row = record { kind = refl; sizes = tt }; fits = fits }) kind args bytes (eqb-true kind 0x00 type) long,
                                                           (
                                                             λ opcode. absurd cc,
                                                             (
@@ -455,9 +470,25 @@ all_rows =
 spelled_by : (code kind : ℕ) (args : List ℕ) → IsByte code → IsByte kind → Bytes args → (a b c : Bool) → is_opcode code ≡ a → has_type code kind ≡ b
     → nat_lt (length args) (args_size code kind args) ≡ c → fault_of (code ∷ kind ∷ args) ≡ None → Spelled (code ∷ kind ∷ args)
 unfolding fault_of
-spelled_by code kind args big small bytes false b c e f g clear = absurd (let gone : Some Opcode ≡ None = subst (λ x. (if not x then Some Opcode else (if not (has_type code kind) then Some TypeByte else (if nat_lt (length args) (args_size code kind args) then Some Short else None))) ≡ None) e clear in cc)
-spelled_by code kind args big small bytes true false c e f g clear = absurd (let gone : Some TypeByte ≡ None = subst (λ x. (if not x then Some TypeByte else (if nat_lt (length args) (args_size code kind args) then Some Short else None)) ≡ None) f (subst (λ x. (if not x then Some Opcode else (if not (has_type code kind) then Some TypeByte else (if nat_lt (length args) (args_size code kind args) then Some Short else None))) ≡ None) e clear) in cc)
-spelled_by code kind args big small bytes true true true e f g clear = absurd (let gone : Some Short ≡ None = subst (λ x. (if x then Some Short else None) ≡ None) g (subst (λ x. (if not x then Some TypeByte else (if nat_lt (length args) (args_size code kind args) then Some Short else None)) ≡ None) f (subst (λ x. (if not x then Some Opcode else (if not (has_type code kind) then Some TypeByte else (if nat_lt (length args) (args_size code kind args) then Some Short else None))) ≡ None) e clear)) in cc)
+spelled_by code kind args big small bytes false b c e f g clear = absurd
+    (let gone : Some Opcode ≡ None = subst
+    (λ x. (if not x then Some Opcode else
+    (if not (has_type code kind) then Some TypeByte else
+    (if nat_lt (length args) (args_size code kind args) then Some Short else None))) ≡ None) e clear in cc)
+spelled_by code kind args big small bytes true false c e f g clear = absurd
+    (let gone : Some TypeByte
+    ≡ None = subst (λ x. (if not x then Some TypeByte else
+    (if nat_lt (length args) (args_size code kind args) then Some Short else None)) ≡ None) f
+    (subst (λ x. (if not x then Some Opcode else
+    (if not (has_type code kind) then Some TypeByte else
+    (if nat_lt (length args) (args_size code kind args) then Some Short else None))) ≡ None) e clear) in cc)
+spelled_by code kind args big small bytes true true true e f g clear = absurd
+    (let gone : Some Short ≡ None = subst (λ x. (if x then Some Short else None) ≡ None) g
+    (subst (λ x. (if not x then Some TypeByte else
+    (if nat_lt (length args) (args_size code kind args) then Some Short else None)) ≡ None) f
+    (subst (λ x. (if not x then Some Opcode else
+    (if not (has_type code kind) then Some TypeByte else
+    (if nat_lt (length args) (args_size code kind args) then Some Short else None))) ≡ None) e clear)) in cc)
 spelled_by code kind args big small bytes true true false e f g clear =
     row_at Coded 1 45 all_rows code (grind (arith, nat_tests)) (grind (arith, nat_tests)) e kind args small bytes f (ltb-false (length args) (args_size code kind args) g)
 

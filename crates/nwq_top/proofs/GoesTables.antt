@@ -27,7 +27,9 @@ module _ (lines : List (List ℕ)) where
     bad : may_follow (take k lines) (get_or lines k []) ≡ false
 
   -- what is said of a line among those before and behind it
-  here : (before after : List (List ℕ)) (name : List ℕ) → lines ≡ before ++ name ∷ after → (length before < length lines) × (take (length before) lines ≡ before) × (get_or lines (length before) [] ≡ name)
+  here : (before after : List (List ℕ)) (name : List ℕ) → lines ≡ before ++ name ∷ after
+      → (length before < length lines) × (take (length before) lines ≡ before)
+      × (get_or lines (length before) [] ≡ name)
   here before after name e = (
     omega (arith, ap length e, length-append before (name ∷ after)),
     ap (take (length before)) e ∙ take_at before (name ∷ after) (length before) refl,

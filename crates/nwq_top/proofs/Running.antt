@@ -59,7 +59,8 @@ as_refused w sure why c d c' t t' r whole plain could does =
 
 -- ---- a script is compiled, and something is done with its file
 
-module _ (pass : UnitsPass) (units : ScriptsHaveUnits) (least : LeastIsTheKept) (reads : HeadersHaveTables) (own : BuiltInIsTable) (tables : SureTables) (compiled : SureCompiled) (loaded : SureLoaded) where
+module _ (pass : UnitsPass) (units : ScriptsHaveUnits) (least : LeastIsTheKept) (reads : HeadersHaveTables)
+    (own : BuiltInIsTable) (tables : SureTables) (compiled : SureCompiled) (loaded : SureLoaded) where
   module _ (next : EngineTable → List ℕ → Work Finished) (each : (table : EngineTable) (bytes : List ℕ) → IsSure (next table bytes)) (header script : List ℕ)
       (c : Contents) (t : List ℕ) (r : Result Finished Status) (c' : Contents) (t' : List ℕ) (held : ContentsAreBytes c) (whole : IsCut r → ⊥) where
     sure_work : IsSure (then (table_of_word header) (λ table. then (compiled_named table script) (next table)))

@@ -32,7 +32,8 @@ use Rattle.command_meaning.specs.Scripts.{IsScript}
 -- the table of the header that a word names: `-` is the built-in one, every other word a file
 pub data HasHeader (c : Contents) (word : List ℕ) : EngineTable → Type 0 where
   built_in : bytes_eq word (codes "-") ≡ true → HasHeader c word header_table
-  read : bytes_eq word (codes "-") ≡ false → (bytes : List ℕ) → IsRead c word bytes → (table : EngineTable) → HasTable bytes table
+  read : bytes_eq word (codes "-") ≡ false → (bytes : List ℕ) → IsRead c word bytes
+      → (table : EngineTable) → HasTable bytes table
       → HasHeader c word table
 
 -- ---- scripts
@@ -40,7 +41,8 @@ pub data HasHeader (c : Contents) (word : List ℕ) : EngineTable → Type 0 whe
 -- The source of this name has this unit under a header. Its file isn't too large, and it passes the
 -- stack checker: it loads, to the instructions of the unit's code, and some table of shapes meets
 -- the rules for these.
-pub record Compiles (header : EngineTable) (c : Contents) (name : List ℕ) (unit : TypedUnit) : Type 0 where
+pub record Compiles (header : EngineTable) (c : Contents) (name : List ℕ)
+    (unit : TypedUnit) : Type 0 where
   pub script : IsScript header c name unit
   pub small : length (unit_file unit) ≤ file_limit
   pub passes : Passes header unit
@@ -57,7 +59,8 @@ pub record ReadsAssembly (c : Contents) (name file : List ℕ) : Type 0 where
   pub is : IsAssembled text file
 
 -- the file of bytecode of this name has these instructions, and passes the stack checker
-pub record HasCode (header : EngineTable) (c : Contents) (name : List ℕ) (ops : List PlainOp) : Type 0 where
+pub record HasCode (header : EngineTable) (c : Contents) (name : List ℕ)
+    (ops : List PlainOp) : Type 0 where
   pub read : IsRead c name (file_bytes ops)
   pub code : IsCode ops
   pub stacked : WellStacked header ops
@@ -68,22 +71,30 @@ with_file c name unit = with_content c (code_name name) (unit_file unit)
 
 -- A line of a plan lists this script, and the files hold that then: a source is compiled and its
 -- file written at once, a binary is read.
-pub data HasLine (header : EngineTable) (c : Contents) (line : ScriptLine) : Script → Contents → Type 0 where
+pub data HasLine (header : EngineTable) (c : Contents) (line : ScriptLine) : Script → Contents
+    → Type 0 where
   source : line.binary ≡ false → (unit : TypedUnit) → Compiles header c line.name unit
       → HasLine header c line (playable line (code_of unit)) (with_file c line.name unit)
-  binary : line.binary ≡ true → (ops : List PlainOp) → HasCode header c (code_name line.name) ops → HasLine header c line (playable line ops) c
+  binary : line.binary ≡ true → (ops : List PlainOp) → HasCode header c (code_name line.name) ops
+      → HasLine header c line (playable line ops) c
 
 -- so the lines, in order
-pub data HasScripts (header : EngineTable) : List ScriptLine → Contents → List Script → Contents → Type 0 where
+pub data HasScripts (header : EngineTable) : List ScriptLine → Contents → List Script → Contents
+    → Type 0 where
   none : (c : Contents) → HasScripts header [] c [] c
-  more : (line : ScriptLine) (lines : List ScriptLine) (c d e : Contents) (script : Script) (scripts : List Script)
-      → HasLine header c line script d → HasScripts header lines d scripts e → HasScripts header (line ∷ lines) c (script ∷ scripts) e
+  more : (line : ScriptLine) (lines : List ScriptLine) (c d e : Contents) (script : Script)
+      (scripts : List Script)
+      → HasLine header c line script d → HasScripts header lines d scripts e
+      → HasScripts header (line ∷ lines) c (script ∷ scripts) e
 
 -- the lines list sources alone, whose units are these
-pub data HasSources (header : EngineTable) : List ScriptLine → Contents → List Listed → Contents → Type 0 where
+pub data HasSources (header : EngineTable) : List ScriptLine → Contents → List Listed → Contents
+    → Type 0 where
   none : (c : Contents) → HasSources header [] c [] c
-  more : (line : ScriptLine) (lines : List ScriptLine) (c d : Contents) (unit : TypedUnit) (listed : List Listed) → line.binary ≡ false
-      → Compiles header c line.name unit → HasSources header lines (with_file c line.name unit) listed d
+  more : (line : ScriptLine) (lines : List ScriptLine) (c d : Contents) (unit : TypedUnit)
+      (listed : List Listed) → line.binary ≡ false
+      → Compiles header c line.name unit
+      → HasSources header lines (with_file c line.name unit) listed d
       → HasSources header (line ∷ lines) c (record { name = line.name; unit = unit } ∷ listed) d
 
 -- ---- plans and areas

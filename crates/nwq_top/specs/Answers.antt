@@ -26,12 +26,14 @@ HasOutcome w c t = (Outcome w c t → ⊥) → ⊥
 -- whatever the words are, whatever bytes the files and the cells of tables hold, and whatever was
 -- taken
 abbrev pub EachHasOutcome : Type 0
-EachHasOutcome = (cell : CellLookup) (words : List (List ℕ)) (c : Contents) (t : List ℕ) → CellsAreBytes cell → ContentsAreBytes c
+EachHasOutcome = (cell : CellLookup) (words : List (List ℕ)) (c : Contents) (t : List ℕ)
+    → CellsAreBytes cell → ContentsAreBytes c
     → HasOutcome (work_of cell (form_of words)) c t
 
 -- the same of the whole program, which reads tables first
 abbrev pub EachWholeHasOutcome : Type 0
-EachWholeHasOutcome = (words : List (List ℕ)) (c : Contents) (t : List ℕ) → ContentsAreBytes c → HasOutcome (whole_work (form_of words)) c t
+EachWholeHasOutcome = (words : List (List ℕ)) (c : Contents) (t : List ℕ) → ContentsAreBytes c
+    → HasOutcome (whole_work (form_of words)) c t
 
 -- these check no bytecode, and read neither a plan nor a state
 abbrev pub IsPlainForm : Form → Type 0
@@ -46,5 +48,6 @@ IsPlainForm _ = ⊥
 
 -- Their outcome is there, without excluded middle.
 abbrev pub PlainHaveOutcomes : Type 0
-PlainHaveOutcomes = (cell : CellLookup) (words : List (List ℕ)) (c : Contents) (t : List ℕ) → ContentsAreBytes c → IsPlainForm (form_of words)
+PlainHaveOutcomes = (cell : CellLookup) (words : List (List ℕ)) (c : Contents) (t : List ℕ)
+    → ContentsAreBytes c → IsPlainForm (form_of words)
     → Outcome (work_of cell (form_of words)) c t

@@ -30,7 +30,8 @@ unfolding table_named file_named
 may_unless true word = tt
 may_unless false word = tt
 
-may_head : {A : Type 0} (word : List ℕ) (f : EngineTable → Work A) → MayBeCut (then (table_of_word word) f)
+may_head : {A : Type 0} (word : List ℕ) (f : EngineTable → Work A)
+    → MayBeCut (then (table_of_word word) f)
 unfolding table_of_word
 may_head word f = may_then (table_of_word word) f (may_unless (bytes_eq word (codes "-")) word)
 
@@ -49,7 +50,8 @@ command_may cell (Resume state to list) = tt
 command_may cell NoForm = tt
 
 -- and so may the whole program, whether or not tables are given
-given_may : (form : Form) (list : Option (List ℕ)) → MayBeCut (then (tables_given list) (work_with form))
+given_may : (form : Form) (list : Option (List ℕ))
+    → MayBeCut (then (tables_given list) (work_with form))
 unfolding tables_listed names_listed file_named
 given_may form None = command_may (cell_of []) form
 given_may form (Some list) = tt

@@ -13,4 +13,5 @@ pub record HasFewStructs (script : PlainScript) : Type 0 where
   pub budget : in_all structs_of script.tree.items < struct_limit
 
 abbrev pub ScriptsHaveFewStructs : Type 0
-ScriptsHaveFewStructs = (lookup : Lookup) (name : List ℕ) (script : PlainScript) → IsUnitFate lookup name (Whole script) → HasFewStructs script
+ScriptsHaveFewStructs = (lookup : Lookup) (name : List ℕ) (script : PlainScript)
+    → IsUnitFate lookup name (Whole script) → HasFewStructs script

@@ -29,8 +29,10 @@ MayChange (Tree file) c r name = MayWrite (Tree file) name
 MayChange (Check header file) c r name = MayWrite (Check header file) name
 MayChange (Disassemble file to) c r name = MayWrite (Disassemble file to) name
 MayChange (Assemble file to) c r name = MayWrite (Assemble file to) name
-MayChange (Play header area plan to list) c r name = IsListedFile c plan name ⊎ (MayLeave r × (name ≡ to))
+MayChange (Play header area plan to list) c r name = IsListedFile c plan name
+    ⊎ (MayLeave r × (name ≡ to))
 MayChange (Generate number) c r name = MayWrite (Generate number) name
-MayChange (Save header area plan entries state list) c r name = IsListedFile c plan name ⊎ (MayLeave r × (name ≡ state))
+MayChange (Save header area plan entries state list) c r name = IsListedFile c plan name
+    ⊎ (MayLeave r × (name ≡ state))
 MayChange (Resume state to list) c r name = MayLeave r × (name ≡ to)
 MayChange NoForm c r name = MayWrite NoForm name

@@ -10,4 +10,5 @@ use Rattle.command_work.specs.Amounts.{Write, AmountsTo, IsFront}
 -- after a front of those writes, and what is put is a prefix of that text.
 unfoldable pub IsFrontOf : Work Finished → Contents → List ℕ → Contents → List ℕ → Type 0
 IsFrontOf w c t c' t' =
-    (s : Result Finished Status) (writes : List Write) (text : List ℕ) → AmountsTo w c s writes text → IsFront writes text c t c' t'
+    (s : Result Finished Status) (writes : List Write) (text : List ℕ) → AmountsTo w c s writes text
+    → IsFront writes text c t c' t'

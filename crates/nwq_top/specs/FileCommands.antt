@@ -22,20 +22,23 @@ pub data Comes {A : Type 0} (Has : A → Type 0) (Refuses : Refusal → Type 0) 
 
 -- the one or the other; where it is refused, its line is put and its status answered; and else this
 -- is done with what is there
-pub record MeansRead {A : Type 0} (Has : A → Type 0) (Refuses : Refusal → Type 0) (Done : A → Type 0) (c : Contents) (t : List ℕ) (r : Result Finished Status)
+pub record MeansRead {A : Type 0} (Has : A → Type 0) (Refuses : Refusal → Type 0)
+    (Done : A → Type 0) (c : Contents) (t : List ℕ) (r : Result Finished Status)
     (c' : Contents) (t' : List ℕ) : Type 0 where
   pub comes : Comes Has Refuses
   pub refused : (why : Refusal) → Refuses why → IsRefused why c t r c' t'
   pub done : (a : A) → Has a → Done a
 
 -- a text was put, and no file has changed
-pub record IsPut (text : List ℕ) (c : Contents) (t : List ℕ) (r : Result Finished Status) (c' : Contents) (t' : List ℕ) : Type 0 where
+pub record IsPut (text : List ℕ) (c : Contents) (t : List ℕ) (r : Result Finished Status)
+    (c' : Contents) (t' : List ℕ) : Type 0 where
   pub answer : r ≡ Ok tt
   pub taken : t' ≡ t ++ text
   pub contents : c' ≡ c
 
 -- a file was written, and a line put
-pub record IsWritten (name bytes line : List ℕ) (c : Contents) (t : List ℕ) (r : Result Finished Status) (c' : Contents) (t' : List ℕ) : Type 0 where
+pub record IsWritten (name bytes line : List ℕ) (c : Contents) (t : List ℕ)
+    (r : Result Finished Status) (c' : Contents) (t' : List ℕ) : Type 0 where
   pub answer : r ≡ Ok tt
   pub taken : t' ≡ t ++ line
   pub contents : c' ≡ with_content c name bytes
@@ -43,8 +46,10 @@ pub record IsWritten (name bytes line : List ℕ) (c : Contents) (t : List ℕ) 
 -- ---- the four
 
 -- the text of the tree that a GFF file stands for is put
-abbrev pub MeansTree : List ℕ → Contents → List ℕ → Result Finished Status → Contents → List ℕ → Type 0
-MeansTree file c t r c' t' = MeansRead (ReadsTree c file) (RefusesTree c file) (λ tree. IsPut (tree_text tree) c t r c' t') c t r c' t'
+abbrev pub MeansTree : List ℕ → Contents → List ℕ → Result Finished Status → Contents → List ℕ
+    → Type 0
+MeansTree file c t r c' t' = MeansRead (ReadsTree c file) (RefusesTree c file)
+    (λ tree. IsPut (tree_text tree) c t r c' t') c t r c' t'
 
 -- the header has a table, under which some table of shapes meets the rules for the file's
 -- instructions
@@ -55,19 +60,27 @@ pub record PassesCheck (header file : List ℕ) (c : Contents) (ops : List Plain
 
 pub data RefusesCheck (header file : List ℕ) (c : Contents) : Refusal → Type 0 where
   of_header : (why : Refusal) → RefusesHeader c header why → RefusesCheck header file c why
-  of_code : (table : EngineTable) (why : Refusal) → HasHeader c header table → RefusesBinary table c file why → RefusesCheck header file c why
+  of_code : (table : EngineTable) (why : Refusal) → HasHeader c header table
+      → RefusesBinary table c file why → RefusesCheck header file c why
 
 -- it is told that a file passed, with the number of its instructions
-abbrev pub MeansCheck : List ℕ → List ℕ → Contents → List ℕ → Result Finished Status → Contents → List ℕ → Type 0
+abbrev pub MeansCheck : List ℕ → List ℕ → Contents → List ℕ → Result Finished Status → Contents
+    → List ℕ → Type 0
 MeansCheck header file c t r c' t' =
-    MeansRead (PassesCheck header file c) (RefusesCheck header file c) (λ ops. IsPut (passed_line (length ops)) c t r c' t') c t r c' t'
+    MeansRead (PassesCheck header file c) (RefusesCheck header file c)
+    (λ ops. IsPut (passed_line (length ops)) c t r c' t') c t r c' t'
 
 -- the text of a file's instructions is written
-abbrev pub MeansDisassemble : List ℕ → List ℕ → Contents → List ℕ → Result Finished Status → Contents → List ℕ → Type 0
+abbrev pub MeansDisassemble : List ℕ → List ℕ → Contents → List ℕ → Result Finished Status
+    → Contents → List ℕ → Type 0
 MeansDisassemble file to c t r c' t' =
-    MeansRead (ReadsCode c file) (RefusesCode c file) (λ ops. IsWritten to (listing ops) (disassembled_line to (length ops)) c t r c' t') c t r c' t'
+    MeansRead (ReadsCode c file) (RefusesCode c file)
+    (λ ops. IsWritten to (listing ops)
+    (disassembled_line to (length ops)) c t r c' t') c t r c' t'
 
 -- the file of an assembler text is written
-abbrev pub MeansAssemble : List ℕ → List ℕ → Contents → List ℕ → Result Finished Status → Contents → List ℕ → Type 0
+abbrev pub MeansAssemble : List ℕ → List ℕ → Contents → List ℕ → Result Finished Status → Contents
+    → List ℕ → Type 0
 MeansAssemble file to c t r c' t' =
-    MeansRead (ReadsAssembly c file) (RefusesAssembly c file) (λ bytes. IsWritten to bytes (assembled_line to (length bytes)) c t r c' t') c t r c' t'
+    MeansRead (ReadsAssembly c file) (RefusesAssembly c file)
+    (λ bytes. IsWritten to bytes (assembled_line to (length bytes)) c t r c' t') c t r c' t'

@@ -22,7 +22,8 @@ pub record ReadsList (c : Contents) (list : List ℕ) (names : List (List ℕ)) 
 -- it isn't there or is too long, or has a first line that is no further name
 pub data RefusesList (c : Contents) (list : List ℕ) : Refusal → Type 0 where
   unread : (why : Refusal) → IsUnread c list why → RefusesList c list why
-  faulty : (bytes : List ℕ) → IsRead c list bytes → (number : ℕ) → HasBadLine bytes number → RefusesList c list (BadArea list (flaw.Line number))
+  faulty : (bytes : List ℕ) → IsRead c list bytes → (number : ℕ) → HasBadLine bytes number
+      → RefusesList c list (BadArea list (flaw.Line number))
 
 -- ---- one table
 
@@ -35,7 +36,8 @@ pub record ReadsTable (c : Contents) (name : List ℕ) (table : PlainTable) : Ty
 -- it isn't there or is too long, or has a first line that breaks a rule
 pub data RefusesTable (c : Contents) (name : List ℕ) : Refusal → Type 0 where
   unread : (why : Refusal) → IsUnread c (table_file name) why → RefusesTable c name why
-  faulty : (bytes : List ℕ) → IsRead c (table_file name) bytes → (number : ℕ) → IsFaulty bytes (fault.Line number)
+  faulty : (bytes : List ℕ) → IsRead c (table_file name) bytes → (number : ℕ)
+      → IsFaulty bytes (fault.Line number)
       → RefusesTable c name (BadArea (table_file name) (flaw.Line number))
 
 -- ---- tables in order
@@ -43,13 +45,16 @@ pub data RefusesTable (c : Contents) (name : List ℕ) : Refusal → Type 0 wher
 -- the tables of these names
 pub data HasTables (c : Contents) : List (List ℕ) → List Named → Type 0 where
   none : HasTables c [] []
-  more : (name : List ℕ) (names : List (List ℕ)) (table : PlainTable) (tables : List Named) → ReadsTable c name table → HasTables c names tables
+  more : (name : List ℕ) (names : List (List ℕ)) (table : PlainTable) (tables : List Named)
+      → ReadsTable c name table → HasTables c names tables
       → HasTables c (name ∷ names) (record { name = name; table = table } ∷ tables)
 
 -- the first of them that is refused
 pub data RefusesTables (c : Contents) : List (List ℕ) → Refusal → Type 0 where
-  here : (name : List ℕ) (names : List (List ℕ)) (why : Refusal) → RefusesTable c name why → RefusesTables c (name ∷ names) why
-  later : (name : List ℕ) (names : List (List ℕ)) (table : PlainTable) (why : Refusal) → ReadsTable c name table → RefusesTables c names why
+  here : (name : List ℕ) (names : List (List ℕ)) (why : Refusal) → RefusesTable c name why
+      → RefusesTables c (name ∷ names) why
+  later : (name : List ℕ) (names : List (List ℕ)) (table : PlainTable) (why : Refusal)
+      → ReadsTable c name table → RefusesTables c names why
       → RefusesTables c (name ∷ names) why
 
 -- ---- the tables that words give
@@ -57,13 +62,16 @@ pub data RefusesTables (c : Contents) : List (List ℕ) → Refusal → Type 0 w
 -- those that their list names, and none where they have no list
 pub data GivesTables (c : Contents) : Option (List ℕ) → List Named → Type 0 where
   none : GivesTables c None []
-  listed : (list : List ℕ) (names : List (List ℕ)) (tables : List Named) → ReadsList c list names → HasTables c names tables
+  listed : (list : List ℕ) (names : List (List ℕ)) (tables : List Named) → ReadsList c list names
+      → HasTables c names tables
       → GivesTables c (Some list) tables
 
 -- the list is refused, or else the first table that is
 pub data RefusesGiven (c : Contents) : Option (List ℕ) → Refusal → Type 0 where
-  of_list : (list : List ℕ) (why : Refusal) → RefusesList c list why → RefusesGiven c (Some list) why
-  of_table : (list : List ℕ) (names : List (List ℕ)) (why : Refusal) → ReadsList c list names → RefusesTables c names why
+  of_list : (list : List ℕ) (why : Refusal) → RefusesList c list why
+      → RefusesGiven c (Some list) why
+  of_table : (list : List ℕ) (names : List (List ℕ)) (why : Refusal) → ReadsList c list names
+      → RefusesTables c names why
       → RefusesGiven c (Some list) why
 
 -- one or the other

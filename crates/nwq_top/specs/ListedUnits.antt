@@ -23,7 +23,8 @@ pub record IsListedUnit (header : EngineTable) (l : Listed) : Type 0 where
   pub unit : IsUnitOf header l.unit
 
 -- The scripts are the code of such units, under the names of the lines.
-pub record AreListedUnits (header : EngineTable) (lines : List ScriptLine) (scripts : List Script) : Type 0 where
+pub record AreListedUnits (header : EngineTable) (lines : List ScriptLine)
+    (scripts : List Script) : Type 0 where
   pub listed : List Listed
   pub code : scripts ≡ map script_of listed
   pub names : map (λ (l : Listed). l.name) listed ≡ map (λ (line : ScriptLine). line.name) lines
@@ -32,5 +33,8 @@ pub record AreListedUnits (header : EngineTable) (lines : List ScriptLine) (scri
 -- What is listed of a plan of sources are their units.
 abbrev pub PlansListUnits : Type 0
 PlansListUnits =
-    (header : EngineTable) (lines : List ScriptLine) (scripts : List Script) (c : Contents) (t : List ℕ) (c' : Contents) (t' : List ℕ)
-    → IsTable header → HoldBytes c → AreSources lines → Does (scripts_listed header lines) c t (Ok scripts) c' t' → AreListedUnits header lines scripts
+    (header : EngineTable) (lines : List ScriptLine) (scripts : List Script) (c : Contents)
+    (t : List ℕ) (c' : Contents) (t' : List ℕ)
+    → IsTable header → HoldBytes c → AreSources lines
+    → Does (scripts_listed header lines) c t (Ok scripts) c' t'
+    → AreListedUnits header lines scripts

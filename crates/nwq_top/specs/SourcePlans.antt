@@ -35,35 +35,44 @@ listing_of cell header scripts = record { table = header; tables = cell; scripts
 
 -- the world of an area and a plan, as the play of code begins
 abbrev pub source_plan_world : PlainArea → Plan → World Deferred
-source_plan_world area plan = new_world area plan.random (map (begun_by area) plan.events) plan.version
+source_plan_world area plan = new_world area plan.random
+    (map (begun_by area) plan.events) plan.version
 
 -- what the sources mean, where an entry may take so many steps
-unfoldable pub source_plan_played : CellLookup → EngineTable → PlainArea → Plan → List Listed → ℕ → Played Deferred
+unfoldable pub source_plan_played : CellLookup → EngineTable → PlainArea → Plan → List Listed → ℕ
+    → Played Deferred
 source_plan_played cell header area plan scripts n =
-    source_play (listing_of cell header scripts) n plan.entries plan.until (source_plan_world area plan)
+    source_play (listing_of cell header scripts) n plan.entries plan.until
+    (source_plan_world area plan)
 
 -- what their code does, where an entry may take as many instructions as the plan says
-unfoldable pub code_plan_played : CellLookup → EngineTable → PlainArea → Plan → List Listed → Played Saved
-code_plan_played cell header area plan scripts = plan_played cell header plan (map script_of scripts) (plan_world area plan)
+unfoldable pub code_plan_played : CellLookup → EngineTable → PlainArea → Plan → List Listed
+    → Played Saved
+code_plan_played cell header area plan scripts = plan_played cell header plan
+    (map script_of scripts) (plan_world area plan)
 
 -- ---- what is told and left of it
 
 -- The work that a play of source comes to, for which so many instructions were made: its lines are
 -- put; where it is done, its area goes into the file of this name; and the text of its end is put.
 abbrev pub tells_source : List ℕ → Setting → ℕ → Played Deferred → Work Finished
-tells_source to s count p = Puts (trace_text p.last.trace) (ends_by p.ending to p.last.world.area (source_end_text s count p))
+tells_source to s count p = Puts (trace_text p.last.trace)
+    (ends_by p.ending to p.last.world.area (source_end_text s count p))
 
 -- Typed units are listed, and the plan was played over the area, from these contents and taken
 -- bytes on.
-pub record PlaysSources (cell : CellLookup) (header : EngineTable) (area : PlainArea) (plan : Plan) (scripts : List Listed) (to : List ℕ)
-    (c : Contents) (t : List ℕ) (r : Result Finished Status) (c' : Contents) (t' : List ℕ) : Type 0 where
+pub record PlaysSources (cell : CellLookup) (header : EngineTable) (area : PlainArea) (plan : Plan)
+    (scripts : List Listed) (to : List ℕ)
+    (c : Contents) (t : List ℕ) (r : Result Finished Status) (c' : Contents)
+    (t' : List ℕ) : Type 0 where
   pub table : IsTable header
   pub units : AreUnitsOf header scripts
   pub does : Does (plays_plan cell header area plan (map script_of scripts) to) c t r c' t'
 
 -- The work of the source's play was done, and at least one and at most 16 instructions were made
 -- for each step.
-pub record DoesMeaning (to : List ℕ) (s : Setting) (code : Played Saved) (source : Played Deferred) (c : Contents) (t : List ℕ)
+pub record DoesMeaning (to : List ℕ) (s : Setting) (code : Played Saved) (source : Played Deferred)
+    (c : Contents) (t : List ℕ)
     (r : Result Finished Status) (c' : Contents) (t' : List ℕ) : Type 0 where
   pub alike : PlaysAlike (Carries s) code source
   pub does : Does (tells_source to s code.last.count source) c t r c' t'
@@ -71,13 +80,17 @@ pub record DoesMeaning (to : List ℕ) (s : Setting) (code : Played Saved) (sour
 -- The play was stopped in its last entry, for which all the instructions were made that it may
 -- take. The lines that it tells are a beginning of those that the play of source tells, and no area
 -- is left.
-pub record DoesBeginning (cell : CellLookup) (header : EngineTable) (area : PlainArea) (plan : Plan) (scripts : List Listed) (c : Contents) (t : List ℕ)
+pub record DoesBeginning (cell : CellLookup) (header : EngineTable) (area : PlainArea) (plan : Plan)
+    (scripts : List Listed) (c : Contents) (t : List ℕ)
     (r : Result Finished Status) (c' : Contents) (t' : List ℕ) : Type 0 where
-  pub stopped : StoppedAt (code_runner (host_of cell header (map script_of scripts)) plan.limit) (whole plan.entries plan.until) plan.limit
+  pub stopped : StoppedAt (code_runner (host_of cell header (map script_of scripts)) plan.limit)
+      (whole plan.entries plan.until) plan.limit
       (unplayed (plan_world area plan)) (code_plan_played cell header area plan scripts)
-  pub begins : IsFirstPartOf (code_plan_played cell header area plan scripts).last.trace (source_plan_played cell header area plan scripts plan.limit).last.trace
+  pub begins : IsFirstPartOf (code_plan_played cell header area plan scripts).last.trace
+      (source_plan_played cell header area plan scripts plan.limit).last.trace
   pub does : Does (Puts (trace_text (code_plan_played cell header area plan scripts).last.trace)
-      (Puts (code_end_text (map script_of scripts) (code_plan_played cell header area plan scripts)) (Ends Limit))) c t r c' t'
+      (Puts (code_end_text (map script_of scripts) (code_plan_played cell header area plan scripts))
+      (Ends Limit))) c t r c' t'
 
 -- ---- what is promised
 
@@ -85,24 +98,36 @@ pub record DoesBeginning (cell : CellLookup) (header : EngineTable) (area : Plai
 -- within the plan's limit, the plan is played as the sources mean.
 abbrev pub FewStepsPlayAsMeant : Type 0
 FewStepsPlayAsMeant =
-    (cell : CellLookup) (header : EngineTable) (area : PlainArea) (plan : Plan) (scripts : List Listed) (to : List ℕ)
-    (c : Contents) (t : List ℕ) (r : Result Finished Status) (c' : Contents) (t' : List ℕ) → PlaysSources cell header area plan scripts to c t r c' t'
-    → (n : ℕ) → step_cost * n ≤ plan.limit → (source_plan_played cell header area plan scripts n).ending ≢ StoppedInside
-    → DoesMeaning to (listing_of cell header scripts) (code_plan_played cell header area plan scripts) (source_plan_played cell header area plan scripts n) c t r c' t'
+    (cell : CellLookup) (header : EngineTable) (area : PlainArea) (plan : Plan)
+    (scripts : List Listed) (to : List ℕ)
+    (c : Contents) (t : List ℕ) (r : Result Finished Status) (c' : Contents) (t' : List ℕ)
+    → PlaysSources cell header area plan scripts to c t r c' t'
+    → (n : ℕ) → step_cost * n ≤ plan.limit
+    → (source_plan_played cell header area plan scripts n).ending ≢ StoppedInside
+    → DoesMeaning to (listing_of cell header scripts)
+    (code_plan_played cell header area plan scripts)
+    (source_plan_played cell header area plan scripts n) c t r c' t'
 
 -- Where no entry of the code was stopped, it is played as the sources mean whose entries may take
 -- as many steps as the plan allows instructions.
 abbrev pub UnstoppedPlansPlayAsMeant : Type 0
 UnstoppedPlansPlayAsMeant =
-    (cell : CellLookup) (header : EngineTable) (area : PlainArea) (plan : Plan) (scripts : List Listed) (to : List ℕ)
-    (c : Contents) (t : List ℕ) (r : Result Finished Status) (c' : Contents) (t' : List ℕ) → PlaysSources cell header area plan scripts to c t r c' t'
+    (cell : CellLookup) (header : EngineTable) (area : PlainArea) (plan : Plan)
+    (scripts : List Listed) (to : List ℕ)
+    (c : Contents) (t : List ℕ) (r : Result Finished Status) (c' : Contents) (t' : List ℕ)
+    → PlaysSources cell header area plan scripts to c t r c' t'
     → (code_plan_played cell header area plan scripts).ending ≢ StoppedInside
-    → DoesMeaning to (listing_of cell header scripts) (code_plan_played cell header area plan scripts) (source_plan_played cell header area plan scripts plan.limit)
+    → DoesMeaning to (listing_of cell header scripts)
+    (code_plan_played cell header area plan scripts)
+    (source_plan_played cell header area plan scripts plan.limit)
     c t r c' t'
 
 -- Where one was stopped, what is told is a beginning of what the sources mean.
 abbrev pub StoppedPlansBeginAsMeant : Type 0
 StoppedPlansBeginAsMeant =
-    (cell : CellLookup) (header : EngineTable) (area : PlainArea) (plan : Plan) (scripts : List Listed) (to : List ℕ)
-    (c : Contents) (t : List ℕ) (r : Result Finished Status) (c' : Contents) (t' : List ℕ) → PlaysSources cell header area plan scripts to c t r c' t'
-    → (code_plan_played cell header area plan scripts).ending ≡ StoppedInside → DoesBeginning cell header area plan scripts c t r c' t'
+    (cell : CellLookup) (header : EngineTable) (area : PlainArea) (plan : Plan)
+    (scripts : List Listed) (to : List ℕ)
+    (c : Contents) (t : List ℕ) (r : Result Finished Status) (c' : Contents) (t' : List ℕ)
+    → PlaysSources cell header area plan scripts to c t r c' t'
+    → (code_plan_played cell header area plan scripts).ending ≡ StoppedInside
+    → DoesBeginning cell header area plan scripts c t r c' t'

@@ -26,7 +26,8 @@ pub record EngineTable : Type 0 where
 -- the number of the first routine with this name
 unfoldable pub routine_named : List ℕ → List Routine → Option ℕ
 routine_named name [] = None
-routine_named name (r ∷ rs) = if bytes_eq name r.name then Some 0 else option_map suc (routine_named name rs)
+routine_named name (r ∷ rs) = if bytes_eq name r.name then Some 0 else option_map suc
+    (routine_named name rs)
 
 -- the first constant with this name
 unfoldable pub constant_named : List ℕ → List Constant → Option Const
@@ -94,7 +95,8 @@ pub record IsTable (t : EngineTable) : Type 0 where
 -- the number of a name is that of a routine with this very name, and no number says that no routine
 -- has it
 abbrev pub NumberIsOfName : Type 0
-NumberIsOfName = (name : List ℕ) (routines : List Routine) (n : ℕ) → routine_named name routines ≡ Some n
+NumberIsOfName = (name : List ℕ) (routines : List Routine) (n : ℕ)
+    → routine_named name routines ≡ Some n
     → (r : Routine) × (slice_get routines n ≡ Some r) × (r.name ≡ name)
 
 abbrev pub NoNumberNoName : Type 0
@@ -103,9 +105,11 @@ NoNumberNoName = (name : List ℕ) (routines : List Routine) → routine_named n
 
 -- the same of constants
 abbrev pub ConstantIsOfName : Type 0
-ConstantIsOfName = (name : List ℕ) (constants : List Constant) (value : Const) → constant_named name constants ≡ Some value
+ConstantIsOfName = (name : List ℕ) (constants : List Constant) (value : Const)
+    → constant_named name constants ≡ Some value
     → (n : ℕ) × (slice_get constants n ≡ Some (record { name = name; value = value }))
 
 abbrev pub NoConstantNoName : Type 0
-NoConstantNoName = (name : List ℕ) (constants : List Constant) → constant_named name constants ≡ None
+NoConstantNoName = (name : List ℕ) (constants : List Constant)
+    → constant_named name constants ≡ None
     → (n : ℕ) (c : Constant) → slice_get constants n ≡ Some c → c.name ≢ name

@@ -16,7 +16,10 @@ abbrev pub constants_in : List (ℕ × Named) → List Constant
 constants_in constants = map constant_in (values_of constants)
 
 abbrev pub table_of : List (ℕ × Routine) → List (ℕ × Named) → EngineTable
-table_of routines constants = record { routines = values_of routines; constants = constants_in constants }
+table_of routines constants = record {
+  routines = values_of routines;
+  constants = constants_in constants;
+}
 
 -- the place of the routine, and the value of the constant, that stand under the number of a name
 abbrev pub routine_under : List (ℕ × Routine) → ℕ → Option ℕ
@@ -27,10 +30,19 @@ constant_under constants n = option_map (λ c. c.value) (lookup (nat_eq n) const
 
 -- a name has a number where a routine or a constant has this name: it or its value stands under
 -- that number. The numbers of names are those below their count
-pub record AreFound (names : List (List ℕ × ℕ)) (routines : List (ℕ × Routine)) (constants : List (ℕ × Named)) : Type 0 where
-  pub routine : (x : List ℕ) → option_and_then (routine_under routines) (number_under x names) ≡ routine_named x (values_of routines)
-  pub constant : (x : List ℕ) → option_and_then (constant_under constants) (number_under x names) ≡ constant_named x (constants_in constants)
-  pub used : (x : List ℕ) → routine_named x (values_of routines) ≡ None → constant_named x (constants_in constants) ≡ None → number_under x names ≡ None
-  pub below : (x : List ℕ) (n : ℕ) → number_under x names ≡ Some n → n < length routines + length constants
-  pub free_routine : (n : ℕ) → length routines + length constants ≤ n → lookup (nat_eq n) routines ≡ None
-  pub free_constant : (n : ℕ) → length routines + length constants ≤ n → lookup (nat_eq n) constants ≡ None
+pub record AreFound (names : List (List ℕ × ℕ)) (routines : List (ℕ × Routine))
+    (constants : List (ℕ × Named)) : Type 0 where
+  pub routine : (x : List ℕ)
+      → option_and_then (routine_under routines) (number_under x names)
+      ≡ routine_named x (values_of routines)
+  pub constant : (x : List ℕ)
+      → option_and_then (constant_under constants) (number_under x names)
+      ≡ constant_named x (constants_in constants)
+  pub used : (x : List ℕ) → routine_named x (values_of routines) ≡ None
+      → constant_named x (constants_in constants) ≡ None → number_under x names ≡ None
+  pub below : (x : List ℕ) (n : ℕ) → number_under x names ≡ Some n
+      → n < length routines + length constants
+  pub free_routine : (n : ℕ) → length routines + length constants ≤ n
+      → lookup (nat_eq n) routines ≡ None
+  pub free_constant : (n : ℕ) → length routines + length constants ≤ n
+      → lookup (nat_eq n) constants ≡ None

@@ -32,7 +32,8 @@ names_of first others = map numbered first.entries ++ map entry others.entries
 
 -- each name stands under its hash
 abbrev pub AreHashed : BTreeMap ℕ Numbered → Type 0
-AreHashed first = IsOrdered nat_cmp first × ((hash : ℕ) → IfSome (get nat_cmp first hash) (λ held. hash_of held.name.items ≡ hash))
+AreHashed first = IsOrdered nat_cmp first
+    × ((hash : ℕ) → IfSome (get nat_cmp first hash) (λ held. hash_of held.name.items ≡ hash))
 
 -- what a name has in the tree of hashes
 abbrev pub first_of : BTreeMap ℕ Numbered → List ℕ → Option ℕ
@@ -40,4 +41,5 @@ first_of first name = number_in name (get nat_cmp first (hash_of name))
 
 -- the new tree has this for the name, and for each other name what the old one has
 abbrev pub PutsFirst : List ℕ → Option ℕ → BTreeMap ℕ Numbered → BTreeMap ℕ Numbered → Type 0
-PutsFirst name number old new = AreHashed new × ((x : List ℕ) → first_of new x ≡ (if bytes_eq x name then number else first_of old x))
+PutsFirst name number old new = AreHashed new
+    × ((x : List ℕ) → first_of new x ≡ (if bytes_eq x name then number else first_of old x))

@@ -53,7 +53,12 @@ abbrev pub float : Word
 float = record { text = codes "float"; ty = Refused }
 
 abbrev pub routine : Word → String → List HeaderParam → Option Role → HeaderRoutine
-routine word name params role = record { word = word; name = codes name; params = params; role = role }
+routine word name params role = record {
+  word = word;
+  name = codes name;
+  params = params;
+  role = role;
+}
 
 -- a parameter without default, an int with its default as written and as a number, and an object
 -- that is the caller where none is given
@@ -61,10 +66,20 @@ abbrev pub of : Word → String → HeaderParam
 of word name = record { word = word; name = codes name; default = None; written = [] }
 
 abbrev pub int_or : String → String → ℕ → HeaderParam
-int_or name written n = record { word = int; name = codes name; default = Some (IntConst (pos n)); written = codes written }
+int_or name written n = record {
+  word = int;
+  name = codes name;
+  default = Some (IntConst (pos n));
+  written = codes written;
+}
 
 abbrev pub self_or : String → HeaderParam
-self_or name = record { word = object; name = codes name; default = Some SelfObject; written = codes "OBJECT_SELF" }
+self_or name = record {
+  word = object;
+  name = codes name;
+  default = Some SelfObject;
+  written = codes "OBJECT_SELF";
+}
 
 -- the functions, numbered from 0. A row of the engine's table is Built with the function's own
 -- number, or Pure with the number of the hook that answers; a function without a row is called as
@@ -73,30 +88,45 @@ unfoldable pub header_routines : List HeaderRoutine
 header_routines =
     routine int "Random" (of int "nMaxInteger" ∷ []) (Some (Built 0)) ∷
     routine void "PrintString" (of string "sString" ∷ []) (Some (Built 1)) ∷
-    routine void "PrintFloat" (of float "fFloat" ∷ int_or "nWidth" "18" 18 ∷ int_or "nDecimals" "9" 9 ∷ []) None ∷
-    routine string "FloatToString" (of float "fFloat" ∷ int_or "nWidth" "18" 18 ∷ int_or "nDecimals" "9" 9 ∷ []) None ∷
+    routine void "PrintFloat"
+    (of float "fFloat" ∷ int_or "nWidth" "18" 18 ∷ int_or "nDecimals" "9" 9 ∷ []) None ∷
+    routine string "FloatToString"
+    (of float "fFloat" ∷ int_or "nWidth" "18" 18 ∷ int_or "nDecimals" "9" 9 ∷ []) None ∷
     routine void "PrintInteger" (of int "nInteger" ∷ []) (Some (Built 4)) ∷
     routine void "PrintObject" (of object "oObject" ∷ []) (Some (Built 5)) ∷
-    routine void "AssignCommand" (of object "oActionSubject" ∷ of action "aActionToAssign" ∷ []) (Some (Built 6)) ∷
-    routine void "DelayCommand" (of int "nMilliseconds" ∷ of action "aActionToDelay" ∷ []) (Some (Built 7)) ∷
+    routine void "AssignCommand" (of object "oActionSubject" ∷ of action "aActionToAssign" ∷ [])
+    (Some (Built 6)) ∷
+    routine void "DelayCommand" (of int "nMilliseconds" ∷ of action "aActionToDelay" ∷ [])
+    (Some (Built 7)) ∷
     routine void "ExecuteScript" (of string "sScript" ∷ self_or "oTarget" ∷ []) (Some (Built 8)) ∷
     routine void "ClearAllActions" (int_or "nClearCombatState" "FALSE" 0 ∷ []) (Some (Built 9)) ∷
     routine void "ActionDoCommand" (of action "aActionToDo" ∷ []) (Some (Built 10)) ∷
     routine void "ActionWait" (of int "nMilliseconds" ∷ []) (Some (Built 11)) ∷
-    routine void "ActionSpeakString" (of string "sStringToSpeak" ∷ int_or "nTalkVolume" "0" 0 ∷ []) (Some (Built 12)) ∷
-    routine void "SpeakString" (of string "sStringToSpeak" ∷ int_or "nTalkVolume" "0" 0 ∷ []) (Some (Built 13)) ∷
-    routine object "GetObjectByTag" (of string "sTag" ∷ int_or "nNth" "0" 0 ∷ []) (Some (Built 14)) ∷
+    routine void "ActionSpeakString" (of string "sStringToSpeak" ∷ int_or "nTalkVolume" "0" 0 ∷ [])
+    (Some (Built 12)) ∷
+    routine void "SpeakString" (of string "sStringToSpeak" ∷ int_or "nTalkVolume" "0" 0 ∷ [])
+    (Some (Built 13)) ∷
+    routine object "GetObjectByTag" (of string "sTag" ∷ int_or "nNth" "0" 0 ∷ [])
+    (Some (Built 14)) ∷
     routine string "GetTag" (of object "oObject" ∷ []) (Some (Built 15)) ∷
     routine int "GetIsObjectValid" (of object "oObject" ∷ []) (Some (Built 16)) ∷
     routine int "GetLocalInt" (of object "oObject" ∷ of string "sVarName" ∷ []) (Some (Built 17)) ∷
-    routine void "SetLocalInt" (of object "oObject" ∷ of string "sVarName" ∷ of int "nValue" ∷ []) (Some (Built 18)) ∷
-    routine string "GetLocalString" (of object "oObject" ∷ of string "sVarName" ∷ []) (Some (Built 19)) ∷
-    routine void "SetLocalString" (of object "oObject" ∷ of string "sVarName" ∷ of string "sValue" ∷ []) (Some (Built 20)) ∷
-    routine void "DeleteLocalInt" (of object "oObject" ∷ of string "sVarName" ∷ []) (Some (Built 21)) ∷
-    routine void "DeleteLocalString" (of object "oObject" ∷ of string "sVarName" ∷ []) (Some (Built 22)) ∷
-    routine void "ApplyEffectToObject" (of int "nDurationType" ∷ of effect "eEffect" ∷ of object "oTarget" ∷ int_or "nMilliseconds" "0" 0 ∷ []) (Some (Built 23)) ∷
-    routine void "RemoveEffect" (of object "oCreature" ∷ of effect "eEffect" ∷ []) (Some (Built 24)) ∷
-    routine effect "EffectDamage" (of int "nDamageAmount" ∷ int_or "nDamageType" "8" 8 ∷ int_or "nDamagePower" "0" 0 ∷ []) None ∷
+    routine void "SetLocalInt" (of object "oObject" ∷ of string "sVarName" ∷ of int "nValue" ∷ [])
+    (Some (Built 18)) ∷
+    routine string "GetLocalString" (of object "oObject" ∷ of string "sVarName" ∷ [])
+    (Some (Built 19)) ∷
+    routine void "SetLocalString"
+    (of object "oObject" ∷ of string "sVarName" ∷ of string "sValue" ∷ []) (Some (Built 20)) ∷
+    routine void "DeleteLocalInt" (of object "oObject" ∷ of string "sVarName" ∷ [])
+    (Some (Built 21)) ∷
+    routine void "DeleteLocalString" (of object "oObject" ∷ of string "sVarName" ∷ [])
+    (Some (Built 22)) ∷
+    routine void "ApplyEffectToObject"
+    (of int "nDurationType" ∷ of effect "eEffect" ∷ of object "oTarget" ∷ int_or "nMilliseconds" "0" 0 ∷ []) (Some (Built 23)) ∷
+    routine void "RemoveEffect" (of object "oCreature" ∷ of effect "eEffect" ∷ [])
+    (Some (Built 24)) ∷
+    routine effect "EffectDamage"
+    (of int "nDamageAmount" ∷ int_or "nDamageType" "8" 8 ∷ int_or "nDamagePower" "0" 0 ∷ []) None ∷
     routine effect "EffectHeal" (of int "nDamageToHeal" ∷ []) None ∷
     routine void "SetCommandable" (of int "bCommandable" ∷ self_or "oTarget" ∷ []) None ∷
     routine int "abs" (of int "nValue" ∷ []) (Some (Pure 0)) ∷
@@ -106,9 +136,12 @@ header_routines =
     routine int "GetStringLength" (of string "sString" ∷ []) (Some (Pure 4)) ∷
     routine string "GetStringLeft" (of string "sString" ∷ of int "nCount" ∷ []) (Some (Pure 5)) ∷
     routine string "GetStringRight" (of string "sString" ∷ of int "nCount" ∷ []) (Some (Pure 6)) ∷
-    routine string "GetSubString" (of string "sString" ∷ of int "nStart" ∷ of int "nCount" ∷ []) (Some (Pure 7)) ∷
-    routine string "InsertString" (of string "sDestination" ∷ of string "sString" ∷ of int "nPosition" ∷ []) (Some (Pure 8)) ∷
-    routine string "Get2DAString" (of string "s2DA" ∷ of string "sColumn" ∷ of int "nRow" ∷ []) (Some (Pure 9)) ∷
+    routine string "GetSubString" (of string "sString" ∷ of int "nStart" ∷ of int "nCount" ∷ [])
+    (Some (Pure 7)) ∷
+    routine string "InsertString"
+    (of string "sDestination" ∷ of string "sString" ∷ of int "nPosition" ∷ []) (Some (Pure 8)) ∷
+    routine string "Get2DAString" (of string "s2DA" ∷ of string "sColumn" ∷ of int "nRow" ∷ [])
+    (Some (Pure 9)) ∷
     routine event "EventUserDefined" (of int "nUserDefinedEventNumber" ∷ []) (Some (Built 38)) ∷
     routine void "SignalEvent" (of object "oObject" ∷ of event "evToRun" ∷ []) (Some (Built 39)) ∷
     routine int "GetUserDefinedEventNumber" [] (Some (Built 40)) ∷
@@ -129,7 +162,8 @@ params_text (p ∷ ps) = param_text p ++ codes ", " ++ params_text ps
 -- the lines of functions: types, names, and each default after `=`
 abbrev pub routines_text : List HeaderRoutine → List ℕ
 routines_text [] = []
-routines_text (r ∷ rs) = r.word.text ++ codes " " ++ r.name ++ codes "(" ++ params_text r.params ++ codes ");\n" ++ routines_text rs
+routines_text (r ∷ rs) = r.word.text ++ codes " " ++ r.name ++ codes "(" ++ params_text r.params
+    ++ codes ");\n" ++ routines_text rs
 
 -- the line of a define
 abbrev pub define_text : String → String → List ℕ
@@ -142,7 +176,11 @@ pub record HeaderConstant : Type 0 where
   pub value : ℕ
 
 abbrev pub int_constant : String → String → ℕ → HeaderConstant
-int_constant name written value = record { name = codes name; written = codes written; value = value }
+int_constant name written value = record {
+  name = codes name;
+  written = codes written;
+  value = value;
+}
 
 unfoldable pub header_constants : List HeaderConstant
 header_constants =
@@ -155,7 +193,8 @@ header_constants =
 
 abbrev pub constants_text : List HeaderConstant → List ℕ
 constants_text [] = []
-constants_text (c ∷ cs) = codes "int " ++ c.name ++ codes " = " ++ c.written ++ codes ";\n" ++ constants_text cs
+constants_text (c ∷ cs) = codes "int " ++ c.name ++ codes " = " ++ c.written ++ codes ";\n"
+    ++ constants_text cs
 
 -- the whole header: the engine's types, the constants and the functions
 unfoldable pub header_text : List ℕ

@@ -23,4 +23,7 @@ abbrev pub header_constant : HeaderConstant → Constant
 header_constant c = record { name = c.name; value = Int (pos c.value) }
 
 unfoldable pub header_table : EngineTable
-header_table = record { routines = map header_routine header_routines; constants = map header_constant header_constants }
+header_table = record {
+  routines = map header_routine header_routines;
+  constants = map header_constant header_constants;
+}

@@ -15,7 +15,8 @@ number_under name index = lookup (bytes_eq name) index
 
 -- the new index has this under the name, and under each other name what the old one has
 abbrev pub Puts : List ℕ → Option ℕ → List (List ℕ × ℕ) → List (List ℕ × ℕ) → Type 0
-Puts name number old new = (x : List ℕ) → number_under x new ≡ (if bytes_eq x name then number else number_under x old)
+Puts name number old new = (x : List ℕ)
+    → number_under x new ≡ (if bytes_eq x name then number else number_under x old)
 
 -- both indexes have the same under each name
 abbrev pub IsSame : List (List ℕ × ℕ) → List (List ℕ × ℕ) → Type 0

@@ -35,11 +35,17 @@ pub record Signature : Type 0 where
   pub role : Option Role
 
 abbrev pub signature : HeaderRoutine → Signature
-signature h = record { name = h.name; gives = h.word.ty; takes = map (λ p. p.word.ty) h.params; role = h.role }
+signature h = record {
+  name = h.name;
+  gives = h.word.ty;
+  takes = map (λ p. p.word.ty) h.params;
+  role = h.role;
+}
 
 -- whether a routine with this name, this result and these parameter types has the signature
 unfoldable pub has_signature : List ℕ → Ty → List Ty → Signature → Bool
-has_signature name gives takes s = bytes_eq name s.name && ty_eq gives s.gives && tys_eq takes s.takes
+has_signature name gives takes s = bytes_eq name s.name && ty_eq gives s.gives
+    && tys_eq takes s.takes
 
 -- the role of the first row with this signature
 unfoldable pub role_of_row : List Signature → List ℕ → Ty → List Ty → Option Role
@@ -56,11 +62,13 @@ is_barred_type _ = false
 -- the role where the engine has no row: a function with a barred type can't be called, and each
 -- other is a world function
 unfoldable pub role_without_row : Ty → List Ty → Role
-role_without_row gives takes = if is_barred_type gives || list_any is_barred_type takes then Uncallable else World
+role_without_row gives takes = if is_barred_type gives
+    || list_any is_barred_type takes then Uncallable else World
 
 -- the role of a routine with this name, this result and these parameter types
 unfoldable pub engine_role : List ℕ → Ty → List Ty → Role
-engine_role name gives takes = unwrap_or (role_of_row (map signature header_routines) name gives takes) (role_without_row gives takes)
+engine_role name gives takes = unwrap_or
+    (role_of_row (map signature header_routines) name gives takes) (role_without_row gives takes)
 
 -- the types of parameters
 abbrev pub types_of : List Param → List Ty
@@ -73,14 +81,18 @@ header_signatures = map signature header_routines
 
 -- a Built role is that of the header's function of its number, with its name and types
 abbrev pub BuiltAsHeader : Type 0
-BuiltAsHeader = (name : List ℕ) (gives : Ty) (takes : List Ty) (n : ℕ) → engine_role name gives takes ≡ Built n
-    → slice_get header_signatures n ≡ Some (record { name = name; gives = gives; takes = takes; role = Some (Built n) })
+BuiltAsHeader = (name : List ℕ) (gives : Ty) (takes : List Ty) (n : ℕ)
+    → engine_role name gives takes ≡ Built n
+    → slice_get header_signatures n
+    ≡ Some (record { name = name; gives = gives; takes = takes; role = Some (Built n) })
 
 -- a Pure role is that of the function which stands as many places after `abs`, with its name and
 -- types
 abbrev pub PureAsHeader : Type 0
-PureAsHeader = (name : List ℕ) (gives : Ty) (takes : List Ty) (k : ℕ) → engine_role name gives takes ≡ Pure k
-    → slice_get header_signatures (28 + k) ≡ Some (record { name = name; gives = gives; takes = takes; role = Some (Pure k) })
+PureAsHeader = (name : List ℕ) (gives : Ty) (takes : List Ty) (k : ℕ)
+    → engine_role name gives takes ≡ Pure k
+    → slice_get header_signatures (28 + k)
+    ≡ Some (record { name = name; gives = gives; takes = takes; role = Some (Pure k) })
 
 -- a routine with the name and types of row n has that row's role, or where the row has none, the
 -- one that its types give
@@ -90,10 +102,12 @@ HeaderAsRole = (n : ℕ) (s : Signature) → slice_get header_signatures n ≡ S
 
 -- a world function passes and gives values that a call can pass and give
 abbrev pub WorldIsCallable : Type 0
-WorldIsCallable = (name : List ℕ) (gives : Ty) (takes : List Ty) → engine_role name gives takes ≡ World
+WorldIsCallable = (name : List ℕ) (gives : Ty) (takes : List Ty)
+    → engine_role name gives takes ≡ World
     → list_any is_barred_type (gives ∷ takes) ≡ false
 
 -- an uncallable function would pass or give one that no call can
 abbrev pub UncallableIsBarred : Type 0
-UncallableIsBarred = (name : List ℕ) (gives : Ty) (takes : List Ty) → engine_role name gives takes ≡ Uncallable
+UncallableIsBarred = (name : List ℕ) (gives : Ty) (takes : List Ty)
+    → engine_role name gives takes ≡ Uncallable
     → list_any is_barred_type (gives ∷ takes) ≡ true

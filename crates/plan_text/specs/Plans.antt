@@ -39,15 +39,18 @@ given_once (Some old) number = None
 -- the random numbers and one more, which is below 2^32
 abbrev pub with_number : List ℕ → Option ℕ → Option (List ℕ)
 with_number numbers None = None
-with_number numbers (Some n) = if nat_lt (length numbers) random_limit then Some (numbers ++ n ∷ []) else None
+with_number numbers (Some n) = if nat_lt (length numbers) random_limit then Some
+    (numbers ++ n ∷ []) else None
 
 abbrev pub one_more : List ℕ → List ℕ → Option (List ℕ)
 one_more numbers digits = with_number numbers (number_between 0 greatest_random digits)
 
 -- numbers parted by one space are added to the random numbers
 pub data Adds : List ℕ → List ℕ → List ℕ → Type 0 where
-  one : (numbers digits after : List ℕ) → one_more numbers digits ≡ Some after → Adds numbers digits after
-  more : (numbers digits between rest after : List ℕ) → one_more numbers digits ≡ Some between → Adds between rest after
+  one : (numbers digits after : List ℕ) → one_more numbers digits ≡ Some after
+      → Adds numbers digits after
+  more : (numbers digits between rest after : List ℕ) → one_more numbers digits ≡ Some between
+      → Adds between rest after
       → Adds numbers (parted digits rest) after
 
 -- the text's escaped spelling is this
@@ -112,22 +115,28 @@ pub record Lists (d : Draft) (script : Script) (after : Draft) : Type 0 where
 -- what a line gives by its word and what follows that
 abbrev pub ReadsBehind : Word → Draft → List ℕ → Draft → Type 0
 ReadsBehind word.Limit d rest after =
-    (n : ℕ) × (given_once d.limit (number_between 1 instruction_limit rest) ≡ Some n) × (after ≡ record d { limit = Some n })
+    (n : ℕ) × (given_once d.limit (number_between 1 instruction_limit rest) ≡ Some n)
+    × (after ≡ record d { limit = Some n })
 ReadsBehind word.Entries d rest after =
-    (n : ℕ) × (given_once d.entries (number_between 1 entry_limit rest) ≡ Some n) × (after ≡ record d { entries = Some n })
+    (n : ℕ) × (given_once d.entries (number_between 1 entry_limit rest) ≡ Some n)
+    × (after ≡ record d { entries = Some n })
 ReadsBehind word.Until d rest after =
-    (n : ℕ) × (given_once d.until (number_between 0 time_limit rest) ≡ Some n) × (after ≡ record d { until = Some n })
-ReadsBehind word.Random d rest after = (numbers : List ℕ) × Adds d.random rest numbers × (after ≡ record d { random = numbers })
+    (n : ℕ) × (given_once d.until (number_between 0 time_limit rest) ≡ Some n)
+    × (after ≡ record d { until = Some n })
+ReadsBehind word.Random d rest after = (numbers : List ℕ) × Adds d.random rest numbers
+    × (after ≡ record d { random = numbers })
 ReadsBehind word.Script d rest after = Lists d (record { name = rest; binary = false }) after
 ReadsBehind word.Binary d rest after = Lists d (record { name = rest; binary = true }) after
 ReadsBehind word.Event d rest after = (line : Line) × IsEvent rest line × Plans d line after
-ReadsBehind word.Start d rest after = (line : Line) × (IsStart rest line ⊎ IsFreeStart rest line) × Plans d line after
+ReadsBehind word.Start d rest after = (line : Line) × (IsStart rest line ⊎ IsFreeStart rest line)
+    × Plans d line after
 
 -- what the lines so far give goes on to what they give with this one
 pub data Reads (d : Draft) : List ℕ → Draft → Type 0 where
   empty : Reads d [] d
   remark : (text : List ℕ) → Reads d (codes ";" ++ text) d
-  says : (w : Word) (rest : List ℕ) (after : Draft) → ReadsBehind w d rest after → Reads d (parted (spelled w) rest) after
+  says : (w : Word) (rest : List ℕ) (after : Draft) → ReadsBehind w d rest after
+      → Reads d (parted (spelled w) rest) after
 
 -- no line goes on from here by this one
 abbrev pub Baffles : Draft → List ℕ → Type 0
@@ -136,15 +145,25 @@ Baffles d line = (after : Draft) → Reads d line after → ⊥
 -- the lines from the n-th give this, or one of this number is the first without a reading
 pub data Comes : ℕ → Draft → List (List ℕ) → Result Draft ℕ → Type 0 where
   whole : (n : ℕ) (d : Draft) → Comes n d [] (Ok d)
-  more : (n : ℕ) (d next : Draft) (line : List ℕ) (lines : List (List ℕ)) (end : Result Draft ℕ) → Reads d line next
+  more : (n : ℕ) (d next : Draft) (line : List ℕ) (lines : List (List ℕ)) (end : Result Draft ℕ)
+      → Reads d line next
       → Comes (n + 1) next lines end → Comes n d (line ∷ lines) end
-  stops : (n : ℕ) (d : Draft) (line : List ℕ) (lines : List (List ℕ)) → Baffles d line → Comes n d (line ∷ lines) (Err n)
+  stops : (n : ℕ) (d : Draft) (line : List ℕ) (lines : List (List ℕ)) → Baffles d line
+      → Comes n d (line ∷ lines) (Err n)
 
 -- ---- the plan
 
 -- no line has given anything but the version
 abbrev pub nothing : ℕ → Draft
-nothing version = record { version = version; limit = None; entries = None; until = None; random = []; scripts = []; events = [] }
+nothing version = record {
+  version = version;
+  limit = None;
+  entries = None;
+  until = None;
+  random = [];
+  scripts = [];
+  events = [];
+}
 
 abbrev pub or_default : Option ℕ → ℕ → ℕ
 or_default None default = default
@@ -176,7 +195,8 @@ IsHeaded (line ∷ lines) = (version : ℕ) × IsVersion version × (line ≡ he
 
 -- a text gives this, or its line of this number is the first without a reading
 pub data Gives (bytes : List ℕ) : Result Draft ℕ → Type 0 where
-  headed : (version : ℕ) (lines : List (List ℕ)) (end : Result Draft ℕ) → IsVersion version → lines_of bytes ≡ heading version ∷ lines
+  headed : (version : ℕ) (lines : List (List ℕ)) (end : Result Draft ℕ) → IsVersion version
+      → lines_of bytes ≡ heading version ∷ lines
       → Comes 2 (nothing version) lines end → Gives bytes end
   headless : (IsHeaded (lines_of bytes) → ⊥) → Gives bytes (Err 1)
 
@@ -192,8 +212,10 @@ IsFaulty bytes NoMemory = Unit {0}
 -- a text has one plan or one first bad line
 pub record OnePlan : Type 0 where
   pub one_plan : (bytes : List ℕ) (a b : Plan) → HasPlan bytes a → HasPlan bytes b → a ≡ b
-  pub one_fault : (bytes : List ℕ) (n m : ℕ) → IsFaulty bytes (BadLine n) → IsFaulty bytes (BadLine m) → n ≡ m
-  pub not_both : (bytes : List ℕ) (a : Plan) (n : ℕ) → HasPlan bytes a → IsFaulty bytes (BadLine n) → ⊥
+  pub one_fault : (bytes : List ℕ) (n m : ℕ) → IsFaulty bytes (BadLine n)
+      → IsFaulty bytes (BadLine m) → n ≡ m
+  pub not_both : (bytes : List ℕ) (a : Plan) (n : ℕ) → HasPlan bytes a
+      → IsFaulty bytes (BadLine n) → ⊥
 
 -- ---- what every plan keeps
 
@@ -209,8 +231,10 @@ AreListed [] = Unit {0}
 AreListed (s ∷ ss) = IsTrue (is_script_name s.name) × (is_listed s.name ss ≡ false) × AreListed ss
 
 abbrev pub IsLine : Line → Type 0
-IsLine (Event due nth label tag) = (due ≤ time_limit) × (nth ≤ greatest_nth) × IsTrue (is_label label) × IsTextual tag
-IsLine (Start due nth name tag) = (due ≤ time_limit) × (nth ≤ greatest_nth) × IsTrue (is_script_name name) × IsTextual tag
+IsLine (Event due nth label tag) = (due ≤ time_limit) × (nth ≤ greatest_nth)
+    × IsTrue (is_label label) × IsTextual tag
+IsLine (Start due nth name tag) = (due ≤ time_limit) × (nth ≤ greatest_nth)
+    × IsTrue (is_script_name name) × IsTextual tag
 IsLine (Free due name) = (due ≤ time_limit) × IsTrue (is_script_name name)
 
 -- how far a play may go: instructions an entry, entries in all, and until when

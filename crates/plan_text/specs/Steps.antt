@@ -55,7 +55,8 @@ dash_fields rest = dashed (number_field time_limit rest)
 
 -- the version whose heading this is
 unfoldable pub version_in : List ℕ → Option ℕ
-version_in line = if bytes_eq line (heading 1) then Some 1 else if bytes_eq line (heading 2) then Some 2 else None
+version_in line = if bytes_eq line (heading 1) then Some 1 else if bytes_eq line
+    (heading 2) then Some 2 else None
 
 -- the lines behind the first, of a plan of this version, give this
 abbrev pub ReadsOn : ℕ → List (List ℕ) → Draft → Type 0

@@ -71,7 +71,12 @@ pairs_few : (rounds creatures : List ℕ) → length creatures ≤ 1000 → leng
 unfolding pairs
 pairs_few [] creatures h = omega arith
 pairs_few (round ∷ rounds) creatures h =
-    omega (arith, length-append (map (λ creature. (round, creature)) creatures) (pairs rounds creatures), length-map {B = ℕ × ℕ} creatures (λ creature. (round, creature)), pairs_few rounds creatures h)
+    omega (
+      arith,
+      length-append (map (λ creature. (round, creature)) creatures) (pairs rounds creatures),
+      length-map {B = ℕ × ℕ} creatures (λ creature. (round, creature)),
+      pairs_few rounds creatures h,
+    )
 
 -- ---- an event
 
@@ -148,12 +153,19 @@ unfolding plan_text with_script
 has_plan rounds creatures few small =
     let ps : List (ℕ × ℕ) = pairs (below rounds) (below creatures) in
     let inside : AllByRecursion Inside ps = pairs_inside (below rounds) (below creatures) (all_below 0 rounds 60 (omega arith)) (all_below 0 creatures 1000 (omega arith)) in
-    let room : length ps ≤ 65536 = omega (arith, length-range_with_len 0 rounds, length-range_with_len 0 creatures, pairs_few (below rounds) (below creatures) (omega (arith, length-range_with_len 0 creatures))) in
+    let room : length ps ≤ 65536 = omega (
+      arith,
+      length-range_with_len 0 rounds,
+      length-range_with_len 0 creatures,
+      pairs_few (below rounds)
+          (below creatures) (omega (arith, length-range_with_len 0 creatures)),
+    ) in
     let lines : map line_at ps ≡ flat_map (round_lines creatures) (below rounds) = paired line_at (below creatures) (below rounds) in
     let events : map event_at ps ≡ flat_map (round_events creatures) (below rounds) = paired event_at (below creatures) (below rounds) in
     let printed : Print (flat_map (round_lines creatures) (below rounds)) = subst Print lines (lines_print ps inside) in
     let come : Comes 5 with_script (flat_map (round_lines creatures) (below rounds)) (Ok (record with_script { events = flat_map (round_events creatures) (below rounds) })) =
-    subst (λ (x : List (List ℕ) × List Line). Comes 5 with_script x.0 (Ok (record with_script { events = x.1 }))) (λ i. (lines i, events i)) (comes_events ps inside 5 with_script (omega (arith, room)))
+    subst (λ (x : List (List ℕ) × List Line). Comes 5 with_script x.0 (Ok (record with_script { events = x.1 })))
+    (λ i. (lines i, events i)) (comes_events ps inside 5 with_script (omega (arith, room)))
     in
     let given : Gives (plan_text rounds creatures) (Ok (record with_script { events = flat_map (round_events creatures) (below rounds) })) =
     headed 1 (codes "entries 1000000" ∷ codes "until 4294967295" ∷ codes "script beat" ∷ flat_map (round_lines creatures) (below rounds)) _ (inl refl)

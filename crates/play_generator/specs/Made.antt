@@ -47,7 +47,8 @@ source_lines n creatures =
     codes "ActionWait(50);" ∷
     codes "ActionDoCommand(Tell(F(n % 8)));" ∷
     codes "DelayCommand(n * 100, Tell(0 - n));" ∷
-    (codes "AssignCommand(GetObjectByTag(\"c\" + IntToString(g % " ++ decimal creatures ++ codes ")), Tell(n));") ∷
+    (codes "AssignCommand(GetObjectByTag(\"c\" + IntToString(g % " ++ decimal creatures
+    ++ codes ")), Tell(n));") ∷
     codes "}" ∷
     []
 
@@ -58,7 +59,8 @@ source_text n creatures = lines_text (source_lines n creatures)
 
 -- in a round each creature has one event, and rounds are a second apart
 abbrev pub event_line : ℕ → ℕ → List ℕ
-event_line round creature = codes "event " ++ decimal (1000 * round) ++ codes " 0 ScriptHeartbeat " ++ tag_of creature
+event_line round creature = codes "event " ++ decimal (1000 * round) ++ codes " 0 ScriptHeartbeat "
+    ++ tag_of creature
 
 -- the events of a round, by the creatures in order
 abbrev pub round_lines : ℕ → ℕ → List (List ℕ)
@@ -87,7 +89,11 @@ creature_node creature = node_from 4 (
 unfoldable pub area_tree : ℕ → PlainGff
 area_tree creatures = record {
   file_type = codes "GIT ";
-  top = node_from 4294967295 (record { label = codes "Creature List"; leaf = list_from (map creature_node (below creatures)) } ∷ []);
+  top = node_from 4294967295
+      (record {
+        label = codes "Creature List";
+        leaf = list_from (map creature_node (below creatures));
+      } ∷ []);
 }
 
 -- ---- the whole

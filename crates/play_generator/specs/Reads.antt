@@ -28,4 +28,5 @@ plan_made rounds creatures = record {
 }
 
 abbrev pub PlanIsRead : Type 0
-PlanIsRead = (n : ℕ) → n ≤ number_limit → HasPlan (play_of n).plan (plan_made (rounds_of n) (creatures_of n))
+PlanIsRead = (n : ℕ) → n ≤ number_limit
+    → HasPlan (play_of n).plan (plan_made (rounds_of n) (creatures_of n))

@@ -26,7 +26,8 @@ abbrev pub area_of_one : PlainGff
 area_of_one = record {
   file_type = codes "GIT ";
   top = Struct 4294967295 (MoreFields (codes "Creature List") (Children (MoreNodes
-      (Struct 4 (MoreFields (codes "Tag") (Holds (Str (codes "c0"))) (MoreFields (codes "ScriptHeartbeat") (Holds (Res (codes "beat"))) NoField)))
+      (Struct 4 (MoreFields (codes "Tag") (Holds (Str (codes "c0")))
+      (MoreFields (codes "ScriptHeartbeat") (Holds (Res (codes "beat"))) NoField)))
       NoNode)) NoField);
 }
 

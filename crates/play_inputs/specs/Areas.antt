@@ -29,7 +29,8 @@ pub data AreaFate : Type 0 where
 
 pub data IsAreaFate (top : PlainNode) : AreaFate → Type 0 where
   whole : broken_places top ≡ [] → IsAreaFate top Whole
-  broken : (place : Place) (others : List Place) → broken_places top ≡ place ∷ others → IsAreaFate top (Broken place)
+  broken : (place : Place) (others : List Place) → broken_places top ≡ place ∷ others
+      → IsAreaFate top (Broken place)
 
 abbrev pub area_by : List ℕ → PlainGff → AreaFate → Work PlainArea
 area_by name tree Whole = Gives (area_of tree)

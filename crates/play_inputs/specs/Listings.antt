@@ -35,14 +35,16 @@ abbrev pub playable : ScriptLine → List PlainOp → Script
 playable line ops = record { name = line.name; code = ops }
 
 unfoldable pub script_in : EngineTable → ScriptLine → Work Script
-script_in header line = then (code_by line.binary header line.name) (λ ops. makes (playable line ops))
+script_in header line = then (code_by line.binary header line.name)
+    (λ ops. makes (playable line ops))
 
 -- ---- all of them
 
 -- these are there, and those of the further lines follow
 unfoldable pub lists_on : EngineTable → List Script → List ScriptLine → Work (List Script)
 lists_on header scripts [] = Gives scripts
-lists_on header scripts (line ∷ lines) = then (script_in header line) (λ script. lists_on header (scripts ++ script ∷ []) lines)
+lists_on header scripts (line ∷ lines) = then (script_in header line)
+    (λ script. lists_on header (scripts ++ script ∷ []) lines)
 
 -- the scripts that a plan lists in these lines
 unfoldable pub scripts_listed : EngineTable → List ScriptLine → Work (List Script)
@@ -71,7 +73,8 @@ loaded_names scripts = map (λ (loaded : Loaded). loaded.name) scripts
 -- each script's table meets the rules, and stands in every table that does
 abbrev pub KeepTables : EngineTable → List Loaded → Type 0
 KeepTables header scripts =
-    AllMeet header (scripts_of scripts) (tables_of scripts) × AllStand header (scripts_of scripts) (tables_of scripts)
+    AllMeet header (scripts_of scripts) (tables_of scripts)
+    × AllStand header (scripts_of scripts) (tables_of scripts)
 
 -- ---- answers
 

@@ -15,9 +15,12 @@ use Rattle.command_work.specs.Parts.{cut_here, may_write}
 use Rattle.play_inputs.specs.Finals.{final_by, final_written}
 
 module _ (name : List ℕ) (c : Contents) (t : List ℕ) where
-  by_outcome : (outcome : Result (List ℕ) WriteFault) → Does (final_by name outcome) c t (Err Memory) c t
-  by_outcome (Ok bytes) = cut_here (writes name bytes) Memory c c t t (may_write name bytes) tt refl refl
-  by_outcome (Err (fault.Large size)) = cut_here {A = Finished} (Refused (BadArea name (flaw.Large size))) Memory c c t t tt tt refl refl
+  by_outcome : (outcome : Result (List ℕ) WriteFault)
+      → Does (final_by name outcome) c t (Err Memory) c t
+  by_outcome (Ok bytes) = cut_here (writes name bytes) Memory c c t t
+      (may_write name bytes) tt refl refl
+  by_outcome (Err (fault.Large size)) = cut_here {A = Finished}
+      (Refused (BadArea name (flaw.Large size))) Memory c c t t tt tt refl refl
   by_outcome (Err fault.NoMemory) = (refl, (refl, refl))
 
   pub final_cut : (tree : PlainGff) → Does (final_written name tree) c t (Err Memory) c t

@@ -108,7 +108,8 @@ module _ {X Y : Type 0} (R : X → Y → Type 0) (stay : EntriesStayAlike R) whe
     told = λ stops. begins_then (h.told is) (finished_tells left r r.ending);
   }
 
-  pub finish_stops : (limit : ℕ) (first : World X → World X) (second : World Y → World Y) → Rest first second → (m : Run X) (r : Run Y) → RunStops R limit m r → EntryStops R limit (finished first m) (finished second r)
+  pub finish_stops : (limit : ℕ) (first : World X → World X) (second : World Y → World Y) → Rest first second
+      → (m : Run X) (r : Run Y) → RunStops R limit m r → EntryStops R limit (finished first m) (finished second r)
   finish_stops limit first second left m r h = stops_case left limit m r m.ending refl h
 
   pub quiet_stops : (limit : ℕ) (w : World X) (v : World Y) → Alike R w v → EntryStops R limit (quiet w) (quiet v)
@@ -119,7 +120,8 @@ module _ {X Y : Type 0} (R : X → Y → Type 0) (stay : EntriesStayAlike R) whe
   module _ (P : Run X → Run Y → Type 0) (Q : Entered X → Entered Y → Type 0) (code : Runner X) (source : Runner Y) (runners : RunnersAre R P code source)
       (quiets : (w : World X) (v : World Y) → Alike R w v → Q (quiet w) (quiet v))
       (finishes : (first : World X → World X) (second : World Y → World Y) → Rest first second → (m : Run X) (r : Run Y) → P m r → Q (finished first m) (finished second r)) where
-    named_go : (o : ℕ) (name : List ℕ) (found : Option ℕ) → source.named name ≡ found → (w : World X) (v : World Y) → Alike R w v → Q (named_entry code o name found w) (named_entry source o name found v)
+    named_go : (o : ℕ) (name : List ℕ) (found : Option ℕ) → source.named name ≡ found → (w : World X) (v : World Y)
+        → Alike R w v → Q (named_entry code o name found w) (named_entry source o name found v)
     named_go o name None is w v a = quiets (no_script o name w) (no_script o name v) (stay.unlisted o name w v a)
     named_go o name (Some script) is w v a = finishes (λ u. u) (λ u. u) nothing_left (code.script script o w) (source.script script o v) (runners.script name script o w v is a)
 

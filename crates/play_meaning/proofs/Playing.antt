@@ -80,7 +80,9 @@ module _ {X Y : Type 0} (R : X → Y → Type 0) (stay : EntriesStayAlike R) (co
         let a = h (λ stops. absurd cc) in
         rest (further e p) (further f q) (further_alike e f p q a k) goes
 
-    next_ends : (go : Progress X → Played X) (on : Progress Y → Played Y) → Ends go on → (b : Option (Begun X)) (d : Option (Begun Y)) → BegunAlike R b d → (p : Progress X) (q : Progress Y) → ProgressAlike R p q
+    next_ends : (go : Progress X → Played X) (on : Progress Y → Played Y) → Ends go on
+        → (b : Option (Begun X)) (d : Option (Begun Y)) → BegunAlike R b d → (p : Progress X) (q : Progress Y)
+        → ProgressAlike R p q
         → PlayEnds R (next_entry code b p go) (next_entry source d q on)
     next_ends go on rest None None h p q k goes = ended_alike Done Done p q refl k
     next_ends go on rest (Some b) (Some d) h p q k goes =
@@ -90,7 +92,9 @@ module _ {X Y : Type 0} (R : X → Y → Type 0) (stay : EntriesStayAlike R) (co
     next_ends go on rest None (Some d) h p q k goes = absurd h
     next_ends go on rest (Some b) None h p q k goes = absurd h
 
-    turn_ends : (go : Progress X → Played X) (on : Progress Y → Played Y) → Ends go on → (is_full : Bool) (b : Option (Begun X)) (d : Option (Begun Y)) → BegunAlike R b d → (p : Progress X) (q : Progress Y) → ProgressAlike R p q
+    turn_ends : (go : Progress X → Played X) (on : Progress Y → Played Y) → Ends go on
+        → (is_full : Bool) (b : Option (Begun X)) (d : Option (Begun Y)) → BegunAlike R b d
+        → (p : Progress X) (q : Progress Y) → ProgressAlike R p q
         → PlayEnds R (if is_full then record { ending = full b; last = p } else next_entry code b p go) (if is_full then record { ending = full d; last = q } else next_entry source d q on)
     turn_ends go on rest true b d h p q k goes = ended_alike (full b) (full d) p q (full_alike b d h) k
     turn_ends go on rest false b d h p q k goes = next_ends go on rest b d h p q k goes
@@ -102,7 +106,9 @@ module _ {X Y : Type 0} (R : X → Y → Type 0) (stay : EntriesStayAlike R) (co
         let on = plays source bounds left in
         let b = begin bounds.until p.world in
         let d = begin bounds.until q.world in
-        subst (λ (t : Bool). PlayEnds R (if p.entries == bounds.entries then record { ending = full b; last = p } else next_entry code b p go) (if t then record { ending = full d; last = q } else next_entry source d q on))
+        subst (λ (t : Bool). PlayEnds R
+        (if p.entries == bounds.entries then record { ending = full b; last = p } else next_entry code b p go)
+        (if t then record { ending = full d; last = q } else next_entry source d q on))
         (ap (λ (n : ℕ). n == bounds.entries) k.entries)
         (turn_ends go on (plays_end left) (p.entries == bounds.entries) b d (stay.begins bounds.until p.world q.world k.world) p q k) goes
 
@@ -139,7 +145,9 @@ module _ {X Y : Type 0} (R : X → Y → Type 0) (stay : EntriesStayAlike R) (co
     }
 
     after_stops : (go : Progress X → Played X) (on : Progress Y → Played Y) → Stops go on → ((q : Progress Y) → IsFirstPartOf q.trace (on q).last.trace)
-        → (b : Begun X) (d : Begun Y) → EntryStops R limit (entry_entered code b) (entry_entered source d) → (p : Progress X) (q : Progress Y) → (p.entries == bounds.entries) ≡ false → begin bounds.until p.world ≡ Some b → ProgressAlike R p q
+        → (b : Begun X) (d : Begun Y) → EntryStops R limit (entry_entered code b) (entry_entered source d)
+        → (p : Progress X) (q : Progress Y) → (p.entries == bounds.entries) ≡ false
+        → begin bounds.until p.world ≡ Some b → ProgressAlike R p q
         → (stopped other : Bool) → (entry_entered code b).stopped ≡ stopped → (entry_entered source d).stopped ≡ other
         → PlayStops R code bounds limit p (after_entry stopped (further (entry_entered code b) p) go) (after_entry other (further (entry_entered source d) q) on)
     after_stops go on rest tells b d h p q unfull begins k true other is other_is =
@@ -171,9 +179,11 @@ module _ {X Y : Type 0} (R : X → Y → Type 0) (stay : EntriesStayAlike R) (co
         absurd cc
 
     next_stops : (go : Progress X → Played X) (on : Progress Y → Played Y) → Stops go on → ((q : Progress Y) → IsFirstPartOf q.trace (on q).last.trace)
-        → (b : Option (Begun X)) (d : Option (Begun Y)) → BegunAlike R b d → (p : Progress X) (q : Progress Y) → (p.entries == bounds.entries) ≡ false → begin bounds.until p.world ≡ b → ProgressAlike R p q
+        → (b : Option (Begun X)) (d : Option (Begun Y)) → BegunAlike R b d → (p : Progress X) (q : Progress Y)
+        → (p.entries == bounds.entries) ≡ false → begin bounds.until p.world ≡ b → ProgressAlike R p q
         → PlayStops R code bounds limit p (next_entry code b p go) (next_entry source d q on)
-    next_stops go on rest tells None None h p q unfull begins k = goes_on p (record { ending = Done; last = p }) (record { ending = Done; last = q }) (λ is. absurd cc) (ended_alike Done Done p q refl k)
+    next_stops go on rest tells None None h p q unfull begins k = goes_on p (record { ending = Done; last = p })
+        (record { ending = Done; last = q }) (λ is. absurd cc) (ended_alike Done Done p q refl k)
     next_stops go on rest tells (Some b) (Some d) h p q unfull begins k =
         after_stops go on rest tells b d (entries_go R stay (RunStops R limit) (EntryStops R limit) code source runners (quiet_stops R stay limit) (finish_stops R stay limit) b d h.0 h.1)
         p q unfull begins k (entry_entered code b).stopped (entry_entered source d).stopped refl refl
@@ -181,8 +191,12 @@ module _ {X Y : Type 0} (R : X → Y → Type 0) (stay : EntriesStayAlike R) (co
     next_stops go on rest tells (Some b) None h p q unfull begins k = absurd h
 
     turn_stops : (go : Progress X → Played X) (on : Progress Y → Played Y) → Stops go on → ((q : Progress Y) → IsFirstPartOf q.trace (on q).last.trace)
-        → (is_full : Bool) (b : Option (Begun X)) (d : Option (Begun Y)) → BegunAlike R b d → (p : Progress X) (q : Progress Y) → (p.entries == bounds.entries) ≡ is_full → begin bounds.until p.world ≡ b → ProgressAlike R p q
-        → PlayStops R code bounds limit p (if is_full then record { ending = full b; last = p } else next_entry code b p go) (if is_full then record { ending = full d; last = q } else next_entry source d q on)
+        → (is_full : Bool) (b : Option (Begun X)) (d : Option (Begun Y)) → BegunAlike R b d
+        → (p : Progress X) (q : Progress Y) → (p.entries == bounds.entries) ≡ is_full → begin bounds.until p.world ≡ b
+        → ProgressAlike R p q
+        → PlayStops R code bounds limit p
+        (if is_full then record { ending = full b; last = p } else next_entry code b p go)
+        (if is_full then record { ending = full d; last = q } else next_entry source d q on)
     turn_stops go on rest tells true b d h p q fullness begins k =
         goes_on p (record { ending = full b; last = p }) (record { ending = full d; last = q }) (full_goes b) (ended_alike (full b) (full d) p q (full_alike b d h) k)
     turn_stops go on rest tells false b d h p q fullness begins k = next_stops go on rest tells b d h p q fullness begins k
@@ -194,7 +208,9 @@ module _ {X Y : Type 0} (R : X → Y → Type 0) (stay : EntriesStayAlike R) (co
         let on = plays source bounds left in
         let b = begin bounds.until p.world in
         let d = begin bounds.until q.world in
-        subst (λ (t : Bool). PlayStops R code bounds limit p (if p.entries == bounds.entries then record { ending = full b; last = p } else next_entry code b p go) (if t then record { ending = full d; last = q } else next_entry source d q on))
+        subst (λ (t : Bool). PlayStops R code bounds limit p
+        (if p.entries == bounds.entries then record { ending = full b; last = p } else next_entry code b p go)
+        (if t then record { ending = full d; last = q } else next_entry source d q on))
         (ap (λ (n : ℕ). n == bounds.entries) k.entries)
         (turn_stops go on (plays_stop left) (plays_tell source bounds left) (p.entries == bounds.entries) b d (stay.begins bounds.until p.world q.world k.world) p q refl refl k)
 

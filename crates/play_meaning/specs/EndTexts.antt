@@ -21,10 +21,12 @@ deferred_name s d = listed_name (slice_get s.scripts d.script)
 
 -- the text of a play for which so many instructions were made
 abbrev pub source_end_text : Setting → ℕ → Played Deferred → List ℕ
-source_end_text s count p = end_text (deferred_name s) (record { ending = p.ending; last = record p.last { count = count } })
+source_end_text s count p = end_text (deferred_name s)
+    (record { ending = p.ending; last = record p.last { count = count } })
 
 -- The text at the end of a play of code is that of the play of source that goes with it, but for
 -- the number of instructions, which only the code has.
 abbrev pub EndTextsAgree : Type 0
-EndTextsAgree = (s : Setting) (host : MachineHost) → IsHostOf host s → (code : Played Saved) (source : Played Deferred) → PlaysAlike (Carries s) code source
+EndTextsAgree = (s : Setting) (host : MachineHost) → IsHostOf host s
+    → (code : Played Saved) (source : Played Deferred) → PlaysAlike (Carries s) code source
     → code_end_text host.scripts code ≡ source_end_text s code.last.count source

@@ -11,5 +11,6 @@ use Rattle.source_laws.specs.Executing.{script_of, IsHostOf}
 -- Where the loaded scripts are the code of a setting's texts, and the hooks look cells up in its
 -- tables, the player runs them in a machine of that setting.
 abbrev pub PlayersAreHosts : Type 0
-PlayersAreHosts = (s : Setting) (scripts : List Loaded) (hooks : List Known) → scripts_of scripts ≡ map script_of s.scripts → s.tables ≡ cells_of hooks
+PlayersAreHosts = (s : Setting) (scripts : List Loaded) (hooks : List Known)
+    → scripts_of scripts ≡ map script_of s.scripts → s.tables ≡ cells_of hooks
     → IsHostOf (host_of scripts s.table hooks) s

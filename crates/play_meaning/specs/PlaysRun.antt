@@ -22,16 +22,20 @@ use Rattle.play_meaning.specs.Together.{PlayEnds, PlayStops}
 -- told, in a world that is alike.
 abbrev pub SourcePlaysEnd : Type 0
 SourcePlaysEnd =
-    (s : Setting) (host : MachineHost) → IsHostOf host s → AnswersAreTyped s.table s.tables → AreReady s → (n limit : ℕ) (bounds : Bounds) → step_cost * n ≤ limit
+    (s : Setting) (host : MachineHost) → IsHostOf host s → AnswersAreTyped s.table s.tables
+    → AreReady s → (n limit : ℕ) (bounds : Bounds) → step_cost * n ≤ limit
     → (w : World Saved) (v : World Deferred) → Alike (Carries s) w v
-    → PlayEnds (Carries s) (play_on (code_runner host limit) bounds (unplayed w)) (play_on (runner s n) bounds (unplayed v))
+    → PlayEnds (Carries s) (play_on (code_runner host limit) bounds (unplayed w))
+    (play_on (runner s n) bounds (unplayed v))
 
 -- Where no entry of the play of code is stopped by its limit, the play of source whose entries may
 -- take as many steps ends as it does. Where one is stopped, exactly as many instructions were made
 -- in it, and the lines told are a beginning of those of the play of source.
 abbrev pub CodePlaysEnd : Type 0
 CodePlaysEnd =
-    (s : Setting) (host : MachineHost) → IsHostOf host s → AnswersAreTyped s.table s.tables → AreReady s → (limit : ℕ) (bounds : Bounds)
+    (s : Setting) (host : MachineHost) → IsHostOf host s → AnswersAreTyped s.table s.tables
+    → AreReady s → (limit : ℕ) (bounds : Bounds)
     → (w : World Saved) (v : World Deferred) → Alike (Carries s) w v
-    → PlayStops (Carries s) (code_runner host limit) bounds limit (unplayed w) (play_on (code_runner host limit) bounds (unplayed w))
+    → PlayStops (Carries s) (code_runner host limit) bounds limit (unplayed w)
+    (play_on (code_runner host limit) bounds (unplayed w))
     (play_on (runner s limit) bounds (unplayed v))

@@ -17,7 +17,8 @@ pub record IsFirstPartOf {A : Type 0} (part whole : List A) : Type 0 where
 
 -- Both runs end in the same way, in worlds that are alike, and at least one and at most 16
 -- instructions were made for each step.
-pub record RunsAlike {X Y : Type 0} (R : X → Y → Type 0) (code : Run X) (source : Run Y) : Type 0 where
+pub record RunsAlike {X Y : Type 0} (R : X → Y → Type 0) (code : Run X)
+    (source : Run Y) : Type 0 where
   pub ending : code.ending ≡ source.ending
   pub world : Alike R code.world source.world
   pub paid : source.count ≤ code.count
@@ -29,23 +30,28 @@ RunEnds R code source = (source.ending ≡ Stopped → ⊥) → RunsAlike R code
 
 -- So where the run of code isn't stopped; where it is, it has made all the instructions of its
 -- limit, and what it has told is a beginning of what the evaluation tells.
-pub record RunStops {X Y : Type 0} (R : X → Y → Type 0) (limit : ℕ) (code : Run X) (source : Run Y) : Type 0 where
+pub record RunStops {X Y : Type 0} (R : X → Y → Type 0) (limit : ℕ) (code : Run X)
+    (source : Run Y) : Type 0 where
   pub ends : (code.ending ≡ Stopped → ⊥) → RunsAlike R code source
   pub count : code.ending ≡ Stopped → code.count ≡ limit
   pub told : code.ending ≡ Stopped → IsFirstPartOf code.world.trace source.world.trace
 
 -- Two runners know the same scripts, and what they run goes together in worlds that are alike.
-pub record RunnersAre {X Y : Type 0} (R : X → Y → Type 0) (P : Run X → Run Y → Type 0) (code : Runner X) (source : Runner Y) : Type 0 where
+pub record RunnersAre {X Y : Type 0} (R : X → Y → Type 0) (P : Run X → Run Y → Type 0)
+    (code : Runner X) (source : Runner Y) : Type 0 where
   pub named : (name : List ℕ) → code.named name ≡ source.named name
-  pub script : (name : List ℕ) (script self : ℕ) (w : World X) (v : World Y) → source.named name ≡ Some script → Alike R w v
+  pub script : (name : List ℕ) (script self : ℕ) (w : World X) (v : World Y)
+      → source.named name ≡ Some script → Alike R w v
       → P (code.script script self w) (source.script script self v)
-  pub stored : (c : X) (d : Y) (self : ℕ) (w : World X) (v : World Y) → R c d → Alike R w v → P (code.stored c self w) (source.stored d self v)
+  pub stored : (c : X) (d : Y) (self : ℕ) (w : World X) (v : World Y) → R c d → Alike R w v
+      → P (code.stored c self w) (source.stored d self v)
 
 -- ---- whole plays
 
 -- Both plays end in the same way, after as many entries, with the same lines told, in worlds that
 -- are alike; and at least one and at most 16 instructions were made for each step.
-pub record PlaysAlike {X Y : Type 0} (R : X → Y → Type 0) (code : Played X) (source : Played Y) : Type 0 where
+pub record PlaysAlike {X Y : Type 0} (R : X → Y → Type 0) (code : Played X)
+    (source : Played Y) : Type 0 where
   pub ending : code.ending ≡ source.ending
   pub entries : code.last.entries ≡ source.last.entries
   pub trace : code.last.trace ≡ source.last.trace
@@ -64,7 +70,8 @@ whole entries until = record { entries = entries; until = until; stop = entries 
 -- A play that goes on from here was stopped in its last entry. Up to that one it goes as it does
 -- where it is broken off after one entry less; that entry is the one that is due next there, it was
 -- stopped, and so much was counted for it.
-pub record StoppedAt {X : Type 0} (runner : Runner X) (bounds : Bounds) (limit : ℕ) (from : Progress X) (p : Played X) : Type 0 where
+pub record StoppedAt {X : Type 0} (runner : Runner X) (bounds : Bounds) (limit : ℕ)
+    (from : Progress X) (p : Played X) : Type 0 where
   -- the entries that the play took from here on, less one
   pub less : ℕ
   pub before : Progress X
@@ -79,7 +86,8 @@ pub record StoppedAt {X : Type 0} (runner : Runner X) (bounds : Bounds) (limit :
 -- So where the play of code isn't stopped. Where it is, all the instructions that an entry may take
 -- were made in its last entry, and what it has told is a beginning of what the play of source
 -- tells.
-pub record PlayStops {X Y : Type 0} (R : X → Y → Type 0) (runner : Runner X) (bounds : Bounds) (limit : ℕ) (from : Progress X) (code : Played X) (source : Played Y) : Type 0 where
+pub record PlayStops {X Y : Type 0} (R : X → Y → Type 0) (runner : Runner X) (bounds : Bounds)
+    (limit : ℕ) (from : Progress X) (code : Played X) (source : Played Y) : Type 0 where
   pub ends : (code.ending ≡ StoppedInside → ⊥) → PlaysAlike R code source
   pub stopped : code.ending ≡ StoppedInside → StoppedAt runner bounds limit from code
   pub told : code.ending ≡ StoppedInside → IsFirstPartOf code.last.trace source.last.trace

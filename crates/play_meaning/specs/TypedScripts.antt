@@ -18,4 +18,6 @@ pub record IsTyped (table : EngineTable) (u : TypedUnit) : Type 0 where
 
 -- Where the unit of each listed script is typed, the scripts are as the laws on plays ask.
 abbrev pub TypedScriptsAreReady : Type 0
-TypedScriptsAreReady = (s : Setting) → IsTable s.table → ((script : ℕ) (l : Listed) → slice_get s.scripts script ≡ Some l → IsTyped s.table l.unit) → AreReady s
+TypedScriptsAreReady = (s : Setting) → IsTable s.table
+    → ((script : ℕ) (l : Listed) → slice_get s.scripts script ≡ Some l → IsTyped s.table l.unit)
+    → AreReady s

@@ -161,7 +161,8 @@ fewer_kept P test (x ∷ xs) ps = either (AllByRecursion P) (test x) xs (x ∷ w
 abbrev pub KeepsVariables : (List Variable → List Variable) → Type 0
 KeepsVariables change = (vars : List Variable) → AllByRecursion VariableHasRoom vars → AllByRecursion VariableHasRoom (change vars)
 
-objects_stay : (i : ℕ) (change : List Variable → List Variable) → KeepsVariables change → (os : List AreaObject) → AllByRecursion ObjectIsKept os → AllByRecursion ObjectIsKept (variables_changed_at i change os)
+objects_stay : (i : ℕ) (change : List Variable → List Variable) → KeepsVariables change → (os : List AreaObject)
+    → AllByRecursion ObjectIsKept os → AllByRecursion ObjectIsKept (variables_changed_at i change os)
 objects_stay i change keeps [] all = tt
 objects_stay zero change keeps (o ∷ os) all = (record { tag = all.0.tag; scripts = all.0.scripts; vars = keeps o.vars all.0.vars }, all.1)
 objects_stay (suc i) change keeps (o ∷ os) all = (all.0, objects_stay i change keeps os all.1)

@@ -26,12 +26,19 @@ KeptHasRoom = (w : World Saved) → WorldIsKept w → w.agenda.next < 2 ^ 64 →
 -- A play of scripts that files can hold keeps the values of its world, however it goes and ends.
 abbrev pub PlaysKeepValues : Type 0
 PlaysKeepValues =
-    (cell : CellLookup) (table : EngineTable) (scripts : List Script) (limit entries until stop taken done : ℕ) (w : World Saved)
-    → CellsAreBytes cell → IsTable table → AllByRecursion (λ (s : Script). IsCode s.code) scripts → length scripts ≤ script_limit
+    (cell : CellLookup) (table : EngineTable) (scripts : List Script)
+    (limit entries until stop taken done : ℕ) (w : World Saved)
+    → CellsAreBytes cell → IsTable table → AllByRecursion (λ (s : Script). IsCode s.code) scripts
+    → length scripts ≤ script_limit
     → WorldIsKept w
-    → WorldIsKept (code_play_on (host scripts (record { table = table; cell = cell })) limit entries until stop taken done w).last.world
+    → WorldIsKept (code_play_on
+    (host scripts (record {
+      table = table;
+      cell = cell;
+    })) limit entries until stop taken done w).last.world
 
 -- the values of a plan's world are kept, over the tree that a file stands for
 abbrev pub PlanWorldsAreKept : Type 0
 PlanWorldsAreKept = (bytes : List ℕ) (tree : PlainGff) (plan : Plan)
-    → AllByRecursion (λ (b : ℕ). b < 256) bytes → length bytes ≤ file_limit → Stands bytes tree → IsPlan plan → WorldIsKept (plan_world (area_of tree) plan)
+    → AllByRecursion (λ (b : ℕ). b < 256) bytes → length bytes ≤ file_limit → Stands bytes tree
+    → IsPlan plan → WorldIsKept (plan_world (area_of tree) plan)

@@ -199,7 +199,9 @@ captured_there s header ls c laws same parts may code is =
           let lists : ops ≡ found.loaded.code.code = one_file ops found.loaded.code.code (file_bytes found.loaded.code.code) laws.spellings file (record { code = found.code; spelled = refl }) in
           laws.fits (tables_of ls c.script) shapes (saved_of c)
           (may.stand c.script is.listed.0 shapes is.listed.1
-          (subst (λ (x : MachineScript). MeetsRules may.table x.code shapes) (sym found.is) (subst (λ t. MeetsRules t found.loaded.code.code shapes) tables (subst (λ o. MeetsRules table o shapes) lists meets))))
+          (subst (λ (x : MachineScript). MeetsRules may.table x.code shapes) (sym found.is)
+          (subst (λ t. MeetsRules t found.loaded.code.code shapes) tables
+          (subst (λ o. MeetsRules table o shapes) lists meets))))
           is.fits;
     }
 

@@ -45,7 +45,8 @@ objects_more os ts i t old new p before grown things variables form short ho ht 
 
 pub objects_end : (os : List AreaObject) (ts : List (Things Saved)) (i : ℕ) (ps : List Object) → AreObjectsOf (take i os) (take i ts) ps → length os ≤ i → length ts ≤ i
     → AreObjectsOf os ts ps
-objects_end os ts i ps before ho ht = subst (λ (l : List AreaObject). AreObjectsOf l ts ps) (take_all i os ho) (subst (λ (l : List (Things Saved)). AreObjectsOf (take i os) l ps) (take_all i ts ht) before)
+objects_end os ts i ps before ho ht = subst (λ (l : List AreaObject). AreObjectsOf l ts ps) (take_all i os ho)
+    (subst (λ (l : List (Things Saved)). AreObjectsOf (take i os) l ps) (take_all i ts ht) before)
 
 pub none_kept : AreObjectsOf [] [] []
 none_kept = record { told = record { kept = refl; variables = refl; short = refl }; form = tt }

@@ -93,7 +93,8 @@ pub tested_more : (xs : List Script) (i k : ℕ) (x : Script) (n : List ℕ) (is
     → AreNamed (drop i xs)
 tested_more xs i k x n is new t named fresh rest same =
     named_step xs i k x (subst (λ (m : List ℕ). IsTrue (is_script_name m)) t.name (subst (λ (b : Bool). IsTrue b) t.is named))
-    (subst (λ (m : List ℕ). IsTrue (list_all (λ (y : Script). not (bytes_eq m y.name)) (drop (i + 1) xs))) t.name (subst (λ (b : Bool). IsTrue b) (tested_new xs i x n is new t) fresh)) rest same t.inside t.at
+    (subst (λ (m : List ℕ). IsTrue (list_all (λ (y : Script). not (bytes_eq m y.name)) (drop (i + 1) xs))) t.name
+    (subst (λ (b : Bool). IsTrue b) (tested_new xs i x n is new t) fresh)) rest same t.inside t.at
 
 never_true : (b : Bool) → b ≡ false → IsTrue b → ⊥
 never_true true e t = absurd cc

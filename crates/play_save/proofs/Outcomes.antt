@@ -65,7 +65,8 @@ told_world p w told clock version random next entries things area = record {
   };
 }
 
-pub kept_state : (s : Parts) (header : Option (List ℕ)) (scripts : List Loaded) (file area : List ℕ) (limits : Limits) (taken done : ℕ) (w : World Saved) (objects : PlainArea) (parts : WorldParts Saved)
+pub kept_state : (s : Parts) (header : Option (List ℕ)) (scripts : List Loaded) (file area : List ℕ) (limits : Limits)
+    (taken done : ℕ) (w : World Saved) (objects : PlainArea) (parts : WorldParts Saved)
     → Laws → file ≡ area → IsKept header scripts file limits taken done (put_together objects parts) s → MayLimit limits → MayList header scripts → MayRest scripts area w
     → MayCount limits w taken done → IsArea objects → IsWorld w → put_together objects parts ≡ resting w → IsStateFor header scripts area limits taken done w s
 kept_state s header scripts file area limits taken done w objects parts laws lent kept limited listed rests counted is world same =

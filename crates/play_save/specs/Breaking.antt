@@ -41,7 +41,8 @@ BreaksFirst s fault.NoMemory = Unit {0}
 -- the sixth rule isn't kept; or it is, and the seventh isn't
 abbrev pub BreaksLast : Parts → StateFault → Type 0
 BreaksLast s (fault.Place at) = ⊥
-BreaksLast s (fault.Unfit n) = ((n ≡ 6) × (HasStates s → ⊥)) ⊎ ((n ≡ 7) × (HasStates s × (HasTurns s → ⊥)))
+BreaksLast s (fault.Unfit n) = ((n ≡ 6) × (HasStates s → ⊥))
+    ⊎ ((n ≡ 7) × (HasStates s × (HasTurns s → ⊥)))
 BreaksLast s fault.NoMemory = Unit {0}
 
 -- ---- scripts
@@ -50,7 +51,8 @@ BreaksLast s fault.NoMemory = Unit {0}
 pub record IsCheckedOf (table : EngineTable) (bytes : List ℕ) (c : CheckedCode) : Type 0 where
   pub file : IsFileOf c.code bytes
   pub meets : MeetsRules table c.code (kept_table c)
-  pub stand : (other : ShapeTable) → MeetsRules table c.code other → StoredStand (kept_table c) other
+  pub stand : (other : ShapeTable) → MeetsRules table c.code other
+      → StoredStand (kept_table c) other
 
 -- a script's part, checked; of its name only what a string holds
 pub record IsScriptOf (table : EngineTable) (part : Script) (l : Loaded) : Type 0 where
@@ -93,7 +95,8 @@ is_numbered entries n = list_any (λ (e : Entry). nat_eq n e.number) entries
 
 -- the set has one number more
 abbrev pub AddsNumber : BTreeSet ℕ → ℕ → BTreeSet ℕ → Type 0
-AddsNumber before number after = (n : ℕ) → has_number after n ≡ (nat_eq n number || has_number before n)
+AddsNumber before number after = (n : ℕ)
+    → has_number after n ≡ (nat_eq n number || has_number before n)
 
 -- the set has the numbers of these
 abbrev pub HasNumbers : BTreeSet ℕ → List Entry → Type 0
@@ -111,7 +114,8 @@ pub record IsFitting (scripts : List Loaded) (c : Captured) : Type 0 where
 
 -- under each place how many Turns the object of the number above it has
 abbrev pub CountsTurns : List ℕ → List Entry → ℕ → Type 0
-CountsTurns counts entries objects = (i : ℕ) → i < objects → slice_get counts i ≡ Some (turn_count (suc i) (map entry_of entries))
+CountsTurns counts entries objects = (i : ℕ) → i < objects
+    → slice_get counts i ≡ Some (turn_count (suc i) (map entry_of entries))
 
 -- an entry is a Turn of the object of this number, and 0 tells that it is none
 abbrev pub IsTurnOnlyOf : ℕ → Entry → Type 0
@@ -119,7 +123,9 @@ IsTurnOnlyOf object e = (i : ℕ) → is_turn_of (suc i) (entry_of e) ≡ nat_eq
 
 -- one count more, where the entry is a Turn
 abbrev pub CountsOne : List ℕ → Entry → List ℕ → Type 0
-CountsOne before e after = (i : ℕ) → slice_get after i ≡ option_map (λ (n : ℕ). if is_turn_of (suc i) (entry_of e) then suc n else n) (slice_get before i)
+CountsOne before e after = (i : ℕ)
+    → slice_get after i ≡ option_map
+    (λ (n : ℕ). if is_turn_of (suc i) (entry_of e) then suc n else n) (slice_get before i)
 
 -- ---- what a state's bytes are of
 

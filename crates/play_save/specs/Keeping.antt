@@ -19,16 +19,19 @@ use Rattle.play_save.specs.States.{IsPlayOf, HasCome}
 
 -- no captured state of an action in a world has base cells
 abbrev pub QueuesHaveValues : List (Things Saved) → Type 0
-QueuesHaveValues things = AllByRecursion (λ (t : Things Saved). AllByRecursion HasValues t.queue.actions) things
+QueuesHaveValues things = AllByRecursion
+    (λ (t : Things Saved). AllByRecursion HasValues t.queue.actions) things
 
 -- parts tell the objects of a world, with their variables in its area, and have short texts
-pub record TellObjects (objects : List AreaObject) (things : List (Things Saved)) (parts : List Object) : Type 0 where
+pub record TellObjects (objects : List AreaObject) (things : List (Things Saved))
+    (parts : List Object) : Type 0 where
   pub kept : map things_of parts ≡ things
   pub variables : map variables_of parts ≡ map (λ (o : AreaObject). o.vars) objects
   pub short : IsTrue (list_all has_short_items parts)
 
 -- and can be written
-pub record AreObjectsOf (objects : List AreaObject) (things : List (Things Saved)) (parts : List Object) : Type 0 where
+pub record AreObjectsOf (objects : List AreaObject) (things : List (Things Saved))
+    (parts : List Object) : Type 0 where
   pub told : TellObjects objects things parts
   pub form : AllByRecursion IsObject parts
 
@@ -43,7 +46,8 @@ pub record Tells (s : Parts) (w : World Saved) : Type 0 where
   pub objects : TellObjects w.area.objects w.things s.objects
 
 -- parts of a play that tell its world, and can be written
-pub record IsKept (header : Option (List ℕ)) (scripts : List Loaded) (file : List ℕ) (limits : Limits) (taken done : ℕ) (w : World Saved) (s : Parts) : Type 0 where
+pub record IsKept (header : Option (List ℕ)) (scripts : List Loaded) (file : List ℕ)
+    (limits : Limits) (taken done : ℕ) (w : World Saved) (s : Parts) : Type 0 where
   pub form : HasForm s
   pub play : IsPlayOf s header (script_parts scripts) file limits
   pub come : HasCome s taken done

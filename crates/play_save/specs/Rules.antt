@@ -119,7 +119,8 @@ pub record AreNamed (scripts : List Script) : Type 0 where
 -- no two variables of an object have one type and name, and texts that are no variables' are as
 -- long as a string may be
 pub record HasTexts (s : Parts) : Type 0 where
-  pub variables : AllByRecursion (λ (o : Object). IsDistinct same_variable (variables_of o)) s.objects
+  pub variables : AllByRecursion
+      (λ (o : Object). IsDistinct same_variable (variables_of o)) s.objects
   pub items : IsTrue (list_all has_short_items s.objects)
   pub entries : IsTrue (list_all is_short_entry s.agenda)
 
@@ -148,11 +149,13 @@ HasAgenda s = AreWaiting s.next s.clock (length s.objects) s.agenda
 pub record IsCapturedIn (s : Parts) (c : Captured) : Type 0 where
   pub script : Script
   pub listed : slice_get s.scripts c.script ≡ Some script
-  pub fits : (table : EngineTable) (ops : List PlainOp) (shapes : ShapeTable) → IsHeaderOf s.header table → IsFileOf ops script.code
+  pub fits : (table : EngineTable) (ops : List PlainOp) (shapes : ShapeTable)
+      → IsHeaderOf s.header table → IsFileOf ops script.code
       → MeetsRules table ops shapes → Fits shapes (saved_of c)
 
 pub record HasStates (s : Parts) : Type 0 where
-  pub items : AllByRecursion (λ (o : Object). AllByRecursion (ItemHolds (IsCapturedIn s)) o.items) s.objects
+  pub items : AllByRecursion
+      (λ (o : Object). AllByRecursion (ItemHolds (IsCapturedIn s)) o.items) s.objects
   pub entries : AllByRecursion (λ (e : Entry). KindHolds (IsCapturedIn s) e.kind) s.agenda
 
 -- ---- 7: Turns
@@ -165,7 +168,8 @@ pub record IsSettledBy (turns : ℕ) (o : Object) : Type 0 where
 
 -- so is each object, by its number
 abbrev pub AreSettled : List (AgendaEntry Saved) → List Object → Type 0
-AreSettled entries objects = (i : ℕ) (o : Object) → slice_get objects i ≡ Some o → IsSettledBy (turn_count (suc i) entries) o
+AreSettled entries objects = (i : ℕ) (o : Object) → slice_get objects i ≡ Some o
+    → IsSettledBy (turn_count (suc i) entries) o
 
 abbrev pub HasTurns : Parts → Type 0
 HasTurns s = AreSettled (entries_of s) s.objects

@@ -82,7 +82,8 @@ pub record MayCount (limits : Limits) (w : World Saved) (taken done : ℕ) : Typ
 -- ---- what a state says of a play
 
 -- what a play is of: its header and scripts, its area as it was first read, and its limits
-pub record IsPlayOf (s : Parts) (text : Option (List ℕ)) (listed : List Script) (file : List ℕ) (limits : Limits) : Type 0 where
+pub record IsPlayOf (s : Parts) (text : Option (List ℕ)) (listed : List Script) (file : List ℕ)
+    (limits : Limits) : Type 0 where
   pub header : s.header ≡ text
   pub scripts : s.scripts ≡ listed
   pub area : s.area ≡ file
@@ -97,7 +98,8 @@ pub record HasCome (s : Parts) (entries instructions : ℕ) : Type 0 where
 
 -- a state of a play of these scripts that rests in this world: it can be written, a play can go on
 -- from it, and it tells the very world, without the lines that it keeps
-pub record IsStateFor (header : Option (List ℕ)) (scripts : List Loaded) (file : List ℕ) (limits : Limits) (taken done : ℕ) (w : World Saved) (s : Parts) : Type 0 where
+pub record IsStateFor (header : Option (List ℕ)) (scripts : List Loaded) (file : List ℕ)
+    (limits : Limits) (taken done : ℕ) (w : World Saved) (s : Parts) : Type 0 where
   pub form : HasForm s
   pub accepted : IsAccepted s
   pub play : IsPlayOf s header (script_parts scripts) file limits
@@ -112,7 +114,8 @@ IsWrittenState Is bytes = (s : Parts) × Is s × (StateOf bytes s × (length byt
 
 -- a state that is so has this many bytes, more than a file may have; or memory ran out
 abbrev pub IsLargeState : (Parts → Type 0) → SaveFault → Type 0
-IsLargeState Is (unsaved.Large size) = (s : Parts) × Is s × ((file_limit < length (parts_bytes s)) × (size ≡ length (parts_bytes s)))
+IsLargeState Is (unsaved.Large size) = (s : Parts) × Is s
+    × ((file_limit < length (parts_bytes s)) × (size ≡ length (parts_bytes s)))
 IsLargeState Is unsaved.NoMemory = Unit {0}
 
 -- ---- refusals

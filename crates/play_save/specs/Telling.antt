@@ -48,12 +48,17 @@ number_row n = number 1 n.version ∷ number 8 n.limit ∷ number 8 n.entries �
 
 -- in front of the random numbers
 abbrev pub front_fields : Option (List ℕ) → List Script → List ℕ → Numbers → Fields
-front_fields header scripts file n = magic ∷ (maybe_fields blob_fields header ++ (list_of script_fields scripts ++ (blob_fields file ++ number_row n)))
+front_fields header scripts file n = magic ∷
+    (maybe_fields blob_fields header
+    ++ (list_of script_fields scripts ++ (blob_fields file ++ number_row n)))
 
 -- from there on
-abbrev pub back_fields : List ℕ → List AreaObject → List (Things Saved) → List (Entry Saved) → Fields
+abbrev pub back_fields : List ℕ → List AreaObject → List (Things Saved) → List (Entry Saved)
+    → Fields
 back_fields random objects things entries =
-    list_of (number_fields 4) random ++ (list_of object_fields (object_parts objects things) ++ list_of entry_fields (map entry_part entries))
+    list_of (number_fields 4) random
+    ++ (list_of object_fields (object_parts objects things)
+    ++ list_of entry_fields (map entry_part entries))
 
 -- ---- that they can be written, and tell the play
 
@@ -67,14 +72,16 @@ pub record FitNumbers (n : Numbers) : Type 0 where
   pub done : IsNumber 8 n.done
   pub next : IsNumber 8 n.next
 
-pub record IsFrontTold (heading : Option (List ℕ)) (listed : List Loaded) (bytes : List ℕ) (n : Numbers) : Type 0 where
+pub record IsFrontTold (heading : Option (List ℕ)) (listed : List Loaded) (bytes : List ℕ)
+    (n : Numbers) : Type 0 where
   pub header : IsMaybe IsBlob heading
   pub code : AllByRecursion (λ (l : Loaded). IsCode l.code.code) listed
   pub scripts : IsList IsScript (script_parts listed)
   pub file : IsBlob bytes
   pub numbers : FitNumbers n
 
-pub record IsBackTold (left : List ℕ) (placed : List AreaObject) (things : List (Things Saved)) (waiting : List (Entry Saved)) : Type 0 where
+pub record IsBackTold (left : List ℕ) (placed : List AreaObject) (things : List (Things Saved))
+    (waiting : List (Entry Saved)) : Type 0 where
   pub random : IsList (IsNumber 4) left
   pub few_objects : IsNumber 4 (length (object_parts placed things))
   pub objects : AreObjectsOf placed things (object_parts placed things)
@@ -82,7 +89,8 @@ pub record IsBackTold (left : List ℕ) (placed : List AreaObject) (things : Lis
   pub entries : ArePartsOf entry_of IsEntry is_short_entry waiting (map entry_part waiting)
 
 pub record IsTold (p : Resting) : Type 0 where
-  pub front : IsFrontTold (option_map (λ text. text.items) p.header.now) p.scripts.now p.file.now p.numbers
+  pub front : IsFrontTold (option_map
+      (λ text. text.items) p.header.now) p.scripts.now p.file.now p.numbers
   pub back : IsBackTold p.random.now p.area.now.objects p.things.now p.entries.now
 
 -- these are its parts

@@ -58,7 +58,8 @@ pub record KeepsObjects (area : PlainArea) : Type 0 where
 
 -- the world of a play of these scripts between two of its entries, whose area is that of these
 -- bytes
-pub record Rests (table : EngineTable) (scripts : List Script) (area : List ℕ) (w : World Saved) : Type 0 where
+pub record Rests (table : EngineTable) (scripts : List Script) (area : List ℕ)
+    (w : World Saved) : Type 0 where
   pub file : IsAreaOf w.area.tree area
   pub blob : IsBlob area
   pub kept : KeepsObjects w.area
@@ -71,7 +72,8 @@ pub record Rests (table : EngineTable) (scripts : List Script) (area : List ℕ)
   pub fit : (tables : Tables) → AllMeet table scripts tables → StatesFit scripts tables w
 
 -- A state of a play. It can be written where it is no larger than a file may be.
-pub record StateOfPlay (header : Option (List ℕ)) (scripts : List Script) (area : List ℕ) (limits : Limits) (taken done : ℕ) (w : World Saved) : Type 0 where
+pub record StateOfPlay (header : Option (List ℕ)) (scripts : List Script) (area : List ℕ)
+    (limits : Limits) (taken done : ℕ) (w : World Saved) : Type 0 where
   pub state : Parts
   pub form : length (parts_bytes state) ≤ file_limit → HasForm state
   pub accepted : IsAccepted state
@@ -82,5 +84,7 @@ pub record StateOfPlay (header : Option (List ℕ)) (scripts : List Script) (are
 -- There is one of each play that rests in a world which has room in a state.
 abbrev pub PlaysHaveStates : Type 0
 PlaysHaveStates =
-    (header : Option (List ℕ)) (scripts : List Script) (area : List ℕ) (limits : Limits) (taken done : ℕ) (w : World Saved) (listed : AreListed header scripts)
-    → Rests listed.table scripts area w → MayLimit limits → MayCount limits w taken done → HasRoom w → StateOfPlay header scripts area limits taken done w
+    (header : Option (List ℕ)) (scripts : List Script) (area : List ℕ) (limits : Limits)
+    (taken done : ℕ) (w : World Saved) (listed : AreListed header scripts)
+    → Rests listed.table scripts area w → MayLimit limits → MayCount limits w taken done → HasRoom w
+    → StateOfPlay header scripts area limits taken done w

@@ -48,7 +48,11 @@ module _ (puts : PutKeepsDistinct) (filters : FilterKeepsDistinct) (scripts : Li
   begun_posts None name target f s = omega arith
   begun_posts (Some script) name target f s = on (nat_lt (length s.waiting) waiting_limit)
     where
-      on : (b : Bool) → PostsOne s.world (if b then record s { running = started script target; waiting = f ∷ s.waiting } else record s { running = f; world = (host scripts e).too_deep target name s.world }).world
+      on : (b : Bool) → PostsOne s.world
+          (if b then record s { running = started script target; waiting = f ∷ s.waiting } else record s {
+            running = f;
+            world = (host scripts e).too_deep target name s.world;
+          }).world
       on true = omega arith
       on false = omega arith
 
@@ -234,5 +238,6 @@ module _ (puts : PutKeepsDistinct) (filters : FilterKeepsDistinct) (scripts : Li
 
 pub plays_count_few : PutKeepsDistinct → FilterKeepsDistinct → PlaysCountFew
 plays_count_few puts filters cell table scripts limits stop taken done w =
-    let few = plays_few puts filters scripts (record { table = table; cell = cell }) limits.0 (record { entries = limits.1; until = limits.2; stop = stop }) (stop - taken) (played_before taken done w) in
+    let few = plays_few puts filters scripts (record { table = table; cell = cell }) limits.0
+    (record { entries = limits.1; until = limits.2; stop = stop }) (stop - taken) (played_before taken done w) in
     (few.count, few.posts)

@@ -17,7 +17,8 @@ more_if : (b : Bool) (first object count : ℕ) → nat_eq first object ≡ b �
 more_if true first object count is most none = let same : first ≡ object = eqb-true first object is in omega (arith, same, none (omega (arith, same)))
 more_if false first object count is most none = most
 
-pub one_more : PutCounts ℕ → (first due number : ℕ) (es now : List (Entry ℕ)) → AreTurning first es → now ≡ put_entry (record { due = due; number = number; kind = Turn first }) es → AreTurning (first + 1) now
+pub one_more : PutCounts ℕ → (first due number : ℕ) (es now : List (Entry ℕ)) → AreTurning first es
+    → now ≡ put_entry (record { due = due; number = number; kind = Turn first }) es → AreTurning (first + 1) now
 one_more counts first due number es now h is =
     let e : Entry ℕ = record { due = due; number = number; kind = Turn first } in
     record {

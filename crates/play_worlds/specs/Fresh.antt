@@ -22,4 +22,5 @@ pub record IsFresh (area : PlainArea) (w : World Saved) : Type 0 where
   pub due : IsDueBy time_limit w
 
 abbrev pub PlanWorldsAreFresh : Type 0
-PlanWorldsAreFresh = (area : PlainArea) (plan : Plan) → IsPlan plan → IsFresh area (plan_world area plan)
+PlanWorldsAreFresh = (area : PlainArea) (plan : Plan) → IsPlan plan
+    → IsFresh area (plan_world area plan)

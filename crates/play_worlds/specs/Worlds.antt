@@ -41,8 +41,16 @@ script_at area label (suc o) = script_named label (object area (suc o)).scripts
 -- and an object, or none.
 abbrev pub begun_by : PlainArea → Line → Planned
 begun_by area (Event due nth label tag) =
-    let o = object_named area nth tag in record { due = due; object = o; script = text_name (script_at area label o) }
-begun_by area (Start due nth name tag) = record { due = due; object = object_named area nth tag; script = name }
+    let o = object_named area nth tag in record {
+      due = due;
+      object = o;
+      script = text_name (script_at area label o);
+    }
+begun_by area (Start due nth name tag) = record {
+  due = due;
+  object = object_named area nth tag;
+  script = name;
+}
 begun_by area (Free due name) = record { due = due; object = 0; script = name }
 
 -- the world of an area and a plan

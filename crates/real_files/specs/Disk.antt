@@ -118,8 +118,10 @@ pub record SameKind (before after : Names) : Type 0 where
 -- every other name has the bytes and the mode that it had
 pub record SameOthers (before after : Names) (name : List ℕ) : Type 0 where
   pub kind : SameKind before after
-  pub files : (other : List ℕ) → other ≢ name → map.get after.files other ≡ map.get before.files other
-  pub modes : (other : List ℕ) → other ≢ name → map.get after.modes other ≡ map.get before.modes other
+  pub files : (other : List ℕ) → other ≢ name
+      → map.get after.files other ≡ map.get before.files other
+  pub modes : (other : List ℕ) → other ≢ name
+      → map.get after.modes other ≡ map.get before.modes other
 
 -- the file of this name has this mode, if one is asked for, and where files have modes
 abbrev pub HasMode : Names → List ℕ → Option ℕ → Type 0
@@ -128,13 +130,17 @@ HasMode names name (Some mode) = names.has_modes ≡ true → map.get names.mode
 
 -- what a name itself is, links not followed
 abbrev pub IsThing : Names → List ℕ → Thing → Type 0
-IsThing names name thing.Nothing = (map.get names.links name ≡ None) × ((map.get names.files name ≡ None) × (map.get names.modes name ≡ None))
-IsThing names name (thing.File mode) = (map.get names.links name ≡ None) × (map.get names.modes name ≡ Some mode)
+IsThing names name thing.Nothing = (map.get names.links name ≡ None)
+    × ((map.get names.files name ≡ None) × (map.get names.modes name ≡ None))
+IsThing names name (thing.File mode) = (map.get names.links name ≡ None)
+    × (map.get names.modes name ≡ Some mode)
 IsThing names name (thing.Link text) = map.get names.links name ≡ Some text.items
-IsThing names name thing.Other = (map.get names.links name ≡ None) × ((map.get names.modes name ≡ None) × (names.fixed name ≡ true))
+IsThing names name thing.Other = (map.get names.links name ≡ None)
+    × ((map.get names.modes name ≡ None) × (names.fixed name ≡ true))
 
 -- a file of a name that wasn't there, whose bytes the disk has if they are to last
-pub record MakesWhole (before after : Names) (new : List ℕ) (like : Option ℕ) (bytes : List ℕ) (lasting : Bool) : Type 0 where
+pub record MakesWhole (before after : Names) (new : List ℕ) (like : Option ℕ) (bytes : List ℕ)
+    (lasting : Bool) : Type 0 where
   pub was_none : map.get before.files new ≡ None
   pub files : after.files ≡ map.insert before.files new bytes
   pub mode : HasMode after new like
@@ -151,7 +157,8 @@ pub record MakesPart (before after : Names) (new : List ℕ) : Type 0 where
 abbrev pub Makes : Names → Names → (new name : List ℕ) → Option ℕ → List ℕ → Bool → Made → Type 0
 Makes before after new name like bytes lasting made.Whole = MakesWhole before after new like bytes lasting
 Makes before after new name like bytes lasting made.Taken = after ≡ before
-Makes before after new name like bytes lasting made.Closed = (after ≡ before) × (before.fixed name ≡ true)
+Makes before after new name like bytes lasting made.Closed = (after ≡ before)
+    × (before.fixed name ≡ true)
 Makes before after new name like bytes lasting (made.Refused why) = after ≡ before
 Makes before after new name like bytes lasting (made.Broken why) = MakesPart before after new
 
@@ -163,8 +170,10 @@ pub record Renames (before after : Names) (from to : List ℕ) : Type 0 where
   pub mode : map.get after.modes to ≡ map.get before.modes from
   pub written : after.written to ≡ before.written from
   pub gone : from ≢ to → map.get after.files from ≡ None
-  pub files : (other : List ℕ) → other ≢ from → other ≢ to → map.get after.files other ≡ map.get before.files other
-  pub modes : (other : List ℕ) → other ≢ from → other ≢ to → map.get after.modes other ≡ map.get before.modes other
+  pub files : (other : List ℕ) → other ≢ from → other ≢ to
+      → map.get after.files other ≡ map.get before.files other
+  pub modes : (other : List ℕ) → other ≢ from → other ≢ to
+      → map.get after.modes other ≡ map.get before.modes other
 
 abbrev pub Moves : Names → Names → (from to : List ℕ) → Moved → Type 0
 Moves before after from to moved.Done = Renames before after from to
@@ -178,7 +187,8 @@ pub record Removes (before after : Names) (name : List ℕ) : Type 0 where
 
 -- the name may have other bytes, and every name has its mode and every other name what it had
 pub record WritesPart (before after : Names) (name : List ℕ) : Type 0 where
-  pub files : (other : List ℕ) → other ≢ name → map.get after.files other ≡ map.get before.files other
+  pub files : (other : List ℕ) → other ≢ name
+      → map.get after.files other ≡ map.get before.files other
   pub modes : after.modes ≡ before.modes
   pub kind : SameKind before after
 
@@ -198,17 +208,21 @@ pub record Syncs (before after : Names) (name : List ℕ) : Type 0 where
 -- the old bytes or the new ones, whole, but for what can't be replaced
 abbrev pub StaysWhole : Names → Names → (place bytes : List ℕ) → Type 0
 StaysWhole before after place bytes =
-    (before.fixed place ≡ true) ⊎ ((map.get after.files place ≡ map.get before.files place) ⊎ (map.get after.files place ≡ Some bytes))
+    (before.fixed place ≡ true)
+    ⊎ ((map.get after.files place ≡ map.get before.files place)
+    ⊎ (map.get after.files place ≡ Some bytes))
 
 -- the mode that a file has, where files have modes
 abbrev pub KeepsMode : Names → Names → (place : List ℕ) → Type 0
 KeepsMode before after place =
-    (mode : ℕ) → map.get before.modes place ≡ Some mode → before.has_modes ≡ true → map.get after.modes place ≡ Some mode
+    (mode : ℕ) → map.get before.modes place ≡ Some mode → before.has_modes ≡ true
+    → map.get after.modes place ≡ Some mode
 
 -- a file that may not be written has the bytes that it had
 abbrev pub KeepsForbidden : Names → Names → (place : List ℕ) → Type 0
 KeepsForbidden before after place =
-    (mode : ℕ) → map.get before.modes place ≡ Some mode → before.writable place ≡ false → map.get after.files place ≡ map.get before.files place
+    (mode : ℕ) → map.get before.modes place ≡ Some mode → before.writable place ≡ false
+    → map.get after.files place ≡ map.get before.files place
 
 -- whether the disk is to have a file before the program goes on: all but compiled scripts, which the
 -- next compile makes again, and of which there are many
@@ -218,4 +232,5 @@ is_lasting name = not (ends_with nat_eq name (codes ".ncs"))
 -- the disk has a file that is to last, with its name, but for what can't be replaced
 abbrev pub Lasts : Names → Names → (place : List ℕ) → Type 0
 Lasts before after place =
-    before.fixed place ≡ false → is_lasting place ≡ true → (after.written place ≡ true) × (after.listed place ≡ true)
+    before.fixed place ≡ false → is_lasting place ≡ true
+    → (after.written place ≡ true) × (after.listed place ≡ true)

@@ -16,7 +16,8 @@ new_name number name = beside name (decimal number ++ own_ending)
 -- Where the bytes are to go that are written at this place: into what is there and can't be
 -- replaced, or over a regular file of this mode, or over nothing.
 abbrev pub IsPlace : Names → (place : List ℕ) → Place → Type 0
-IsPlace names place (Into at) = (string_bytes at ≡ place) × ((map.get names.modes place ≡ None) × (names.fixed place ≡ true))
+IsPlace names place (Into at) = (string_bytes at ≡ place)
+    × ((map.get names.modes place ≡ None) × (names.fixed place ≡ true))
 IsPlace names place (Over at like) = (string_bytes at ≡ place) × (map.get names.modes place ≡ like)
 
 -- the name has the bytes and its mode, and every other name what it had
@@ -49,18 +50,21 @@ pub record LeavesOne (before after : Names) (name : List ℕ) : Type 0 where
 abbrev pub WritesWhole : Names → Names → (name bytes : List ℕ) → Wrote → Type 0
 WritesWhole before after name bytes wrote.Whole = ReplacesFor before after name bytes
 WritesWhole before after name bytes wrote.Taken = after ≡ before
-WritesWhole before after name bytes wrote.Fixed = KeepsAll before after name × (before.fixed name ≡ true)
+WritesWhole before after name bytes wrote.Fixed = KeepsAll before after name
+    × (before.fixed name ≡ true)
 WritesWhole before after name bytes (wrote.Refused why) = KeepsAll before after name
 WritesWhole before after name bytes (wrote.Left why) = LeavesOne before after name
 
 -- what came of a write whose new file was to be removed: that one is gone, or else nothing changed
 abbrev pub GivesUp : Names → Names → (new : List ℕ) → (outcome result : Wrote) → Type 0
 GivesUp before after new outcome result =
-    ((result ≡ outcome) × Removes before after new) ⊎ ((why : Failure) × ((result ≡ wrote.Left why) × (after ≡ before)))
+    ((result ≡ outcome) × Removes before after new)
+    ⊎ ((why : Failure) × ((result ≡ wrote.Left why) × (after ≡ before)))
 
 -- what a write leaves that failed: of the other names only new ones of its own have changed
 pub record FallsShort (before after : Names) (place bytes : List ℕ) : Type 0 where
   pub kind : SameKind before after
   pub whole : StaysWhole before after place bytes
   pub mode : KeepsMode before after place
-  pub others : (other : List ℕ) → other ≢ place → is_own_name other ≡ false → map.get after.files other ≡ map.get before.files other
+  pub others : (other : List ℕ) → other ≢ place → is_own_name other ≡ false
+      → map.get after.files other ≡ map.get before.files other

@@ -50,7 +50,9 @@ copied_back old put now n kept is = ap (λ (k : ℕ). take k now) is ∙ kept
 pub one_more : (old top now : List Cell) (k : ℕ) (cell : Cell) → now ≡ old ++ take k top → k < length top → cell ≡ get_or top k cell
     → now ++ cell ∷ [] ≡ old ++ take (k + 1) top
 one_more old top now k cell is less here =
-    ap (λ (t : List Cell). t ++ cell ∷ []) is ∙ append_assoc old (take k top) (cell ∷ []) ∙ ap (λ (t : List Cell). old ++ t) (ap (λ (c : Cell). take k top ++ c ∷ []) here ∙ sym (take_more top k cell less))
+    ap (λ (t : List Cell). t ++ cell ∷ []) is ∙ append_assoc old (take k top) (cell ∷ [])
+    ∙ ap (λ (t : List Cell). old ++ t)
+    (ap (λ (c : Cell). take k top ++ c ∷ []) here ∙ sym (take_more top k cell less))
 
 pub front : (old more : List Cell) → take (length old) (old ++ more) ≡ old
 front old more = take_at old more (length old) refl

@@ -37,4 +37,7 @@ captured script place globals locals stack =
 -- the stack of a resumed state: the locals over a base cell over the globals, and BP at the base
 -- cell
 abbrev pub resumed : Saved → StackView
-resumed saved = record { cells = reverse saved.locals ++ Base 0 ∷ reverse saved.globals; bp = length saved.globals }
+resumed saved = record {
+  cells = reverse saved.locals ++ Base 0 ∷ reverse saved.globals;
+  bp = length saved.globals;
+}

@@ -25,7 +25,8 @@ flat (part ∷ parts) = part.cells ++ flat parts
 -- each piece knows how many cells lie beneath it, where so many lie beneath the first
 abbrev pub AreStacked : ℕ → List Part → Type 0
 AreStacked beneath [] = Unit {0}
-AreStacked beneath (part ∷ parts) = (part.start ≡ beneath) × AreStacked (beneath + length part.cells) parts
+AreStacked beneath (part ∷ parts) = (part.start ≡ beneath)
+    × AreStacked (beneath + length part.cells) parts
 
 -- the cell at a place of the list is in piece k
 pub record IsInPiece (place k : ℕ) (parts : List Part) : Type 0 where
@@ -51,4 +52,5 @@ pub record IsTopWithRoom (k : ℕ) (parts : List Part) : Type 0 where
 
 -- the last page has no room for more cells
 abbrev pub IsFull : List Part → Type 0
-IsFull parts = (k : ℕ) (part : Part) → k + 1 ≡ length parts → part ≡ get_or parts k part → page_limit ≤ length part.cells
+IsFull parts = (k : ℕ) (part : Part) → k + 1 ≡ length parts → part ≡ get_or parts k part
+    → page_limit ≤ length part.cells

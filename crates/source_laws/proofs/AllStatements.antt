@@ -95,4 +95,5 @@ statements_run tested s host x tables execute fs caller most result a listed h =
 
 pub engine_statements_run : EqualityIsTested → EngineStatementsRun
 engine_statements_run tested s host x tables execute fs caller most result a listed engine_runs captures executes h =
-    stmt_does host (Carries s) tested x listed tables execute fs caller most result CallsEngine (engine_runs_in host (Carries s) tested x listed tables execute fs caller most engine_runs captures executes) a h
+    stmt_does host (Carries s) tested x listed tables execute fs caller most result CallsEngine
+    (engine_runs_in host (Carries s) tested x listed tables execute fs caller most engine_runs captures executes) a h

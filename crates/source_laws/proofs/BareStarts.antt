@@ -157,15 +157,20 @@ bare_mains tested stand s host start script self waiting l p w same is listed en
     let body = (functions_run tested s host x s.tables execute fs listed engine_runs (captures_are_carried s host s.tables execute script self waiting l same is) executes plain.placed (suc m)).0
     f plain.main plain.is [] (ap (parameter_types x) (sym plain.parameters)) (globals_made (without_variables q)) (omega arith) K [] 19 [] [] 15 1 (omega arith) in
     let void_body = subst (λ (t : Ty). Sim host R (HasResult R x t) (result_place R x t 19 [] [] []) m 15
-    (at x (x.places f) (pushed_all [] (pushed (start_parts (cell_types x.layout.structs t)) ([] ++ K.under))) (19 ∷ []) [] w) (λ v. 1) (calls d fs (suc m) f [] (globals_made (without_variables q)))) plain.result body in
-    let own_body = subst (λ (e : Running). Sim host R (HasResult R x Void) (result_place R x Void 19 [] [] []) m 15 s1 (λ v. 1) (calls e fs (suc m) f [] (globals_made (without_variables q)))) same_running void_body in (
+    (at x (x.places f) (pushed_all [] (pushed (start_parts (cell_types x.layout.structs t)) ([] ++ K.under)))
+    (19 ∷ []) [] w) (λ v. 1) (calls d fs (suc m) f [] (globals_made (without_variables q)))) plain.result body in
+    let own_body = subst (λ (e : Running). Sim host R (HasResult R x Void) (result_place R x Void 19 [] [] []) m 15 s1
+    (λ v. 1) (calls e fs (suc m) f [] (globals_made (without_variables q)))) same_running void_body in (
       s1,
       goes,
       subst (λ o. Sim host R B there m 15 s1 (λ v. 1) (bind o (λ parts r. Gives [] r))) (sym (plain_started c u f q names plain.begins))
-          (sim_bind host R (HasResult R x Void) (result_place R x Void 19 [] [] []) B there m 15 s1 (λ v. 1) (λ v. 1) (calls c fs (suc m) f [] (globals_made (without_variables q))) (λ parts r. Gives [] r) own_body
+          (sim_bind host R (HasResult R x Void) (result_place R x Void 19 [] [] []) B there m 15 s1 (λ v. 1) (λ v. 1)
+          (calls c fs (suc m) f [] (globals_made (without_variables q))) (λ parts r. Gives [] r) own_body
           (λ v r h less. (
             (h.1.machine, h.1.alike),
-            subst (λ t. Took host r.left 1 (result_place R x Void 19 [] [] [] v r h) r.left 1 t) (come_back host R x none bottom v r h) (took_none host r.left 1 (result_place R x Void 19 [] [] [] v r h)),
+            subst (λ t. Took host r.left 1 (result_place R x Void 19 [] [] [] v r h) r.left 1 t)
+                (come_back host R x none bottom v r h)
+                (took_none host r.left 1 (result_place R x Void 19 [] [] [] v r h)),
           ))),
     ))
 
@@ -239,7 +244,8 @@ bare_conditions tested stand s host start script self waiting l p w same is list
           let body = (functions_run tested s host x s.tables execute fs listed engine_runs (captures_are_carried s host s.tables execute script self waiting l same is) executes plain.placed (suc m)).0
           f plain.main plain.is [] (ap (parameter_types x) (sym plain.parameters)) r (omega (arith, less)) h.0 [] 21 [] [] 30 4 (omega arith) in
           let int_body = subst (λ (t : Ty). Sim host R (HasResult R x t) (result_place R x t 21 [] [] []) r.left 30
-          (at x (x.places f) (pushed_all [] (pushed (start_parts (cell_types x.layout.structs t)) ([] ++ h.0.under))) (21 ∷ []) [] h.0.machine) (λ v. 4) (calls d fs (suc m) f [] r)) plain.result body in
+          (at x (x.places f) (pushed_all [] (pushed (start_parts (cell_types x.layout.structs t)) ([] ++ h.0.under)))
+          (21 ∷ []) [] h.0.machine) (λ v. 4) (calls d fs (suc m) f [] r)) plain.result body in
           subst (λ (e : Running). Sim host R H back r.left 30 (ready_place host R x bottom f v r h.0) (λ v. 4) (calls e fs (suc m) f [] r)) same_running int_body))
           (λ v r h less.
           let empty = no_cell h.1.under (h.1.under_size ∙ bottom) in

@@ -50,7 +50,9 @@ taken_value t v cells go result h k =
 taken_case : (b : Bool) (p : Param) (ps : List Param) (v : List Value) (vs : List (List Value)) (cells : List Cell) (pending : List Saved) → is_action p.ty ≡ b
     → (if b then action_count ps + 1 else action_count ps) ≡ 0
     → all_types (v ∷ vs) ≡ single_types (if b then parameter_types ps else p.ty ∷ parameter_types ps)
-    → (action_count ps ≡ 0 → all_types vs ≡ single_types (parameter_types ps) → taken ps (pushed_all vs cells) pending ≡ Some (record { values = all_parts vs; action = None; cells = cells; pending = pending }))
+    → (action_count ps ≡ 0 → all_types vs ≡ single_types (parameter_types ps)
+    → taken ps (pushed_all vs cells) pending
+    ≡ Some (record { values = all_parts vs; action = None; cells = cells; pending = pending }))
     → (if b then action_taken pending (λ rest. taken ps (pushed v (pushed_all vs cells)) rest) else value_taken p.ty (pushed v (pushed_all vs cells)) (λ rest. taken ps rest pending))
     ≡ Some (record { values = v ++ all_parts vs; action = None; cells = cells; pending = pending })
 taken_case true p ps v vs cells pending is none types next = absurd (omega arith)
@@ -66,7 +68,8 @@ taken_values [] [] cells pending none types = refl
 taken_values [] (v ∷ vs) cells pending none types = absurd cc
 taken_values (p ∷ ps) [] cells pending none types = absurd (no_value p ps (is_action p.ty) none types)
   where
-    no_value : (p : Param) (ps : List Param) (b : Bool) → (if b then action_count ps + 1 else action_count ps) ≡ 0 → all_types [] ≡ single_types (if b then parameter_types ps else p.ty ∷ parameter_types ps) → ⊥
+    no_value : (p : Param) (ps : List Param) (b : Bool) → (if b then action_count ps + 1 else action_count ps) ≡ 0
+        → all_types [] ≡ single_types (if b then parameter_types ps else p.ty ∷ parameter_types ps) → ⊥
     no_value p ps true none types = omega arith
     no_value p ps false none types = absurd cc
 taken_values (p ∷ ps) (v ∷ vs) cells pending none types = taken_case (is_action p.ty) p ps v vs cells pending refl none types (λ n t. taken_values ps vs cells pending n t)
@@ -110,7 +113,9 @@ abbrev pub ValuesAreValues : TypedExprs → Type 0
 ValuesAreValues no_typed = Unit {0}
 ValuesAreValues (more_typed e es) = (is_captured e ≡ false → is_action (type_of e) ≡ false) × ValuesAreValues es
 
-constants_fit : (structs : Structs) (ks : List Const) (ps : List Param) → map const_type ks ≡ map (λ (p : Param). p.ty) ps → AreSingle structs ps → constant_types ks ≡ single_types (parameter_types ps)
+constants_fit : (structs : Structs) (ks : List Const) (ps : List Param)
+    → map const_type ks ≡ map (λ (p : Param). p.ty) ps → AreSingle structs ps
+    → constant_types ks ≡ single_types (parameter_types ps)
 constants_fit structs [] [] same single = refl
 constants_fit structs [] (p ∷ ps) same single = absurd cc
 constants_fit structs (k ∷ ks) [] same single = absurd cc

@@ -24,7 +24,9 @@ use Rattle.source_laws.proofs.Places.{above_globals}
 module _ (script : ℕ) (u : TypedUnit) (self : ℕ) (waiting : List Frame) (other : ℕ) (others : List Frame) where
   -- what is fine in a script is so whatever object it runs as, and whatever waits for it
   mutual
-    fine_elsewhere : (table : EngineTable) (fs : List Function) (scope : List ℕ) (e : TypedExpr) → IsFine table fs (unit_site script u self waiting) scope e → IsFine table fs (unit_site script u other others) scope e
+    fine_elsewhere : (table : EngineTable) (fs : List Function) (scope : List ℕ) (e : TypedExpr)
+        → IsFine table fs (unit_site script u self waiting) scope e
+        → IsFine table fs (unit_site script u other others) scope e
     fine_elsewhere table fs scope (literal k) h = h
     fine_elsewhere table fs scope (name t (Local n)) h = h
     fine_elsewhere table fs scope (name t (Global n)) h = h
@@ -36,12 +38,16 @@ module _ (script : ℕ) (u : TypedUnit) (self : ℕ) (waiting : List Frame) (oth
     fine_elsewhere table fs scope (binary t o d e) h = (fine_elsewhere table fs scope d h.0, fine_elsewhere table fs scope e h.1, h.2)
     fine_elsewhere table fs scope (assign t o d e) h = (fine_elsewhere table fs scope d h.0, fine_elsewhere table fs scope e h.1, h.2, h.3)
 
-    all_elsewhere : (table : EngineTable) (fs : List Function) (scope : List ℕ) (es : TypedExprs) → AreFine table fs (unit_site script u self waiting) scope es → AreFine table fs (unit_site script u other others) scope es
+    all_elsewhere : (table : EngineTable) (fs : List Function) (scope : List ℕ) (es : TypedExprs)
+        → AreFine table fs (unit_site script u self waiting) scope es
+        → AreFine table fs (unit_site script u other others) scope es
     all_elsewhere table fs scope no_typed h = tt
     all_elsewhere table fs scope (more_typed e es) h = (fine_elsewhere table fs scope e h.0, record { made = h.1.made; value = h.1.value }, all_elsewhere table fs scope es h.2)
 
   -- variables that stand on cells stand there, with other cells on top
-  vars_elsewhere : (scope : List ℕ) (cells more : List Cell) (variables : Variables) → Vars (unit_site script u self waiting) scope cells variables → Vars (unit_site script u other others) scope (more ++ cells) variables
+  vars_elsewhere : (scope : List ℕ) (cells more : List Cell) (variables : Variables)
+      → Vars (unit_site script u self waiting) scope cells variables
+      → Vars (unit_site script u other others) scope (more ++ cells) variables
   vars_elsewhere scope cells more variables v = record { value = λ n i. stands_over cells more _ (variables n) (v.value n i); typed = v.typed; apart = v.apart }
 
 pub captures_are_carried : CapturesAreCarried
@@ -58,7 +64,9 @@ captures_are_carried s host tables execute script self waiting l same is scope s
     let whole = above_globals temps K.frame between K.under in
     let long = ap length whole in
     let parts = length-append (temps ++ (K.frame ++ between)) K.under in
-    let beneath : cells_beneath x.bp cells ≡ K.under = ap (drop (length cells - x.bp)) whole ∙ drop_at (temps ++ (K.frame ++ between)) K.under (length cells - x.bp) (omega (arith, long, parts, under)) in
+    let beneath : cells_beneath x.bp cells
+    ≡ K.under = ap (drop (length cells - x.bp)) whole
+    ∙ drop_at (temps ++ (K.frame ++ between)) K.under (length cells - x.bp) (omega (arith, long, parts, under)) in
     let bottom : take x.layout.globals (cells_beneath x.bp cells) ≡ K.under = ap (take x.layout.globals) beneath ∙ take_all x.layout.globals K.under (omega (arith, under, full)) in
     let globals_are : reverse (reverse (take x.layout.globals (cells_beneath x.bp cells))) ≡ K.under = reverse-reverse (take x.layout.globals (cells_beneath x.bp cells)) ∙ bottom in
     let count : length (reverse (take depth cells)) ≡ depth = length-reverse (take depth cells) ∙ ap length top ∙ size_is in

@@ -156,16 +156,25 @@ module _ (host : MachineHost) (R : Saved → Deferred → Type 0) (tested : Equa
   abbrev HasDefaults : List ℕ → ℕ → List Const → List (List Value) → Progress → Type 0
   HasDefaults scope size ks vs p = (all_types vs ≡ constant_types ks) × Kept R x scope size p.globals p.locals p.world
 
-  abbrev defaults_place : (scope : List ℕ) (size : ℕ) (ks : List Const) → ℕ → List Cell → List Cell → List ℕ → List Saved → (vs : List (List Value)) (p : Progress) → HasDefaults scope size ks vs p → Machine
+  abbrev defaults_place : (scope : List ℕ) (size : ℕ) (ks : List Const) → ℕ → List Cell → List Cell → List ℕ
+      → List Saved → (vs : List (List Value)) (p : Progress) → HasDefaults scope size ks vs p → Machine
   defaults_place scope size ks next base between calls pending vs p h = spot_at R x next (pushed_all vs base) between calls pending h.1
 
-  pub defaults_run : (ks : List Const) (scope : List ℕ) (size place c : ℕ) (p : Progress) (K : Kept R x scope size p.globals p.locals p.world) (base between : List Cell) (calls : List ℕ) (pending : List Saved)
+  pub defaults_run : (ks : List Const) (scope : List ℕ) (size place c : ℕ) (p : Progress)
+      (K : Kept R x scope size p.globals p.locals p.world) (base between : List Cell) (calls : List ℕ)
+      (pending : List Saved)
       → LinesStand x.code x.places place (constants ks)
-      → Sim host R (HasDefaults scope size ks) (defaults_place scope size ks (place + lines_size (constants ks)) base between calls pending) p.left c (spot_at R x place base between calls pending K) (λ vs. spare_defaults ks c) (defaults x.self ks p)
+      → Sim host R (HasDefaults scope size ks)
+      (defaults_place scope size ks (place + lines_size (constants ks)) base between calls pending) p.left c
+      (spot_at R x place base between calls pending K) (λ vs. spare_defaults ks c) (defaults x.self ks p)
   unfolding spare_defaults
   defaults_run [] scope size place c p K base between calls pending stands =
-      let same : place ≡ place + 0 = omega arith in
-      ((refl, K), subst (λ k. Took host p.left c (spot_at R x place base between calls pending K) p.left c (spot_at R x k base between calls pending K)) same (took_none host p.left c (spot_at R x place base between calls pending K)))
+      let same : place ≡ place + 0 = omega arith in (
+        (refl, K),
+        subst (λ k. Took host p.left c (spot_at R x place base between calls pending K) p.left c
+            (spot_at R x k base between calls pending K)) same
+            (took_none host p.left c (spot_at R x place base between calls pending K)),
+      )
   defaults_run (k ∷ ks) scope size place c p K base between calls pending stands =
       let first = constants ks in
       let last = constant k ∷ [] in
@@ -173,18 +182,26 @@ module _ (host : MachineHost) (R : Saved → Deferred → Type 0) (tested : Equa
       let middle = place + lines_size first in
       let next = place + lines_size (first ++ last) in
       let goes : middle + op_size (ops.Const (literal_of k)) ≡ next = let h = sizes first last in omega (arith, h) in
-      sim_bind host R (HasDefaults scope size ks) (defaults_place scope size ks middle base between calls pending) (HasDefaults scope size (k ∷ ks)) (defaults_place scope size (k ∷ ks) next base between calls pending)
-      p.left c (spot_at R x place base between calls pending K) (λ vs. spare_defaults ks c) (λ vs. suc (spare_defaults ks c)) (defaults x.self ks p) (λ vs q. spend q (λ r. Gives ((constant_value x.self k ∷ []) ∷ vs) r))
+      sim_bind host R (HasDefaults scope size ks) (defaults_place scope size ks middle base between calls pending)
+      (HasDefaults scope size (k ∷ ks)) (defaults_place scope size (k ∷ ks) next base between calls pending)
+      p.left c (spot_at R x place base between calls pending K) (λ vs. spare_defaults ks c)
+      (λ vs. suc (spare_defaults ks c)) (defaults x.self ks p)
+      (λ vs q. spend q (λ r. Gives ((constant_value x.self k ∷ []) ∷ vs) r))
       (defaults_run ks scope size place c p K base between calls pending b.0)
       (λ vs q h less.
       let L = h.1 in
       let s = spot_at R x middle (pushed_all vs base) between calls pending L in
       let t = spot_at R x next (Holds (constant_value x.self k) ∷ pushed_all vs base) between calls pending L in
-      sim_paid host R (HasDefaults scope size (k ∷ ks)) (defaults_place scope size (k ∷ ks) next base between calls pending) (spare_defaults ks c) s (λ vs. suc (spare_defaults ks c)) q (λ r. Gives ((constant_value x.self k ∷ []) ∷ vs) r) L.alike
+      sim_paid host R (HasDefaults scope size (k ∷ ks))
+      (defaults_place scope size (k ∷ ks) next base between calls pending) (spare_defaults ks c) s
+      (λ vs. suc (spare_defaults ks c)) q (λ r. Gives ((constant_value x.self k ∷ []) ∷ vs) r) L.alike
       (λ m left. (
         t,
         constant_goes host x listed middle next k (pushed_all vs base ++ (L.frame ++ (between ++ L.under))) calls pending L.machine b.1.0 goes,
-        ((ap (λ ts. ts ∷ all_types vs) (constant_alone k x.self) ∙ ap (λ ts. (const_type k ∷ []) ∷ ts) h.0, L), took_less host (suc (spare_defaults ks c)) (omega arith) (took_none host m (15 + spare_defaults ks c) t)),
+        (
+          (ap (λ ts. ts ∷ all_types vs) (constant_alone k x.self) ∙ ap (λ ts. (const_type k ∷ []) ∷ ts) h.0, L),
+          took_less host (suc (spare_defaults ks c)) (omega arith) (took_none host m (15 + spare_defaults ks c) t),
+        ),
       )))
 
   -- ---- states that are captured
@@ -192,10 +209,13 @@ module _ (host : MachineHost) (R : Saved → Deferred → Type 0) (tested : Equa
   all_held : (cells : List Cell) → AreHeld cells → (v : List Value) × (values_on (length cells) cells ≡ Some v)
   all_held cells h = let v = held_values cells [] h in (v.0, ap (values_on (length cells)) (sym (append-nil cells)) ∙ v.1)
 
-  store_goes : {scope : List ℕ} {size : ℕ} {globals locals : Variables} {world : World Deferred} (place depth : ℕ) (temps between : List Cell) (calls : List ℕ) (pending : List Saved) (K : Kept R x scope size globals locals world)
+  store_goes : {scope : List ℕ} {size : ℕ} {globals locals : Variables} {world : World Deferred} (place depth : ℕ)
+      (temps between : List Cell) (calls : List ℕ) (pending : List Saved) (K : Kept R x scope size globals locals world)
       → op_at x.code place ≡ Some (ops.StoreState (bytes_of x.layout.globals) (bytes_of depth)) → length temps + size ≡ depth → AreHeld temps → x.layout.globals ≡ x.bp
       → step host (spot_at R x place temps between calls pending K)
-      ≡ Some (Goes (spot_at R x (place + 10) temps between calls (captured x.script (resume_place place) x.layout.globals depth (record { cells = temps ++ (K.frame ++ (between ++ K.under)); bp = x.bp }) ∷ pending) K))
+      ≡ Some (Goes (spot_at R x (place + 10) temps between calls
+      (captured x.script (resume_place place) x.layout.globals depth
+      (record { cells = temps ++ (K.frame ++ (between ++ K.under)); bp = x.bp }) ∷ pending) K))
   unfolding act
   store_goes place depth temps between calls pending K begins deep held full =
       let cells = temps ++ (K.frame ++ (between ++ K.under)) in
@@ -210,19 +230,25 @@ module _ (host : MachineHost) (R : Saved → Deferred → Type 0) (tested : Equa
       let above : length (temps ++ (K.frame ++ between)) ≡ length cells - x.bp = omega (arith, long, parts, under) in
       let beneath : cells_beneath x.bp cells ≡ K.under = ap (drop (length cells - x.bp)) whole ∙ drop_at (temps ++ (K.frame ++ between)) K.under (length cells - x.bp) above in
       let globals = all_held K.under K.under_held in
-      let globals_there : values_on x.layout.globals (cells_beneath x.bp cells) ≡ Some globals.0 = ap (values_on x.layout.globals) beneath ∙ ap (λ k. values_on k K.under) (full ∙ sym under) ∙ globals.1 in
+      let globals_there : values_on x.layout.globals (cells_beneath x.bp cells)
+      ≡ Some globals.0 = ap (values_on x.layout.globals) beneath ∙ ap (λ k. values_on k K.under) (full ∙ sym under)
+      ∙ globals.1 in
       let top = held_values (temps ++ K.frame) (between ++ K.under) (held_over temps K.frame held K.frame_held) in
       let frame = K.frame_size in
       let count = length-append temps K.frame in
       let size_is : depth ≡ length (temps ++ K.frame) = omega (arith, deep, frame, count) in
-      let locals_there : values_on depth cells ≡ Some top.0 = ap (values_on depth) (sym (append_assoc temps K.frame (between ++ K.under))) ∙ ap (λ k. values_on k ((temps ++ K.frame) ++ (between ++ K.under))) size_is ∙ top.1 in
+      let locals_there : values_on depth cells
+      ≡ Some top.0 = ap (values_on depth) (sym (append_assoc temps K.frame (between ++ K.under)))
+      ∙ ap (λ k. values_on k ((temps ++ K.frame) ++ (between ++ K.under))) size_is ∙ top.1 in
       let kept : stored_cells x.layout.globals depth f ≡ Some saved =
       ap (λ (b : Bool). if b then option_and_then (λ _. option_map (λ _. saved) (values_on depth cells)) (values_on x.layout.globals (cells_beneath x.bp cells)) else None) reached
       ∙ ap (option_and_then (λ _. option_map (λ _. saved) (values_on depth cells))) globals_there
       ∙ ap (option_map (λ _. saved)) locals_there in
       let next = at x (place + 10) cells calls (saved ∷ pending) K.machine in
       let act_is : stored (bytes_of x.layout.globals) (bytes_of depth) f ≡ Some (Moves next.running) =
-      ap (option_and_then (λ g. option_and_then (λ l. option_map (λ s. Moves (record f { place = place + 10; pending = s ∷ pending })) (stored_cells g l f)) (cell_count (bytes_of depth)))) (count_of x.layout.globals)
+      ap (option_and_then (λ g. option_and_then
+      (λ l. option_map (λ s. Moves (record f { place = place + 10; pending = s ∷ pending })) (stored_cells g l f))
+      (cell_count (bytes_of depth)))) (count_of x.layout.globals)
       ∙ ap (option_and_then (λ l. option_map (λ s. Moves (record f { place = place + 10; pending = s ∷ pending })) (stored_cells x.layout.globals l f))) (count_of depth)
       ∙ ap (option_map (λ s. Moves (record f { place = place + 10; pending = s ∷ pending }))) kept in
       acted host x listed place (ops.StoreState (bytes_of x.layout.globals) (bytes_of depth)) cells calls pending K.machine (Moves next.running) begins act_is
@@ -244,13 +270,16 @@ module _ (host : MachineHost) (R : Saved → Deferred → Type 0) (tested : Equa
     pub none : actions_in es ≡ 0 → (b.action ≡ a.action) × (now ≡ pending)
     pub one : actions_in es ≡ 1 → Captured pending now b.action
 
-  abbrev arguments_place : (scope : List ℕ) (size : ℕ) (es : TypedExprs) (a : Arguments) → ℕ → List Cell → List Cell → List ℕ → (pending : List Saved) → (b : Arguments) (q : Progress) → HasArguments scope size es a pending b q → Machine
+  abbrev arguments_place : (scope : List ℕ) (size : ℕ) (es : TypedExprs) (a : Arguments) → ℕ → List Cell → List Cell
+      → List ℕ → (pending : List Saved) → (b : Arguments) (q : Progress) → HasArguments scope size es a pending b q
+      → Machine
   arguments_place scope size es a next base between calls pending b q h = spot_at R x next (pushed_all b.values base) between calls h.now h.kept
 
   abbrev ArgumentsRun : TypedExprs → Type 0
   ArgumentsRun es =
       (scope : List ℕ) (size n depth place c : ℕ) (a : Arguments) (p : Progress) (K : Kept R x scope size p.globals p.locals p.world) (base between : List Cell) (calls : List ℕ) (pending : List Saved)
-      → AreFine host.table functions x scope es → LinesStand x.code x.places place (emit_all x.layout n depth es) → length (pushed_all a.values base) + size ≡ depth → p.left ≤ most → AreHeld base → actions_in es ≤ 1
+      → AreFine host.table functions x scope es → LinesStand x.code x.places place (emit_all x.layout n depth es)
+      → length (pushed_all a.values base) + size ≡ depth → p.left ≤ most → AreHeld base → actions_in es ≤ 1
       → Sim host R (HasArguments scope size es a pending) (arguments_place scope size es a (place + lines_size (emit_all x.layout n depth es)) base between calls pending)
       p.left c (spot_at R x place (pushed_all a.values base) between calls pending K) (λ b. spare es c) (evals here caller scope es a p)
 
@@ -264,8 +293,11 @@ module _ (host : MachineHost) (R : Saved → Deferred → Type 0) (tested : Equa
       )
 
   -- one argument more, behind the others
-  value_case : (e : TypedExpr) (es : TypedExprs) (a b : Arguments) (pending : List Saved) (scope : List ℕ) (size label depth place next c : ℕ) (q : Progress) (h : HasArguments scope size es a pending b q)
-      (base between : List Cell) (calls : List ℕ) → Runs e → is_captured e ≡ false → IsFine host.table functions x scope e → LinesStand x.code x.places place (emit x.layout label depth e) → place + lines_size (emit x.layout label depth e) ≡ next
+  value_case : (e : TypedExpr) (es : TypedExprs) (a b : Arguments) (pending : List Saved) (scope : List ℕ)
+      (size label depth place next c : ℕ) (q : Progress) (h : HasArguments scope size es a pending b q)
+      (base between : List Cell) (calls : List ℕ) → Runs e → is_captured e ≡ false
+      → IsFine host.table functions x scope e → LinesStand x.code x.places place (emit x.layout label depth e)
+      → place + lines_size (emit x.layout label depth e) ≡ next
       → length (pushed_all b.values base) + size ≡ depth → q.left ≤ most → AreHeld base
       → Sim host R (HasArguments scope size (more_typed e es) a pending) (arguments_place scope size (more_typed e es) a next base between calls pending)
       q.left c (spot_at R x place (pushed_all b.values base) between calls h.now h.kept) (λ d. suc c) (argument here scope false e (λ r. eval here caller scope e r) b q)
@@ -285,17 +317,25 @@ module _ (host : MachineHost) (R : Saved → Deferred → Type 0) (tested : Equa
           none = λ is. h.none (counts 0 is);
           one = λ is. h.one (counts 1 is);
         },
-        subst (λ j. Took host r.left (8 + c) (spot_at R x (place + lines_size (emit x.layout label depth e)) (pushed v (pushed_all b.values base)) between calls h.now k.1) r.left (suc c) (spot_at R x j (pushed v (pushed_all b.values base)) between calls h.now k.1)) goes
-            (took_less host (suc c) (omega arith) (took_none host r.left (8 + c) (spot_at R x (place + lines_size (emit x.layout label depth e)) (pushed v (pushed_all b.values base)) between calls h.now k.1))),
+        subst (λ j. Took host r.left (8 + c)
+            (spot_at R x (place + lines_size (emit x.layout label depth e))
+            (pushed v (pushed_all b.values base)) between calls h.now k.1) r.left (suc c)
+            (spot_at R x j (pushed v (pushed_all b.values base)) between calls h.now k.1)) goes
+            (took_less host (suc c) (omega arith)
+            (took_none host r.left (8 + c)
+            (spot_at R x (place + lines_size (emit x.layout label depth e))
+            (pushed v (pushed_all b.values base)) between calls h.now k.1))),
       ))
     where
       no_more : (n : ℕ) → n ≡ 0 + n
       no_more n = omega arith
 
   -- an action is captured, and its code is jumped over
-  action_case : (e : TypedExpr) (es : TypedExprs) (a b : Arguments) (pending : List Saved) (scope : List ℕ) (size label here_label depth place next c : ℕ) (q : Progress) (h : HasArguments scope size es a pending b q)
+  action_case : (e : TypedExpr) (es : TypedExprs) (a b : Arguments) (pending : List Saved) (scope : List ℕ)
+      (size label here_label depth place next c : ℕ) (q : Progress) (h : HasArguments scope size es a pending b q)
       (base between : List Cell) (calls : List ℕ) → CapturesCarry host R x tables execute functions → is_captured e ≡ true → IsFine host.table functions x scope e → x.layout.globals ≡ x.bp
-      → LinesStand x.code x.places place (argument_code x.layout here_label depth true (emit x.layout label depth e)) → place + lines_size (argument_code x.layout here_label depth true (emit x.layout label depth e)) ≡ next
+      → LinesStand x.code x.places place (argument_code x.layout here_label depth true (emit x.layout label depth e))
+      → place + lines_size (argument_code x.layout here_label depth true (emit x.layout label depth e)) ≡ next
       → length (pushed_all b.values base) + size ≡ depth → AreHeld base → actions_in (more_typed e es) ≤ 1
       → Sim host R (HasArguments scope size (more_typed e es) a pending) (arguments_place scope size (more_typed e es) a next base between calls pending)
       q.left c (spot_at R x place (pushed_all b.values base) between calls h.now h.kept) (λ d. suc c) (argument here scope true e (λ r. eval here caller scope e r) b q)
@@ -348,8 +388,11 @@ module _ (host : MachineHost) (R : Saved → Deferred → Type 0) (tested : Equa
   EachRuns no_typed = Unit {0}
   EachRuns (more_typed e es) = (is_captured e ≡ false → Runs e) × EachRuns es
 
-  argument_case : (t : Bool) (e : TypedExpr) (es : TypedExprs) (a b : Arguments) (pending : List Saved) (scope : List ℕ) (size first second depth place next c : ℕ) (q : Progress) (h : HasArguments scope size es a pending b q)
-      (base between : List Cell) (calls : List ℕ) → CapturesCarry host R x tables execute functions → (is_captured e ≡ false → Runs e) → is_captured e ≡ t → IsFine host.table functions x scope e → IsArgument x e
+  argument_case : (t : Bool) (e : TypedExpr) (es : TypedExprs) (a b : Arguments) (pending : List Saved) (scope : List ℕ)
+      (size first second depth place next c : ℕ) (q : Progress) (h : HasArguments scope size es a pending b q)
+      (base between : List Cell) (calls : List ℕ) → CapturesCarry host R x tables execute functions
+      → (is_captured e ≡ false → Runs e) → is_captured e ≡ t → IsFine host.table functions x scope e
+      → IsArgument x e
       → LinesStand x.code x.places place (argument_code x.layout first depth t (emit x.layout (second + argument_labels t) depth e))
       → place + lines_size (argument_code x.layout first depth t (emit x.layout (second + argument_labels t) depth e)) ≡ next
       → length (pushed_all b.values base) + size ≡ depth → q.left ≤ most → AreHeld base → actions_in (more_typed e es) ≤ 1
@@ -377,7 +420,9 @@ module _ (host : MachineHost) (R : Saved → Deferred → Type 0) (tested : Equa
       let goes : middle + lines_size code ≡ next = let h = sizes first code in omega (arith, h) in
       sim_bind host R (HasArguments scope size es a pending) (arguments_place scope size es a middle base between calls pending)
       (HasArguments scope size (more_typed e es) a pending) (arguments_place scope size (more_typed e es) a next base between calls pending)
-      p.left c (spot_at R x place (pushed_all a.values base) between calls pending K) (λ d. spare es c) (λ d. suc (spare es c)) (evals here caller scope es a p) (λ d q. argument here scope (is_captured e) e (λ r. eval here caller scope e r) d q)
+      p.left c (spot_at R x place (pushed_all a.values base) between calls pending K) (λ d. spare es c)
+      (λ d. suc (spare es c)) (evals here caller scope es a p)
+      (λ d q. argument here scope (is_captured e) e (λ r. eval here caller scope e r) d q)
       (res scope size n depth place c a p K base between calls pending fine.2 b.0 deep le held (fewer_actions (is_captured e) (actions_in es) few))
       (λ d q h less.
       let before = all_length a.values base in
@@ -400,7 +445,9 @@ module _ (host : MachineHost) (R : Saved → Deferred → Type 0) (tested : Equa
     pub none : actions_in es ≡ 0 → (b.action ≡ None) × (now ≡ pending)
     pub one : actions_in es ≡ 1 → Captured pending now b.action
 
-  abbrev pub call_place : (scope : List ℕ) (size : ℕ) (es : TypedExprs) (ks : List Const) → ℕ → List Cell → List Cell → List ℕ → (pending : List Saved) → (b : Arguments) (q : Progress) → HasCall scope size es ks pending b q → Machine
+  abbrev pub call_place : (scope : List ℕ) (size : ℕ) (es : TypedExprs) (ks : List Const) → ℕ → List Cell → List Cell
+      → List ℕ → (pending : List Saved) → (b : Arguments) (q : Progress) → HasCall scope size es ks pending b q
+      → Machine
   call_place scope size es ks next base between calls pending b q h = spot_at R x next (pushed_all b.values base) between calls h.now h.kept
 
   abbrev pub arguments_of : List ℕ → TypedExprs → List Const → Progress → Outcome Arguments
@@ -413,7 +460,9 @@ module _ (host : MachineHost) (R : Saved → Deferred → Type 0) (tested : Equa
 
   pub call_arguments_run : (es : TypedExprs) (ks : List Const) → CapturesCarry host R x tables execute functions → EachRuns es
       → (scope : List ℕ) (size n depth place c : ℕ) (p : Progress) (K : Kept R x scope size p.globals p.locals p.world) (base between : List Cell) (calls : List ℕ) (pending : List Saved)
-      → AreFine host.table functions x scope es → LinesStand x.code x.places place (constants ks ++ emit_all x.layout n depth es) → length base + length ks + size ≡ depth → p.left ≤ most → AreHeld base → actions_in es ≤ 1
+      → AreFine host.table functions x scope es
+      → LinesStand x.code x.places place (constants ks ++ emit_all x.layout n depth es)
+      → length base + length ks + size ≡ depth → p.left ≤ most → AreHeld base → actions_in es ≤ 1
       → Sim host R (HasCall scope size es ks pending) (call_place scope size es ks (place + lines_size (constants ks ++ emit_all x.layout n depth es)) base between calls pending)
       p.left c (spot_at R x place base between calls pending K) (λ b. spare es (spare_defaults ks c)) (arguments_of scope es ks p)
   call_arguments_run es ks captures each scope size n depth place c p K base between calls pending fine stands deep le held few =
@@ -425,7 +474,9 @@ module _ (host : MachineHost) (R : Saved → Deferred → Type 0) (tested : Equa
       let goes : middle + lines_size second ≡ next = let h = sizes first second in omega (arith, h) in
       sim_bind host R (HasDefaults scope size ks) (defaults_place scope size ks middle base between calls pending)
       (HasCall scope size es ks pending) (call_place scope size es ks next base between calls pending)
-      p.left c (spot_at R x place base between calls pending K) (λ vs. spare_defaults ks c) (λ d. spare es (spare_defaults ks c)) (defaults x.self ks p) (λ vs q. evals here caller scope es (record { values = vs; action = None }) q)
+      p.left c (spot_at R x place base between calls pending K) (λ vs. spare_defaults ks c)
+      (λ d. spare es (spare_defaults ks c)) (defaults x.self ks p)
+      (λ vs q. evals here caller scope es (record { values = vs; action = None }) q)
       (defaults_run ks scope size place c p K base between calls pending b.0)
       (λ vs q h less.
       let a : Arguments = record { values = vs; action = None } in
@@ -433,11 +484,17 @@ module _ (host : MachineHost) (R : Saved → Deferred → Type 0) (tested : Equa
       let types = ap total h.0 in
       let defaults_size = constants_total ks in
       sim_map host R (HasArguments scope size es a pending) (arguments_place scope size es a (middle + lines_size second) base between calls pending)
-      (HasCall scope size es ks pending) (call_place scope size es ks next base between calls pending) q.left (spare_defaults ks c) (spot_at R x middle (pushed_all vs base) between calls pending h.1) (λ d. spare es (spare_defaults ks c)) (λ d. spare es (spare_defaults ks c)) (evals here caller scope es a q)
-      (arguments_run es captures each scope size n depth middle (spare_defaults ks c) a q h.1 base between calls pending fine b.1 (omega (arith, count, types, defaults_size, deep)) (omega (arith, less, le)) held few)
+      (HasCall scope size es ks pending) (call_place scope size es ks next base between calls pending) q.left
+      (spare_defaults ks c) (spot_at R x middle (pushed_all vs base) between calls pending h.1)
+      (λ d. spare es (spare_defaults ks c)) (λ d. spare es (spare_defaults ks c)) (evals here caller scope es a q)
+      (arguments_run es captures each scope size n depth middle
+      (spare_defaults ks c) a q h.1 base between calls pending fine b.1
+      (omega (arith, count, types, defaults_size, deep)) (omega (arith, less, le)) held few)
       (λ d r g. (
         record { types = g.types ∙ ap (types_before x.layout.structs es) h.0; kept = g.kept; now = g.now; none = g.none; one = g.one },
-        subst (λ j. Took host r.left (spare es (spare_defaults ks c)) (spot_at R x (middle + lines_size second) (pushed_all d.values base) between calls g.now g.kept) r.left (spare es (spare_defaults ks c)) (spot_at R x j (pushed_all d.values base) between calls g.now g.kept)) goes
+        subst (λ j. Took host r.left (spare es (spare_defaults ks c))
+            (spot_at R x (middle + lines_size second) (pushed_all d.values base) between calls g.now g.kept) r.left
+            (spare es (spare_defaults ks c)) (spot_at R x j (pushed_all d.values base) between calls g.now g.kept)) goes
             (took_none host r.left (spare es (spare_defaults ks c)) (spot_at R x (middle + lines_size second) (pushed_all d.values base) between calls g.now g.kept)),
       )))
 
@@ -449,7 +506,9 @@ module _ (host : MachineHost) (R : Saved → Deferred → Type 0) (tested : Equa
     alike : OptionAlike R action a.action
 
   taken_is : (params : List Param) (es : TypedExprs) (a : Arguments) (cells : List Cell) (pending now : List Saved) (n : ℕ) → actions_in es ≡ n → action_count params ≡ n → n ≤ 1
-      → all_types a.values ≡ single_types (parameter_types params) → (actions_in es ≡ 0 → (a.action ≡ None) × (now ≡ pending)) → (actions_in es ≡ 1 → Captured pending now a.action) → TakenIs params a cells pending now
+      → all_types a.values ≡ single_types (parameter_types params)
+      → (actions_in es ≡ 0 → (a.action ≡ None) × (now ≡ pending))
+      → (actions_in es ≡ 1 → Captured pending now a.action) → TakenIs params a cells pending now
   taken_is params es a cells pending now zero is count few types none one =
       let h = none is in
       record {
@@ -477,7 +536,8 @@ module _ (host : MachineHost) (R : Saved → Deferred → Type 0) (tested : Equa
 
   -- the frame behind the call, with what the engine answers on top
   answer_is : (o : Option Value) (place next : ℕ) (before cells : List Cell) (calls : List ℕ) (now pending : List Saved) (world after : World Saved)
-      → machine_answered (record { value = o; world = after }) (at x next cells calls pending world).running (at x place before calls now world) ≡ at x next (pushed (parts_in o) cells) calls pending after
+      → machine_answered (record { value = o; world = after }) (at x next cells calls pending world).running
+      (at x place before calls now world) ≡ at x next (pushed (parts_in o) cells) calls pending after
   answer_is None place next before cells calls now pending world after = refl
   answer_is (Some v) place next before cells calls now pending world after = refl
 
@@ -486,10 +546,12 @@ module _ (host : MachineHost) (R : Saved → Deferred → Type 0) (tested : Equa
   name_and_target vs h = absurd cc
 
   -- ACTION takes the arguments
-  called_is : (routine count place : ℕ) (r : Routine) (a : Arguments) (temps rest : List Cell) (calls : List ℕ) (pending now : List Saved) (world : World Saved) → slice_get host.table.routines routine ≡ Some r
+  called_is : (routine count place : ℕ) (r : Routine) (a : Arguments) (temps rest : List Cell) (calls : List ℕ)
+      (pending now : List Saved) (world : World Saved) → slice_get host.table.routines routine ≡ Some r
       → is_callable r ≡ true → count ≡ length r.params → (t : TakenIs r.params a (temps ++ rest) pending now)
       → machine_called host.table routine count (at x place (pushed_all a.values temps ++ rest) calls now world).running
-      ≡ machine_asked routine count r (at x place (pushed_all a.values temps ++ rest) calls now world).running (record { values = all_parts a.values; action = t.action; cells = temps ++ rest; pending = pending })
+      ≡ machine_asked routine count r (at x place (pushed_all a.values temps ++ rest) calls now world).running
+      (record { values = all_parts a.values; action = t.action; cells = temps ++ rest; pending = pending })
   called_is routine count place r a temps rest calls pending now world is callable same t =
       let f = (at x place (pushed_all a.values temps ++ rest) calls now world).running in
       let test : (is_callable r && (count == length r.params)) ≡ true = ap (λ (b : Bool). b && (count == length r.params)) callable ∙ (Decides-eqb count (length r.params)).1 same in
@@ -500,10 +562,15 @@ module _ (host : MachineHost) (R : Saved → Deferred → Type 0) (tested : Equa
       ∙ ap (option_and_then (machine_asked routine count r f)) took
 
   -- the instruction of a call, and what the call means
-  action_runs : (t : Ty) (routine : ℕ) (es : TypedExprs) (ks : List Const) → EngineRuns host R tables → ExecutesRun host R x execute most → (call_fine : CallsRoutine host.table x.layout.structs t routine es ks) → ValuesAreValues es
+  action_runs : (t : Ty) (routine : ℕ) (es : TypedExprs) (ks : List Const) → EngineRuns host R tables
+      → ExecutesRun host R x execute most → (call_fine : CallsRoutine host.table x.layout.structs t routine es ks)
+      → ValuesAreValues es
       → (scope : List ℕ) (size place next c : ℕ) (a : Arguments) (q : Progress) (temps between : List Cell) (calls : List ℕ) (pending : List Saved) (h : HasCall scope size es ks pending a q)
       → op_at x.code place ≡ Some (ops.Action routine (count_arguments es + length ks)) → place + 5 ≡ next → q.left ≤ most → count_arguments es + length ks ≤ c → AreHeld temps
-      → Sim host R (HoldsValue R x scope size t) (value_place R x scope size t next temps between calls pending) q.left c (spot_at R x place (pushed_all a.values temps) between calls h.now h.kept) (value_credits c) (engine_called here routine a q)
+      → Sim host R (HoldsValue R x scope size t)
+      (value_place R x scope size t next temps between calls pending) q.left c
+      (spot_at R x place (pushed_all a.values temps) between calls h.now h.kept) (value_credits c)
+      (engine_called here routine a q)
   unfolding act
   action_runs t routine es ks engine_runs executes fine values scope size place next c a q temps between calls pending h begins goes le spared held =
       let r = fine.routine in
@@ -532,7 +599,9 @@ module _ (host : MachineHost) (R : Saved → Deferred → Type 0) (tested : Equa
       let takes = acted host x listed place (ops.Action routine count) (pushed_all a.values temps ++ rest) calls h.now L.machine (Executes parts.0 parts.1 frame) begins (asks ∙ asked_is) in
       let nothing : cell_types x.layout.structs t ≡ [] = fine.result ∙ runs.1 in
       subst (λ vs. Sim host R B there q.left c s (value_credits c) (executed here vs q)) (sym parts.2)
-      (sim_map host R (HoldsValue R x scope size Void) (value_place R x scope size Void next temps between calls pending) B there q.left c s (value_credits c) (value_credits c) (execute parts.0 parts.1 q)
+      (sim_map host R (HoldsValue R x scope size Void)
+      (value_place R x scope size Void next temps between calls pending) B there q.left c s (value_credits c)
+      (value_credits c) (execute parts.0 parts.1 q)
       (executes parts.0 parts.1 scope size next c q L temps between calls pending s le (let some = some_parameter r.params runs.0 in omega (arith, some, same, spared)) refl refl held
       (takes ∙ ap (λ k. Some (Goes (machine_executed host parts.0 parts.1 (spot_at R x k temps between calls pending L).running s))) goes))
       (λ v u g. ((g.0 ∙ sym nothing, g.1), took_none host u.left (8 + c) (spot_at R x next (pushed v temps) between calls pending g.1)))))
@@ -556,7 +625,9 @@ module _ (host : MachineHost) (R : Saved → Deferred → Type 0) (tested : Equa
         local_values = L.local_values;
         alike = world_is;
       } in
-      let takes = acted host x listed place (ops.Action routine count) (pushed_all a.values temps ++ rest) calls h.now L.machine (Asks routine (all_parts a.values) t_is.action frame) begins (asks ∙ asked_is)
+      let takes = acted host x listed place (ops.Action routine count)
+      (pushed_all a.values temps ++ rest) calls h.now L.machine
+      (Asks routine (all_parts a.values) t_is.action frame) begins (asks ∙ asked_is)
       ∙ ap (λ u. Some (Goes u)) (answer_is gives.value place (place + 5) (pushed_all a.values temps ++ rest) (temps ++ rest) calls h.now pending L.machine gives.world)
       ∙ ap (λ o. Some (Goes (at x (place + 5) (pushed (parts_in o) (temps ++ rest)) calls pending gives.world))) value_is
       ∙ ap (λ k. Some (Goes (at x k (pushed (parts_in means.value) (temps ++ rest)) calls pending gives.world))) goes
@@ -574,7 +645,8 @@ module _ (host : MachineHost) (R : Saved → Deferred → Type 0) (tested : Equa
   values_are no_typed scope h = tt
   values_are (more_typed e es) scope h = (h.1.value, values_are es scope h.2)
 
-  pub engine_call_runs : (t : Ty) (routine : ℕ) (es : TypedExprs) (ks : List Const) → EngineRuns host R tables → CapturesCarry host R x tables execute functions → ExecutesRun host R x execute most → EachRuns es
+  pub engine_call_runs : (t : Ty) (routine : ℕ) (es : TypedExprs) (ks : List Const) → EngineRuns host R tables
+      → CapturesCarry host R x tables execute functions → ExecutesRun host R x execute most → EachRuns es
       → Runs (call t (Engine routine) es ks)
   engine_call_runs t routine es ks engine_runs captures executes each scope size n depth place c p K temps between calls pending fine stands deep le held =
       let within = depth + 0 + length ks in
@@ -597,7 +669,8 @@ module _ (host : MachineHost) (R : Saved → Deferred → Type 0) (tested : Equa
       (λ a q h less.
       let all = spare es (spare_defaults ks c) in
       let s = spot_at R x middle (pushed_all a.values temps) between calls h.now h.kept in
-      sim_map host R (HoldsValue R x scope size t) (value_place R x scope size t next temps between calls pending) (HoldsValue R x scope size t) (value_place R x scope size t next temps between calls pending)
+      sim_map host R (HoldsValue R x scope size t) (value_place R x scope size t next temps between calls pending)
+      (HoldsValue R x scope size t) (value_place R x scope size t next temps between calls pending)
       q.left all s (value_credits all) (value_credits c) (engine_called here routine a q)
       (action_runs t routine es ks engine_runs executes call_fine values scope size middle next all a q temps between calls pending h b.1.0 goes (omega (arith, less, le)) (let z = spare_all es ks c in omega (arith, z)) held)
       (λ v r g. (g, took_less host (8 + c) (let z = spare_more es ks c in omega (arith, z)) (took_none host r.left (8 + all) (spot_at R x next (pushed v temps) between calls pending g.1)))))

@@ -63,7 +63,8 @@ named_listed ls name i is =
 took_spare : (host : MachineHost) (n k d e : ℕ) (s : Machine) (m : ℕ) (t : Machine) → e ≤ d + k → Took host n 0 s m d t → Took host n k s m e t
 took_spare host n k d e s m t enough a = record { count = a.count; goes = a.goes; spent = a.spent; paid = a.paid; few = let x = a.few in omega (arith, x, enough) }
 
-sim_spare : (host : MachineHost) (R : Saved → Deferred → Type 0) (B : List Value → Progress → Type 0) (place : (v : List Value) (p : Progress) → B v p → Machine) (n k : ℕ) (s : Machine) (r : Outcome (List Value))
+sim_spare : (host : MachineHost) (R : Saved → Deferred → Type 0) (B : List Value → Progress → Type 0)
+    (place : (v : List Value) (p : Progress) → B v p → Machine) (n k : ℕ) (s : Machine) (r : Outcome (List Value))
     → Sim host R B place n 0 s (λ v. 1) r → Sim host R B place n k s (λ v. 1 + k) r
 sim_spare host R B place n k s (Gives v p) h = (h.0, took_spare host n k 1 (1 + k) s p.left (place v p h.0) (omega arith) h.1)
 sim_spare host R B place n k s (Divides self p) h = (h.0, took_spare host n k 1 1 s p.left h.0 (omega arith) h.1, h.2, h.3, h.4)
@@ -135,7 +136,9 @@ module _ (s : Setting) (host : MachineHost) (of : IsHostOf host s) (x : Site) (s
       sim_after host (Carries s) Holds there (value_credits c) all (took_cost host p.left c k m t (omega (arith, credit)) (goes ∙ ap (λ u. Some (Goes u)) same))
       (sim_bind host (Carries s) (IsAtLast host (Carries s) (behind ∷ x.waiting)) (last_state host (Carries s) (behind ∷ x.waiting)) Holds there
       p.left k t (λ v. 1 + k) (value_credits c) (begin script target p) (λ parts q. spend (resumed p q) (λ r. Gives [] r))
-      (sim_spare host (Carries s) (IsAtLast host (Carries s) (behind ∷ x.waiting)) (last_state host (Carries s) (behind ∷ x.waiting)) p.left k t (begin script target p) (inner kept.machine kept.alike))
+      (sim_spare host (Carries s) (IsAtLast host (Carries s) (behind ∷ x.waiting))
+      (last_state host (Carries s) (behind ∷ x.waiting)) p.left k t (begin script target p)
+      (inner kept.machine kept.alike))
       (λ v q h less.
       let K = in_worlds h.state.world q.world h.alike in
       let u = spot_at (Carries s) x next temps between calls pending K in
@@ -171,7 +174,9 @@ module _ (s : Setting) (host : MachineHost) (of : IsHostOf host s) (x : Site) (s
       let found = script_named s.scripts (b ∷ name) in
       let told : (t : Bool) → may_run x.self target p.world ≡ t
       → step host m ≡ Some (Goes (if t then machine.script_begun host (machine.script_named host.scripts (b ∷ name)) (b ∷ name) target behind m else record m { running = behind })) =
-      λ t is. goes ∙ ap (λ (d : Bool). Some (Goes (if d then machine.script_begun host (machine.script_named host.scripts (b ∷ name)) (b ∷ name) target behind m else record m { running = behind }))) (test ∙ is) in
+      λ t is. goes ∙ ap (λ (d : Bool). Some
+      (Goes (if d then machine.script_begun host (machine.script_named host.scripts (b ∷ name))
+      (b ∷ name) target behind m else record m { running = behind }))) (test ∙ is) in
       sim_chosen host (Carries s) Holds there p.left c m (value_credits c) (may_run x.self target p.world)
       (λ q. starter_begun start found (b ∷ name) target q) (λ q. spend q (λ r. Gives [] r)) p
       (λ yes. begun_case start fits found (b ∷ name) target refl

@@ -110,7 +110,12 @@ module _ (host : MachineHost) (R : Saved → Deferred → Type 0) (tested : Equa
       (λ m e. (
         spot_at R x next (Holds (constant_value x.self k) ∷ temps) between calls pending K,
         constant_goes host x listed place next k (temps ++ (K.frame ++ (between ++ K.under))) calls pending K.machine stands.0 (omega arith),
-        ((constant_typed x.layout.structs x.self k, K), took_less host (8 + c) (omega arith) (took_none host m (15 + c) (spot_at R x next (Holds (constant_value x.self k) ∷ temps) between calls pending K))),
+        (
+          (constant_typed x.layout.structs x.self k, K),
+          took_less host (8 + c) (omega arith)
+              (took_none host m (15 + c)
+              (spot_at R x next (Holds (constant_value x.self k) ∷ temps) between calls pending K)),
+        ),
       ))
 
   pub local_runs : (t : Ty) (i : ℕ) → Runs (name t (Local i))
@@ -122,7 +127,9 @@ module _ (host : MachineHost) (R : Saved → Deferred → Type 0) (tested : Equa
       c (spot_at R x place temps between calls pending K) (value_credits c) p (λ q. Gives (q.locals i) q) K.alike
       (λ m e. (
         spot_at R x next (pushed v temps) between calls pending K,
-        frame_reads host R x listed place next depth (position x.layout i) (length (cell_types x.layout.structs t)) temps between calls pending K v (K.local_values.value i fine.0) stands.0 (omega arith)
+        frame_reads host R x listed place next depth (position x.layout i)
+            (length (cell_types x.layout.structs t)) temps between calls pending K v
+            (K.local_values.value i fine.0) stands.0 (omega arith)
             (typed_length v (cell_types x.layout.structs t) typed) fine.2 deep,
         ((typed, K), took_less host (8 + c) (omega arith) (took_none host m (15 + c) (spot_at R x next (pushed v temps) between calls pending K))),
       ))
@@ -136,7 +143,9 @@ module _ (host : MachineHost) (R : Saved → Deferred → Type 0) (tested : Equa
       c (spot_at R x place temps between calls pending K) (value_credits c) p (λ q. Gives (q.globals i) q) K.alike
       (λ m e. (
         spot_at R x next (pushed v temps) between calls pending K,
-        base_reads host R x listed place next depth (position x.layout i) (length (cell_types x.layout.structs t)) temps between calls pending K v (K.global_values.value i fine.0) stands.0 (omega arith)
+        base_reads host R x listed place next depth (position x.layout i)
+            (length (cell_types x.layout.structs t)) temps between calls pending K v
+            (K.global_values.value i fine.0) stands.0 (omega arith)
             (typed_length v (cell_types x.layout.structs t) typed) fine.2 fine.3,
         ((typed, K), took_less host (8 + c) (omega arith) (took_none host m (15 + c) (spot_at R x next (pushed v temps) between calls pending K))),
       ))
@@ -163,7 +172,8 @@ module _ (host : MachineHost) (R : Saved → Deferred → Type 0) (tested : Equa
       LinesStand x.code x.places place lines
       → Sim host R (HoldsValue R x scope size t) (value_place R x scope size t (place + lines_size lines) temps between calls pending) p.left c s (value_credits c) r
 
-  by_code : (scope : List ℕ) (size place c : ℕ) (p : Progress) (t : Ty) (r : Outcome (List Value)) (temps between : List Cell) (calls : List ℕ) (pending : List Saved) (s : Machine) (lines other : List Line)
+  by_code : (scope : List ℕ) (size place c : ℕ) (p : Progress) (t : Ty) (r : Outcome (List Value))
+      (temps between : List Cell) (calls : List ℕ) (pending : List Saved) (s : Machine) (lines other : List Line)
       → lines ≡ other → CodeRuns scope size place c p t r temps between calls pending s other → CodeRuns scope size place c p t r temps between calls pending s lines
   by_code scope size place c p t r temps between calls pending s lines other e h = subst (CodeRuns scope size place c p t r temps between calls pending s) (sym e) h
 
@@ -202,10 +212,18 @@ module _ (host : MachineHost) (R : Saved → Deferred → Type 0) (tested : Equa
       c (spot_at R x place temps between calls pending K) (value_credits c) p (λ q. Gives (read_at whole.where_is count q) q) K.alike
       (λ m left.
       let q = record p { left = m } in
-      let got = spot_reads host R x listed scope size t whole.where_is whole.fine q place (place + lines_size line) depth temps between calls pending K lines.0 (goes_on place depth count (home_of x scope whole.where_is)) deep in (
+      let got = spot_reads host R x listed scope size t whole.where_is whole.fine q place
+      (place + lines_size line) depth temps between calls pending K lines.0
+      (goes_on place depth count (home_of x scope whole.where_is)) deep in (
         spot_at R x (place + lines_size line) (pushed (read_at whole.where_is count q) temps) between calls pending K,
         got.goes,
-        ((got.typed, K), took_less host (8 + c) (omega arith) (took_none host m (15 + c) (spot_at R x (place + lines_size line) (pushed (read_at whole.where_is count q) temps) between calls pending K))),
+        (
+          (got.typed, K),
+          took_less host (8 + c) (omega arith)
+              (took_none host m (15 + c)
+              (spot_at R x (place + lines_size line)
+              (pushed (read_at whole.where_is count q) temps) between calls pending K)),
+        ),
       )))
       stands))
 
@@ -231,7 +249,8 @@ module _ (host : MachineHost) (R : Saved → Deferred → Type 0) (tested : Equa
       (value_of scope e p) (λ parts q. spend q (λ r. Gives (parts_of before count parts) r))
       (r scope size n depth place c p K temps between calls pending fine.0 b.0 deep le held)
       (λ v q h less.
-      sim_paid host R (HoldsValue R x scope size t) (value_place R x scope size t next temps between calls pending) (8 + c) (spot_at R x middle (pushed v temps) between calls pending h.1) (value_credits c)
+      sim_paid host R (HoldsValue R x scope size t) (value_place R x scope size t next temps between calls pending)
+      (8 + c) (spot_at R x middle (pushed v temps) between calls pending h.1) (value_credits c)
       q (λ r. Gives (parts_of before count v) r) h.1.alike
       (λ m left. (
         spot_at R x next (pushed (parts_of before count v) temps) between calls pending h.1,
@@ -258,7 +277,9 @@ module _ (host : MachineHost) (R : Saved → Deferred → Type 0) (tested : Equa
       → ((f : Frame) → act host.table op f ≡ moved op f) → ((stack : List Cell) → cells_after op x.self (record { cells = stack; bp = x.bp }) ≡ of_int (prefixed o) stack)
       → is_division op ≡ false → ((place : ℕ) (stack : List Cell) → place_after op place stack ≡ place + op_size op)
       → (scope : List ℕ) (size n depth place c : ℕ) (p : Progress) (K : Kept R x scope size p.globals p.locals p.world) (temps between : List Cell) (calls : List ℕ) (pending : List Saved)
-      → IsFine host.table functions x scope e → type_of e ≡ IntTy → (t : Ty) → t ≡ IntTy → LinesStand x.code x.places place (emit x.layout n depth e ++ Instruction op ∷ []) → length temps + size ≡ depth → p.left ≤ most → AreHeld temps
+      → IsFine host.table functions x scope e → type_of e ≡ IntTy → (t : Ty) → t ≡ IntTy
+      → LinesStand x.code x.places place (emit x.layout n depth e ++ Instruction op ∷ [])
+      → length temps + size ≡ depth → p.left ≤ most → AreHeld temps
       → Sim host R (HoldsValue R x scope size t) (value_place R x scope size t (place + lines_size (emit x.layout n depth e ++ Instruction op ∷ [])) temps between calls pending)
       p.left c (spot_at R x place temps between calls pending K) (value_credits c) (bind (value_of scope e p) (λ parts q. spend q (λ r. Gives (one_int (prefixed o) parts) r)))
   unary_runs e o op r acts after undivided passes scope size n depth place c p K temps between calls pending fine int t is_int stands deep le held =
@@ -274,7 +295,8 @@ module _ (host : MachineHost) (R : Saved → Deferred → Type 0) (tested : Equa
       (λ v q h less.
       let ints = int_types x.layout.structs v (type_of e) int h.0 in
       let rest = h.1.frame ++ (between ++ h.1.under) in
-      sim_paid host R (HoldsValue R x scope size t) (value_place R x scope size t next temps between calls pending) (8 + c) (spot_at R x middle (pushed v temps) between calls pending h.1) (value_credits c)
+      sim_paid host R (HoldsValue R x scope size t) (value_place R x scope size t next temps between calls pending)
+      (8 + c) (spot_at R x middle (pushed v temps) between calls pending h.1) (value_credits c)
       q (λ r. Gives (one_int (prefixed o) v) r) h.1.alike
       (λ m left. (
         spot_at R x next (pushed (one_int (prefixed o) v) temps) between calls pending h.1,
@@ -290,12 +312,14 @@ module _ (host : MachineHost) (R : Saved → Deferred → Type 0) (tested : Equa
   minus_runs : (t : Ty) (e : TypedExpr) → Runs e → Runs (prefix t pre.Minus e)
   unfolding act cells_after
   minus_runs t e r scope size n depth place c p K temps between calls pending fine stands deep le held =
-      unary_runs e pre.Minus (ops.Neg 0x03) r (λ f. refl) (λ stack. refl) refl (λ at_place stack. refl) scope size n depth place c p K temps between calls pending fine.0 fine.1 t fine.2 stands deep le held
+      unary_runs e pre.Minus (ops.Neg 0x03) r (λ f. refl) (λ stack. refl) refl
+      (λ at_place stack. refl) scope size n depth place c p K temps between calls pending fine.0 fine.1 t fine.2 stands deep le held
 
   complement_runs : (t : Ty) (e : TypedExpr) → Runs e → Runs (prefix t pre.Complement e)
   unfolding act cells_after
   complement_runs t e r scope size n depth place c p K temps between calls pending fine stands deep le held =
-      unary_runs e pre.Complement ops.Comp r (λ f. refl) (λ stack. refl) refl (λ at_place stack. refl) scope size n depth place c p K temps between calls pending fine.0 fine.1 t fine.2 stands deep le held
+      unary_runs e pre.Complement ops.Comp r (λ f. refl) (λ stack. refl) refl
+      (λ at_place stack. refl) scope size n depth place c p K temps between calls pending fine.0 fine.1 t fine.2 stands deep le held
 
   not_runs : (t : Ty) (e : TypedExpr) → Runs e → Runs (prefix t pre.Not e)
   unfolding act cells_after
@@ -314,7 +338,9 @@ module _ (host : MachineHost) (R : Saved → Deferred → Type 0) (tested : Equa
 
   -- the new int is given
   count_first : (f : ℤ → ℤ) (op : ℕ → Home → PlainOp) → InFrameCounts host R x listed f op → InGlobalsCounts host R x listed f op → SixBytes op
-      → (t : Ty) (e : TypedExpr) (scope : List ℕ) (size n depth place c : ℕ) (p : Progress) (K : Kept R x scope size p.globals p.locals p.world) (temps between : List Cell) (calls : List ℕ) (pending : List Saved)
+      → (t : Ty) (e : TypedExpr) (scope : List ℕ) (size n depth place c : ℕ) (p : Progress)
+      (K : Kept R x scope size p.globals p.locals p.world) (temps between : List Cell) (calls : List ℕ)
+      (pending : List Saved)
       → is_place e ≡ true → IsFine host.table functions x scope e → type_of e ≡ IntTy → t ≡ IntTy → length temps + size ≡ depth
       → CodeRuns scope size place c p t (stepped (spot e) (one_int f) (λ old new. new) p) temps between calls pending (spot_at R x place temps between calls pending K)
       (at_home (op depth) (home x.layout e) ++ emit x.layout n depth e)
@@ -325,12 +351,16 @@ module _ (host : MachineHost) (R : Saved → Deferred → Type 0) (tested : Equa
       let of_int = subst (λ (u : Ty). IsSpot x scope u s) int found.fine in
       let code = Instruction (op depth h) ∷ Instruction (read x.layout depth 1 h) ∷ [] in
       let is = ap (λ o. at_home (op depth) o ++ emit x.layout n depth e) found.home_is
-      ∙ ap (λ ls. Instruction (op depth h) ∷ ls) (place_code x.layout n depth e h there found.home_is ∙ ap (λ (u : Ty). Instruction (read x.layout depth (length (cell_types x.layout.structs u)) h) ∷ []) int) in
+      ∙ ap (λ ls. Instruction (op depth h) ∷ ls)
+      (place_code x.layout n depth e h there found.home_is
+      ∙ ap (λ (u : Ty). Instruction (read x.layout depth (length (cell_types x.layout.structs u)) h) ∷ []) int) in
       let middle = place + op_size (op depth h) in
       let next = place + lines_size code in
       let first : place + 6 ≡ middle = ap (λ k. place + k) (sym (six depth h)) in
       let second : middle + 8 ≡ next = goes_on middle depth 1 h ∙ sums place (op_size (op depth h)) (lines_size (Instruction (read x.layout depth 1 h) ∷ [])) in
-      subst (λ o. CodeRuns scope size place c p t (stepped o (one_int f) (λ old new. new) p) temps between calls pending (spot_at R x place temps between calls pending K) (at_home (op depth) (home x.layout e) ++ emit x.layout n depth e)) (sym found.is)
+      subst (λ o. CodeRuns scope size place c p t (stepped o (one_int f) (λ old new. new) p) temps between calls pending
+      (spot_at R x place temps between calls pending K)
+      (at_home (op depth) (home x.layout e) ++ emit x.layout n depth e)) (sym found.is)
       (by_code scope size place c p t (stepped (Some s) (one_int f) (λ old new. new) p) temps between calls pending (spot_at R x place temps between calls pending K)
       (at_home (op depth) (home x.layout e) ++ emit x.layout n depth e) code is
       (λ lines. sim_paid host R (HoldsValue R x scope size t) (value_place R x scope size t next temps between calls pending) c (spot_at R x place temps between calls pending K) (value_credits c) p
@@ -348,14 +378,17 @@ module _ (host : MachineHost) (R : Saved → Deferred → Type 0) (tested : Equa
         put.goes,
         (
           (new_typed ∙ ap (cell_types x.layout.structs) (sym is_int), put.kept),
-          subst (λ k. Took host m (15 + c) (spot_at R x middle temps between calls pending put.kept) k (8 + c) (spot_at R x next (pushed new temps) between calls pending put.kept)) (sym (written_left s new q))
+          subst (λ k. Took host m (15 + c) (spot_at R x middle temps between calls pending put.kept) k (8 + c)
+              (spot_at R x next (pushed new temps) between calls pending put.kept)) (sym (written_left s new q))
               (took_cost host m (15 + c) (8 + c) (spot_at R x middle temps between calls pending put.kept) (spot_at R x next (pushed new temps) between calls pending put.kept) (omega arith) goes),
         ),
       ))))
 
   -- the old int is given
   count_after : (f : ℤ → ℤ) (op : ℕ → Home → PlainOp) → InFrameCounts host R x listed f op → InGlobalsCounts host R x listed f op → SixBytes op
-      → (t : Ty) (e : TypedExpr) (scope : List ℕ) (size n depth place c : ℕ) (p : Progress) (K : Kept R x scope size p.globals p.locals p.world) (temps between : List Cell) (calls : List ℕ) (pending : List Saved)
+      → (t : Ty) (e : TypedExpr) (scope : List ℕ) (size n depth place c : ℕ) (p : Progress)
+      (K : Kept R x scope size p.globals p.locals p.world) (temps between : List Cell) (calls : List ℕ)
+      (pending : List Saved)
       → is_place e ≡ true → IsFine host.table functions x scope e → type_of e ≡ IntTy → t ≡ IntTy → length temps + size ≡ depth
       → CodeRuns scope size place c p t (stepped (spot e) (one_int f) (λ old new. old) p) temps between calls pending (spot_at R x place temps between calls pending K)
       (emit x.layout n depth e ++ at_home (op (depth + 1)) (home x.layout e))
@@ -366,12 +399,16 @@ module _ (host : MachineHost) (R : Saved → Deferred → Type 0) (tested : Equa
       let of_int = subst (λ (u : Ty). IsSpot x scope u s) int found.fine in
       let code = Instruction (read x.layout depth 1 h) ∷ Instruction (op (depth + 1) h) ∷ [] in
       let is = ap (λ o. emit x.layout n depth e ++ at_home (op (depth + 1)) o) found.home_is
-      ∙ ap (λ ls. ls ++ Instruction (op (depth + 1) h) ∷ []) (place_code x.layout n depth e h there found.home_is ∙ ap (λ (u : Ty). Instruction (read x.layout depth (length (cell_types x.layout.structs u)) h) ∷ []) int) in
+      ∙ ap (λ ls. ls ++ Instruction (op (depth + 1) h) ∷ [])
+      (place_code x.layout n depth e h there found.home_is
+      ∙ ap (λ (u : Ty). Instruction (read x.layout depth (length (cell_types x.layout.structs u)) h) ∷ []) int) in
       let middle = place + op_size (read x.layout depth 1 h) in
       let next = place + lines_size code in
       let first : place + 8 ≡ middle = goes_on place depth 1 h ∙ alone place (op_size (read x.layout depth 1 h)) in
       let second : middle + 6 ≡ next = ap (λ k. middle + k) (sym (six (depth + 1) h)) ∙ ends place (op_size (read x.layout depth 1 h)) (op_size (op (depth + 1) h)) in
-      subst (λ o. CodeRuns scope size place c p t (stepped o (one_int f) (λ old new. old) p) temps between calls pending (spot_at R x place temps between calls pending K) (emit x.layout n depth e ++ at_home (op (depth + 1)) (home x.layout e))) (sym found.is)
+      subst (λ o. CodeRuns scope size place c p t (stepped o (one_int f) (λ old new. old) p) temps between calls pending
+      (spot_at R x place temps between calls pending K)
+      (emit x.layout n depth e ++ at_home (op (depth + 1)) (home x.layout e))) (sym found.is)
       (by_code scope size place c p t (stepped (Some s) (one_int f) (λ old new. old) p) temps between calls pending (spot_at R x place temps between calls pending K)
       (emit x.layout n depth e ++ at_home (op (depth + 1)) (home x.layout e)) code is
       (λ lines. sim_paid host R (HoldsValue R x scope size t) (value_place R x scope size t next temps between calls pending) c (spot_at R x place temps between calls pending K) (value_credits c) p
@@ -383,13 +420,16 @@ module _ (host : MachineHost) (R : Saved → Deferred → Type 0) (tested : Equa
       let got = spot_reads host R x listed scope size IntTy s of_int q place middle depth temps between calls pending K lines.0 first deep in
       let size_is = pushed_length old temps in
       let one = typed_length old (IntTy ∷ []) got.typed in
-      let put = spot_counts host R x listed f op in_frame in_globals scope size s of_int q middle next (depth + 1) (pushed old temps) between calls pending K lines.1.0 second (omega (arith, size_is, one, deep)) in (
+      let put = spot_counts host R x listed f op in_frame in_globals scope size s of_int q middle next (depth + 1)
+      (pushed old temps) between calls pending K lines.1.0 second (omega (arith, size_is, one, deep)) in (
         spot_at R x middle (pushed old temps) between calls pending K,
         got.goes,
         (
           (got.typed ∙ ap (cell_types x.layout.structs) (sym is_int), put.kept),
-          subst (λ k. Took host m (15 + c) (spot_at R x middle (pushed old temps) between calls pending K) k (8 + c) (spot_at R x next (pushed old temps) between calls pending put.kept)) (sym (written_left s new q))
-              (took_cost host m (15 + c) (8 + c) (spot_at R x middle (pushed old temps) between calls pending K) (spot_at R x next (pushed old temps) between calls pending put.kept) (omega arith) put.goes),
+          subst (λ k. Took host m (15 + c) (spot_at R x middle (pushed old temps) between calls pending K) k (8 + c)
+              (spot_at R x next (pushed old temps) between calls pending put.kept)) (sym (written_left s new q))
+              (took_cost host m (15 + c) (8 + c) (spot_at R x middle (pushed old temps) between calls pending K)
+              (spot_at R x next (pushed old temps) between calls pending put.kept) (omega arith) put.goes),
         ),
       ))))
 
@@ -403,12 +443,14 @@ module _ (host : MachineHost) (R : Saved → Deferred → Type 0) (tested : Equa
 
   increment_runs : (t : Ty) (e : TypedExpr) → Runs (prefix t pre.Increment e)
   increment_runs t e scope size n depth place c p K temps between calls pending fine stands deep le held =
-      count_first (prefixed pre.Increment) (increment x.layout) (increases_frame host R x listed) (increases_globals host R x listed) increment_six t e scope size n depth place c p K temps between calls pending
+      count_first (prefixed pre.Increment) (increment x.layout) (increases_frame host R x listed)
+      (increases_globals host R x listed) increment_six t e scope size n depth place c p K temps between calls pending
       (fine.3 refl) fine.0 fine.1 fine.2 deep stands
 
   decrement_runs : (t : Ty) (e : TypedExpr) → Runs (prefix t pre.Decrement e)
   decrement_runs t e scope size n depth place c p K temps between calls pending fine stands deep le held =
-      count_first (prefixed pre.Decrement) (decrement x.layout) (decreases_frame host R x listed) (decreases_globals host R x listed) decrement_six t e scope size n depth place c p K temps between calls pending
+      count_first (prefixed pre.Decrement) (decrement x.layout) (decreases_frame host R x listed)
+      (decreases_globals host R x listed) decrement_six t e scope size n depth place c p K temps between calls pending
       (fine.3 refl) fine.0 fine.1 fine.2 deep stands
 
   pub prefix_runs : (t : Ty) (o : PrefixOperator) (e : TypedExpr) → Runs e → Runs (prefix t o e)
@@ -420,10 +462,12 @@ module _ (host : MachineHost) (R : Saved → Deferred → Type 0) (tested : Equa
 
   pub postfix_runs : (t : Ty) (o : PostfixOperator) (e : TypedExpr) → Runs (postfix t o e)
   postfix_runs t post.Increment e scope size n depth place c p K temps between calls pending fine stands deep le held =
-      count_after (postfixed post.Increment) (increment x.layout) (increases_frame host R x listed) (increases_globals host R x listed) increment_six t e scope size n depth place c p K temps between calls pending
+      count_after (postfixed post.Increment) (increment x.layout) (increases_frame host R x listed)
+      (increases_globals host R x listed) increment_six t e scope size n depth place c p K temps between calls pending
       fine.3 fine.0 fine.1 fine.2 deep stands
   postfix_runs t post.Decrement e scope size n depth place c p K temps between calls pending fine stands deep le held =
-      count_after (postfixed post.Decrement) (decrement x.layout) (decreases_frame host R x listed) (decreases_globals host R x listed) decrement_six t e scope size n depth place c p K temps between calls pending
+      count_after (postfixed post.Decrement) (decrement x.layout) (decreases_frame host R x listed)
+      (decreases_globals host R x listed) decrement_six t e scope size n depth place c p K temps between calls pending
       fine.3 fine.0 fine.1 fine.2 deep stands
 
   -- ---- binary operators
@@ -436,11 +480,15 @@ module _ (host : MachineHost) (R : Saved → Deferred → Type 0) (tested : Equa
   operator_runs : (o : BinaryOperator) (s t r : Ty) (v w : List Value) → binary_type o s t ≡ Some r → value_types v ≡ cell_types x.layout.structs s → value_types w ≡ cell_types x.layout.structs t
       → (scope : List ℕ) (size place next c d : ℕ) (p : Progress) (K : Kept R x scope size p.globals p.locals p.world) (temps between : List Cell) (calls : List ℕ) (pending : List Saved)
       → op_at x.code place ≡ Some (operation o s (length (cell_types x.layout.structs s))) → place + op_size (operation o s (length (cell_types x.layout.structs s))) ≡ next → 1 ≤ c → d ≤ 7 + c
-      → Sim host R (HoldsValue R x scope size r) (value_place R x scope size r next temps between calls pending) p.left c (spot_at R x place (pushed w (pushed v temps)) between calls pending K) (value_credits d)
+      → Sim host R (HoldsValue R x scope size r)
+      (value_place R x scope size r next temps between calls pending) p.left c
+      (spot_at R x place (pushed w (pushed v temps)) between calls pending K) (value_credits d)
       (operated x.self o v w unwritten p)
   operator_runs o s t r v w typed tv tw scope size place next c d p K temps between calls pending begins goes some enough =
       let rest = K.frame ++ (between ++ K.under) in
-      sim_chosen host R (HoldsValue R x scope size r) (value_place R x scope size r next temps between calls pending) p.left c (spot_at R x place (pushed w (pushed v temps)) between calls pending K) (value_credits d)
+      sim_chosen host R (HoldsValue R x scope size r)
+      (value_place R x scope size r next temps between calls pending) p.left c
+      (spot_at R x place (pushed w (pushed v temps)) between calls pending K) (value_credits d)
       (divides_by_zero o w) (λ q. Divides x.self q) (λ q. spend q (λ u. Gives (operate o v w) (unwritten (operate o v w) u))) p
       (λ zero_is. (
         spot_at R x place (pushed w (pushed v temps)) between calls pending K,
@@ -450,7 +498,9 @@ module _ (host : MachineHost) (R : Saved → Deferred → Type 0) (tested : Equa
         refl,
         K.alike,
       ))
-      (λ other_is. sim_paid host R (HoldsValue R x scope size r) (value_place R x scope size r next temps between calls pending) c (spot_at R x place (pushed w (pushed v temps)) between calls pending K) (value_credits d)
+      (λ other_is. sim_paid host R (HoldsValue R x scope size r)
+      (value_place R x scope size r next temps between calls pending) c
+      (spot_at R x place (pushed w (pushed v temps)) between calls pending K) (value_credits d)
       p (λ u. Gives (operate o v w) (unwritten (operate o v w) u)) K.alike
       (λ m left. (
         spot_at R x next (pushed (operate o v w) temps) between calls pending K,
@@ -465,10 +515,17 @@ module _ (host : MachineHost) (R : Saved → Deferred → Type 0) (tested : Equa
 
   -- an operator that evaluates both operands
   both_run : (t : Ty) (o : BinaryOperator) (d e : TypedExpr) → Runs d → Runs e
-      → (first second : ℕ) (scope : List ℕ) (size depth place c : ℕ) (p : Progress) (K : Kept R x scope size p.globals p.locals p.world) (temps between : List Cell) (calls : List ℕ) (pending : List Saved)
+      → (first second : ℕ) (scope : List ℕ) (size depth place c : ℕ) (p : Progress)
+      (K : Kept R x scope size p.globals p.locals p.world) (temps between : List Cell) (calls : List ℕ)
+      (pending : List Saved)
       → IsFine host.table functions x scope d → IsFine host.table functions x scope e → binary_type o (type_of d) (type_of e) ≡ Some t → length temps + size ≡ depth → p.left ≤ most → AreHeld temps
-      → CodeRuns scope size place c p t (bind (value_of scope d p) (λ v q. bind (value_of scope e q) (λ w r. operated x.self o v w unwritten r))) temps between calls pending (spot_at R x place temps between calls pending K)
-      (emit x.layout first depth d ++ (emit x.layout second (depth + length (cell_types x.layout.structs (type_of d))) e ++ Instruction (operation o (type_of d) (length (cell_types x.layout.structs (type_of d)))) ∷ []))
+      → CodeRuns scope size place c p t
+      (bind (value_of scope d p)
+      (λ v q. bind (value_of scope e q) (λ w r. operated x.self o v w unwritten r))) temps between calls pending
+      (spot_at R x place temps between calls pending K)
+      (emit x.layout first depth d
+      ++ (emit x.layout second (depth + length (cell_types x.layout.structs (type_of d))) e
+      ++ Instruction (operation o (type_of d) (length (cell_types x.layout.structs (type_of d)))) ∷ []))
   both_run t o d e rd re first second scope size depth place c p K temps between calls pending fine_d fine_e typed deep le held lines =
       let structs = x.layout.structs in
       let wide = length (cell_types structs (type_of d)) in
@@ -489,9 +546,11 @@ module _ (host : MachineHost) (R : Saved → Deferred → Type 0) (tested : Equa
       let long = typed_length v (cell_types structs (type_of d)) h.0 in
       let size_is = pushed_length v temps in
       sim_bind host R (HoldsValue R x scope size (type_of e)) (value_place R x scope size (type_of e) two (pushed v temps) between calls pending)
-      (HoldsValue R x scope size t) (value_place R x scope size t next temps between calls pending) q.left (8 + c) (spot_at R x one (pushed v temps) between calls pending h.1) (value_credits (8 + c)) (value_credits c)
+      (HoldsValue R x scope size t) (value_place R x scope size t next temps between calls pending) q.left (8 + c)
+      (spot_at R x one (pushed v temps) between calls pending h.1) (value_credits (8 + c)) (value_credits c)
       (value_of scope e q) (λ w r. operated x.self o v w unwritten r)
-      (re scope size second (depth + wide) one (8 + c) q h.1 (pushed v temps) between calls pending fine_e b.0 (omega (arith, long, size_is, deep)) (omega (arith, less, le)) (held_pushed v temps held))
+      (re scope size second (depth + wide) one (8 + c) q h.1 (pushed v temps) between calls pending fine_e b.0
+      (omega (arith, long, size_is, deep)) (omega (arith, less, le)) (held_pushed v temps held))
       (λ w r k fewer. operator_runs o (type_of d) (type_of e) t v w typed h.0 k.0 scope size two next (8 + (8 + c)) c r k.1 temps between calls pending b.1.0 goes (omega arith) (omega arith)))
 
   -- ---- `&&` and `||`
@@ -544,19 +603,26 @@ module _ (host : MachineHost) (R : Saved → Deferred → Type 0) (tested : Equa
       (λ holds.
       let nonzero = not_true (is_zero number) holds in
       let s2 = spot_at R x (one + 8 + 6) (Holds (Int number) ∷ temps) between calls pending L in
-      let second : step host s1 ≡ Some (Goes s2) = other_passes host x listed (one + 8) (one + 8 + 6) _ number (Holds (Int number) ∷ (temps ++ rest)) calls pending L.machine a.1.1.0.begins nonzero refl in
+      let second : step host s1
+      ≡ Some (Goes s2) = other_passes host x listed (one + 8) (one + 8 + 6) _ number
+      (Holds (Int number) ∷ (temps ++ rest)) calls pending L.machine a.1.1.0.begins nonzero refl in
       sim_after host R B there (value_credits c) (bind (value_of scope e q) (λ w s. operated x.self bin.And (Int number ∷ []) w unwritten s))
       (took_then host (took_cost host q.left (8 + c) (7 + c) s0 s1 (omega arith) first) (took_cost host q.left (7 + c) (6 + c) s1 s2 (omega arith) second))
       (sim_bind host R (HoldsValue R x scope size (type_of e)) (value_place R x scope size (type_of e) two (Holds (Int number) ∷ temps) between calls pending) B there
       q.left (6 + c) s2 (value_credits (6 + c)) (value_credits c) (value_of scope e q) (λ w s. operated x.self bin.And (Int number ∷ []) w unwritten s)
       (re scope size (n + 1 + labels d) (depth + wide) (one + 8 + 6) (6 + c) q L (Holds (Int number) ∷ temps) between calls pending fine.1 b.0
       (let long = typed_length (Int number ∷ []) (cell_types structs (type_of d)) typed in omega (arith, long, deep)) (omega (arith, less, le)) (tt, held))
-      (λ w r k fewer. operator_runs bin.And (type_of d) (type_of e) t (Int number ∷ []) w fine.2 typed k.0 scope size two next (8 + (6 + c)) c r k.1 temps between calls pending b.1.0 ending (omega arith) (omega arith))))
+      (λ w r k fewer. operator_runs bin.And (type_of d) (type_of e) t
+      (Int number ∷ []) w fine.2 typed k.0 scope size two next
+      (8 + (6 + c)) c r k.1 temps between calls pending b.1.0 ending (omega arith) (omega arith))))
       (λ fails.
       let nothing = not_false (is_zero number) fails in
       let s2 = spot_at R x next (Holds (Int number) ∷ temps) between calls pending L in
       let label : x.places n ≡ next = b.1.1.0 ∙ ending in
-      let second : step host s1 ≡ Some (Goes s2) = zero_jumps host x listed (one + 8) next _ number (Holds (Int number) ∷ (temps ++ rest)) calls pending L.machine a.1.1.0.begins nothing (a.1.1.0.leads ∙ label) in
+      let second : step host s1
+      ≡ Some (Goes s2) = zero_jumps host x listed (one + 8) next _ number
+      (Holds (Int number) ∷ (temps ++ rest)) calls pending L.machine a.1.1.0.begins nothing
+      (a.1.1.0.leads ∙ label) in
       let same : Int number ≡ Int (pos 0) = ap Int (is_nothing number nothing) in
       sim_after host R B there (value_credits c) (spend q (λ s. Gives (test_value false) s)) (took_cost host q.left (8 + c) (7 + c) s0 s1 (omega arith) first)
       (sim_paid host R B there (7 + c) s1 (value_credits c) q (λ s. Gives (test_value false) s) L.alike
@@ -565,7 +631,9 @@ module _ (host : MachineHost) (R : Saved → Deferred → Type 0) (tested : Equa
         second,
         (
           (ap (cell_types structs) (sym ints.result), L),
-          subst (λ u. Took host m (15 + (7 + c)) s2 m (8 + c) (spot_at R x next (Holds u ∷ temps) between calls pending L)) same (took_less host (8 + c) (omega arith) (took_none host m (15 + (7 + c)) s2)),
+          subst (λ u. Took host m (15 + (7 + c)) s2 m (8 + c)
+              (spot_at R x next (Holds u ∷ temps) between calls pending L)) same
+              (took_less host (8 + c) (omega arith) (took_none host m (15 + (7 + c)) s2)),
         ),
       ))))))
 
@@ -612,12 +680,18 @@ module _ (host : MachineHost) (R : Saved → Deferred → Type 0) (tested : Equa
       let s3 = spot_at R x (one + 8 + 6 + 6) (Holds (Int (pos 1)) ∷ Holds (Int number) ∷ temps) between calls pending L in
       let s4 = spot_at R x (one + 8 + 6 + 6 + 2) (Holds (Int (either number (pos 1))) ∷ temps) between calls pending L in
       let s5 = spot_at R x next (Holds (Int (either number (pos 1))) ∷ temps) between calls pending L in
-      let second : step host s1 ≡ Some (Goes s2) = other_passes host x listed (one + 8) (one + 8 + 6) _ number (Holds (Int number) ∷ (temps ++ rest)) calls pending L.machine a.1.1.0.begins nonzero refl in
+      let second : step host s1
+      ≡ Some (Goes s2) = other_passes host x listed (one + 8) (one + 8 + 6) _ number
+      (Holds (Int number) ∷ (temps ++ rest)) calls pending L.machine a.1.1.0.begins nonzero refl in
       let third : step host s2 ≡ Some (Goes s3) = int_goes host x listed (one + 8 + 6) (one + 8 + 6 + 6) (pos 1) (Holds (Int number) ∷ (temps ++ rest)) calls pending L.machine a.1.1.1.0 refl in
       let fourth : step host s3 ≡ Some (Goes s4) =
-      operator_goes host x listed tested (one + 8 + 6 + 6) (one + 8 + 6 + 6 + 2) structs bin.Or (type_of d) (type_of e) t (Int number ∷ []) (Int (pos 1) ∷ []) (temps ++ rest) calls pending L.machine a.1.1.1.1.0 refl fine.2 typed one_typed_as refl in
+      operator_goes host x listed tested (one + 8 + 6 + 6) (one + 8 + 6 + 6 + 2) structs bin.Or (type_of d)
+      (type_of e) t (Int number ∷ []) (Int (pos 1) ∷ [])
+      (temps ++ rest) calls pending L.machine a.1.1.1.1.0 refl fine.2 typed one_typed_as refl in
       let label : x.places (n + 1) ≡ next = b.1.1.0 ∙ ending in
-      let fifth : step host s4 ≡ Some (Goes s5) = jump_goes host x listed (one + 8 + 6 + 6 + 2) next _ (Holds (Int (either number (pos 1))) ∷ (temps ++ rest)) calls pending L.machine a.1.1.1.1.1.0.begins (a.1.1.1.1.1.0.leads ∙ label) in
+      let fifth : step host s4 ≡ Some (Goes s5) = jump_goes host x listed (one + 8 + 6 + 6 + 2) next _
+      (Holds (Int (either number (pos 1))) ∷ (temps ++ rest)) calls pending L.machine a.1.1.1.1.1.0.begins
+      (a.1.1.1.1.1.0.leads ∙ label) in
       let same : Int (either number (pos 1)) ≡ Int (pos 1) = ap (λ (z : Bool). Int (as_int (not z || true))) nonzero in
       sim_paid host R B there (8 + c) s0 (value_credits c) q (λ s. Gives (test_value true) s) L.alike
       (λ m gone. (
@@ -635,24 +709,34 @@ module _ (host : MachineHost) (R : Saved → Deferred → Type 0) (tested : Equa
       let nothing = not_false (is_zero number) fails in
       let s2 = spot_at R x start (Holds (Int number) ∷ temps) between calls pending L in
       let label : x.places n ≡ start = a.1.1.1.1.1.1.0 ∙ omega arith in
-      let second : step host s1 ≡ Some (Goes s2) = zero_jumps host x listed (one + 8) start _ number (Holds (Int number) ∷ (temps ++ rest)) calls pending L.machine a.1.1.0.begins nothing (a.1.1.0.leads ∙ label) in
+      let second : step host s1
+      ≡ Some (Goes s2) = zero_jumps host x listed (one + 8) start _ number
+      (Holds (Int number) ∷ (temps ++ rest)) calls pending L.machine a.1.1.0.begins nothing
+      (a.1.1.0.leads ∙ label) in
       sim_after host R B there (value_credits c) (bind (value_of scope e q) (λ w s. operated x.self bin.Or (Int number ∷ []) w unwritten s))
       (took_then host (took_cost host q.left (8 + c) (7 + c) s0 s1 (omega arith) first) (took_cost host q.left (7 + c) (6 + c) s1 s2 (omega arith) second))
       (sim_bind host R (HoldsValue R x scope size (type_of e)) (value_place R x scope size (type_of e) two (Holds (Int number) ∷ temps) between calls pending) B there
       q.left (6 + c) s2 (value_credits (6 + c)) (value_credits c) (value_of scope e q) (λ w s. operated x.self bin.Or (Int number ∷ []) w unwritten s)
       (re scope size (n + 2 + labels d) (depth + wide) start (6 + c) q L (Holds (Int number) ∷ temps) between calls pending fine.1 b.0
       (let long = typed_length (Int number ∷ []) (cell_types structs (type_of d)) typed in omega (arith, long, deep)) (omega (arith, less, le)) (tt, held))
-      (λ w r k fewer. operator_runs bin.Or (type_of d) (type_of e) t (Int number ∷ []) w fine.2 typed k.0 scope size two next (8 + (6 + c)) c r k.1 temps between calls pending b.1.0 ending (omega arith) (omega arith))))))
+      (λ w r k fewer. operator_runs bin.Or (type_of d) (type_of e) t
+      (Int number ∷ []) w fine.2 typed k.0 scope size two next
+      (8 + (6 + c)) c r k.1 temps between calls pending b.1.0 ending (omega arith) (omega arith))))))
 
   -- an operator that isn't one of these two
   plain_runs : (t : Ty) (o : BinaryOperator) (d e : TypedExpr) → shortcut o ≡ Never
-      → ((scope : List ℕ) (p : Progress) → combined x.self o (λ q. value_of scope d q) (λ q. value_of scope e q) p ≡ bind (value_of scope d p) (λ v q. bind (value_of scope e q) (λ w r. operated x.self o v w unwritten r)))
+      → ((scope : List ℕ) (p : Progress)
+      → combined x.self o (λ q. value_of scope d q) (λ q. value_of scope e q) p
+      ≡ bind (value_of scope d p) (λ v q. bind (value_of scope e q) (λ w r. operated x.self o v w unwritten r)))
       → Runs d → Runs e → Runs (binary t o d e)
   plain_runs t o d e never both rd re scope size n depth place c p K temps between calls pending fine stands deep le held =
       let wide = length (cell_types x.layout.structs (type_of d)) in
       let code = λ (k : Shortcut). binary_code n k (operation o (type_of d) wide) (emit x.layout (n + shortcut_labels k) depth d) (emit x.layout (n + shortcut_labels k + labels d) (depth + wide) e) in
       subst (λ (out : Outcome (List Value)). CodeRuns scope size place c p t out temps between calls pending (spot_at R x place temps between calls pending K) (code (shortcut o))) (sym (both scope p))
-      (subst (λ (k : Shortcut). CodeRuns scope size place c p t (bind (value_of scope d p) (λ v q. bind (value_of scope e q) (λ w r. operated x.self o v w unwritten r))) temps between calls pending (spot_at R x place temps between calls pending K)
+      (subst (λ (k : Shortcut). CodeRuns scope size place c p t
+      (bind (value_of scope d p)
+      (λ v q. bind (value_of scope e q) (λ w r. operated x.self o v w unwritten r))) temps between calls pending
+      (spot_at R x place temps between calls pending K)
       (binary_code n k (operation o (type_of d) wide) (emit x.layout (n + shortcut_labels k) depth d) (emit x.layout (n + shortcut_labels k + labels d) (depth + wide) e))) (sym never)
       (both_run t o d e rd re (n + 0) (n + 0 + labels d) scope size depth place c p K temps between calls pending fine.0 fine.1 fine.2 deep le held))
       stands
@@ -680,7 +764,10 @@ module _ (host : MachineHost) (R : Saved → Deferred → Type 0) (tested : Equa
       let store = Instruction (write x.layout (depth + wide) wide h) ∷ [] in
       let is : emit x.layout n depth (assign t asg.Set d e) ≡ right ++ store = ap (λ o. right ++ at_home (write x.layout (depth + wide) wide) o) found.home_is in
       let B = HoldsValue R x scope size t in
-      subst (λ o. CodeRuns scope size place c p t (assigned x.self None o wide (λ q. value_of scope e q) p) temps between calls pending (spot_at R x place temps between calls pending K) (emit x.layout n depth (assign t asg.Set d e))) (sym found.is)
+      subst (λ o. CodeRuns scope size place c p t
+      (assigned x.self None o wide (λ q. value_of scope e q) p) temps between calls pending
+      (spot_at R x place temps between calls pending K) (emit x.layout n depth (assign t asg.Set d e)))
+      (sym found.is)
       (by_code scope size place c p t (assigned x.self None (Some s) wide (λ q. value_of scope e q) p) temps between calls pending (spot_at R x place temps between calls pending K)
       (emit x.layout n depth (assign t asg.Set d e)) (right ++ store) is
       (λ lines.
@@ -688,7 +775,9 @@ module _ (host : MachineHost) (R : Saved → Deferred → Type 0) (tested : Equa
       let middle = place + lines_size right in
       let next = place + lines_size (right ++ store) in
       let goes : middle + 8 ≡ next = let h1 = sizes right store in let h2 = written_on middle (depth + wide) wide h in omega (arith, h1, h2) in
-      sim_bind host R (HoldsValue R x scope size (type_of e)) (value_place R x scope size (type_of e) middle temps between calls pending) B (value_place R x scope size t next temps between calls pending)
+      sim_bind host R (HoldsValue R x scope size (type_of e))
+      (value_place R x scope size (type_of e) middle temps between calls pending) B
+      (value_place R x scope size t next temps between calls pending)
       p.left c (spot_at R x place temps between calls pending K) (value_credits c) (value_credits c) (value_of scope e p) (λ parts q. spend q (λ r. Gives parts (written_at s parts r)))
       (re scope size n (depth + 0) place c p K temps between calls pending fine.1 b.0 (omega (arith, deep)) le held)
       (λ v q there less.
@@ -702,7 +791,8 @@ module _ (host : MachineHost) (R : Saved → Deferred → Type 0) (tested : Equa
         put.goes,
         (
           (typed, put.kept),
-          subst (λ k. Took host m (15 + (8 + c)) (spot_at R x next (pushed v temps) between calls pending put.kept) k (8 + c) (spot_at R x next (pushed v temps) between calls pending put.kept)) (sym (written_left s v r))
+          subst (λ k. Took host m (15 + (8 + c)) (spot_at R x next (pushed v temps) between calls pending put.kept) k
+              (8 + c) (spot_at R x next (pushed v temps) between calls pending put.kept)) (sym (written_left s v r))
               (took_less host (8 + c) (omega arith) (took_none host m (15 + (8 + c)) (spot_at R x next (pushed v temps) between calls pending put.kept))),
         ),
       )))))
@@ -720,7 +810,9 @@ module _ (host : MachineHost) (R : Saved → Deferred → Type 0) (tested : Equa
   compound_runs : (t : Ty) (b : BinaryOperator) (e : TypedExpr) (s : Spot) → Runs e
       → (scope : List ℕ) (size n depth place c : ℕ) (p : Progress) (K : Kept R x scope size p.globals p.locals p.world) (temps between : List Cell) (calls : List ℕ) (pending : List Saved)
       → IsSpot x scope t s → IsFine host.table functions x scope e → binary_type b t (type_of e) ≡ Some t → length temps + size ≡ depth → p.left ≤ most → AreHeld temps
-      → CodeRuns scope size place c p t (assigned x.self (Some b) (Some s) (length (cell_types x.layout.structs t)) (λ q. value_of scope e q) p) temps between calls pending (spot_at R x place temps between calls pending K)
+      → CodeRuns scope size place c p t
+      (assigned x.self (Some b) (Some s) (length (cell_types x.layout.structs t))
+      (λ q. value_of scope e q) p) temps between calls pending (spot_at R x place temps between calls pending K)
       (compound_lines n depth b t e (home_of x scope s))
   unfolding compound_lines
   compound_runs t b e s re scope size n depth place c p K temps between calls pending spot_fine fine typed deep le held lines =
@@ -755,12 +847,15 @@ module _ (host : MachineHost) (R : Saved → Deferred → Type 0) (tested : Equa
         got.goes,
         sim_bind host R (HoldsValue R x scope size (type_of e)) (value_place R x scope size (type_of e) two (pushed old temps) between calls pending) B there
             m (15 + c) s1 (value_credits (15 + c)) (value_credits c) (value_of scope e q) (λ w r. operated x.self b old w (written_at s) r)
-            (re scope size n (depth + wide) one (15 + c) q K (pushed old temps) between calls pending fine a.0 (omega (arith, size_is, long, deep)) (omega (arith, left, le)) (held_pushed old temps held))
+            (re scope size n (depth + wide) one (15 + c) q K (pushed old temps) between calls pending fine a.0
+            (omega (arith, size_is, long, deep)) (omega (arith, left, le)) (held_pushed old temps held))
             (λ w r result less.
             let L = result.1 in
             let rest = L.frame ++ (between ++ L.under) in
             let s2 = spot_at R x two (pushed w (pushed old temps)) between calls pending L in
-            sim_chosen host R B there r.left (8 + (15 + c)) s2 (value_credits c) (divides_by_zero b w) (λ u. Divides x.self u) (λ u. spend u (λ z. Gives (operate b old w) (written_at s (operate b old w) z))) r
+            sim_chosen host R B there r.left (8 + (15 + c)) s2 (value_credits c) (divides_by_zero b w)
+            (λ u. Divides x.self u) (λ u. spend u
+            (λ z. Gives (operate b old w) (written_at s (operate b old w) z))) r
             (λ zero_is. (
               s2,
               took_less host 1 (omega arith) (took_none host r.left (8 + (15 + c)) s2),
@@ -799,8 +894,12 @@ module _ (host : MachineHost) (R : Saved → Deferred → Type 0) (tested : Equa
       let spot_fine = subst (λ (u : Ty). IsSpot x scope u s) (sym of_place) found.fine in
       let typed : binary_type b t (type_of e) ≡ Some t = ap (λ u. binary_type b u (type_of e)) of_place ∙ applied_type o b (type_of d) (type_of e) t is_applied fine.3 in
       let wide = length (cell_types x.layout.structs t) in
-      subst (λ a. CodeRuns scope size place c p t (assigned x.self a (spot d) wide (λ q. value_of scope e q) p) temps between calls pending (spot_at R x place temps between calls pending K) (emit x.layout n depth (assign t o d e))) (sym is_applied)
-      (subst (λ u. CodeRuns scope size place c p t (assigned x.self (Some b) u wide (λ q. value_of scope e q) p) temps between calls pending (spot_at R x place temps between calls pending K) (emit x.layout n depth (assign t o d e))) (sym found.is)
+      subst (λ a. CodeRuns scope size place c p t
+      (assigned x.self a (spot d) wide (λ q. value_of scope e q) p) temps between calls pending
+      (spot_at R x place temps between calls pending K) (emit x.layout n depth (assign t o d e))) (sym is_applied)
+      (subst (λ u. CodeRuns scope size place c p t
+      (assigned x.self (Some b) u wide (λ q. value_of scope e q) p) temps between calls pending
+      (spot_at R x place temps between calls pending K) (emit x.layout n depth (assign t o d e))) (sym found.is)
       (by_code scope size place c p t (assigned x.self (Some b) (Some s) wide (λ q. value_of scope e q) p) temps between calls pending (spot_at R x place temps between calls pending K)
       (emit x.layout n depth (assign t o d e)) (compound_lines n depth b t e (home_of x scope s)) (code n depth (home_of x scope s) found.home_is)
       (compound_runs t b e s re scope size n depth place c p K temps between calls pending spot_fine fine.1 typed deep le held)))
@@ -811,8 +910,13 @@ module _ (host : MachineHost) (R : Saved → Deferred → Type 0) (tested : Equa
   unfolding compound_lines
   compound_is t o b d e is_applied n depth h found =
       let wide = length (cell_types x.layout.structs t) in
-      ap (λ u. read_first (is_set o) (at_home (read x.layout depth wide) u) ++ (emit x.layout n (depth + cells_first (is_set o) wide) e ++ (combination o t ++ at_home (write x.layout (depth + wide) wide) u))) found
-      ∙ ap (λ u. read_first u (Instruction (read x.layout depth wide h) ∷ []) ++ (emit x.layout n (depth + cells_first u wide) e ++ (combination o t ++ Instruction (write x.layout (depth + wide) wide h) ∷ []))) (applied_reads o b is_applied)
+      ap (λ u. read_first (is_set o) (at_home (read x.layout depth wide) u)
+      ++ (emit x.layout n (depth + cells_first (is_set o) wide) e
+      ++ (combination o t ++ at_home (write x.layout (depth + wide) wide) u))) found
+      ∙ ap (λ u. read_first u (Instruction (read x.layout depth wide h) ∷ [])
+      ++ (emit x.layout n (depth + cells_first u wide) e
+      ++ (combination o t ++ Instruction (write x.layout (depth + wide) wide h) ∷ [])))
+      (applied_reads o b is_applied)
       ∙ ap (λ u. Instruction (read x.layout depth wide h) ∷ (emit x.layout n (depth + wide) e ++ (u ++ Instruction (write x.layout (depth + wide) wide h) ∷ []))) (combination_is o b t wide is_applied)
 
   other_runs : (t : Ty) (o : AssignOperator) (b : BinaryOperator) (d e : TypedExpr) → applied o ≡ Some b → Runs e → Runs (assign t o d e)

@@ -143,7 +143,10 @@ module _ (host : MachineHost) (R : Saved → Deferred → Type 0) (tested : Equa
   pub function_runs : (f : ℕ) (fn : Function) → IsPlaced host.table functions x f fn → (values : List (List Value)) → all_types values ≡ parameter_types x fn.parameters
       → (p : Progress) → p.left ≤ most → (K : KeepsGlobals R x p) (lower : List Cell) (back : ℕ) (calls : List ℕ) (pending : List Saved) (c d : ℕ) → d + 3 ≤ c
       → Sim host R (HasResult R x fn.result) (result_place R x fn.result back lower calls pending) p.left c
-      (at x (x.places f) (pushed_all values (pushed (start_parts (cell_types x.layout.structs fn.result)) (lower ++ K.under))) (back ∷ calls) pending K.machine) (λ v. d) (body_run (running_at host tables execute x) caller (Some fn) values p)
+      (at x (x.places f) (pushed_all values
+      (pushed (start_parts (cell_types x.layout.structs fn.result)) (lower ++ K.under)))
+      (back ∷ calls) pending K.machine) (λ v. d)
+      (body_run (running_at host tables execute x) caller (Some fn) values p)
   function_runs f fn placed values types p le K lower back calls pending c d enough =
       let structs = x.layout.structs in
       let room = start_parts (cell_types structs fn.result) in
@@ -176,18 +179,32 @@ module _ (host : MachineHost) (R : Saved → Deferred → Type 0) (tested : Equa
       let cells_are : pushed_all values (pushed room (lower ++ K.under)) ≡ pushed_all values [] ++ (pushed room lower ++ K.under) =
       ap (pushed_all values) (sym (pushed_over room lower K.under)) ∙ sym (all_over values [] (pushed room lower ++ K.under)) in
       let typed = start_typed (cell_types structs fn.result) placed.cells in
-      subst (λ (z : ℕ). Sim host R (HasResult R x fn.result) (result_place R x fn.result back lower calls pending) p.left c (at x z (pushed_all values (pushed room (lower ++ K.under))) (back ∷ calls) pending K.machine) (λ v. d)
+      subst (λ (z : ℕ). Sim host R (HasResult R x fn.result)
+      (result_place R x fn.result back lower calls pending) p.left c
+      (at x z (pushed_all values (pushed room (lower ++ K.under))) (back ∷ calls) pending K.machine) (λ v. d)
       (body_run (running_at host tables execute x) caller (Some fn) values p)) (sym same)
       (subst (λ (z : List Cell). Sim host R (HasResult R x fn.result) (result_place R x fn.result back lower calls pending) p.left c (at x start z (back ∷ calls) pending K.machine) (λ v. d)
       (body_run (running_at host tables execute x) caller (Some fn) values p)) (sym cells_are)
-      (sim_bind host R (FlowHolds R x fn.result (record { allowed = false; scope = []; depth = 0; label = 0 }) (record { allowed = false; scope = []; depth = 0; label = 0 }) (after_stmts fn.body scope) (size + many))
-      (flow_place R x fn.result (record { allowed = false; scope = []; depth = 0; label = 0 }) (record { allowed = false; scope = []; depth = 0; label = 0 }) (after_stmts fn.body scope) (size + many) one room lower back calls pending)
+      (sim_bind host R (FlowHolds R x fn.result (record { allowed = false; scope = []; depth = 0; label = 0 })
+      (record { allowed = false; scope = []; depth = 0; label = 0 }) (after_stmts fn.body scope) (size + many))
+      (flow_place R x fn.result (record { allowed = false; scope = []; depth = 0; label = 0 })
+      (record { allowed = false; scope = []; depth = 0; label = 0 }) (after_stmts fn.body scope)
+      (size + many) one room lower back calls pending)
       (HasResult R x fn.result) (result_place R x fn.result back lower calls pending) p.left c (spot_at R x start [] (pushed room lower) (back ∷ calls) pending K0) (flow_credits c many) (λ v. d)
       (execs (running_at host tables execute x) caller (parameter_names fn.parameters) fn.body q) (λ flow r. Gives (result_of (cell_types structs fn.result) flow) r)
       (stmts_do host R tested x listed tables execute functions caller most fn.result (λ e. Unit {0}) (λ e u. runs e) fn.body (all_too (λ e. Unit {0}) (λ e. tt) fn.body)
-      no_exits (record { allowed = false; scope = []; depth = 0; label = 0 }) (record { allowed = false; scope = []; depth = 0; label = 0 }) scope size placed.label start c q K0 room lower back calls pending placed.fine a.0
+      no_exits (record { allowed = false; scope = []; depth = 0; label = 0 })
+      (record {
+        allowed = false;
+        scope = [];
+        depth = 0;
+        label = 0;
+      }) scope size placed.label start c q K0 room lower back calls pending placed.fine a.0
       (record { break_label = refl; break_depth = refl; continue_label = refl; continue_depth = refl }) (not_allowed x scope size) (not_allowed x scope size) typed le)
-      (λ flow r h less. left_by fn scope size many one two lower back calls pending c d enough (seen_stmts fn.body scope) (λ n i. fits (within x scope (pushed_all values []) (bound fn.parameters values) b.variables n i) b.size) typed e.0 g.0 g.1.0 flow r h)))
+      (λ flow r h less. left_by fn scope size many one two lower back calls pending c d enough
+      (seen_stmts fn.body scope)
+      (λ n i. fits (within x scope (pushed_all values [])
+      (bound fn.parameters values) b.variables n i) b.size) typed e.0 g.0 g.1.0 flow r h)))
     where
       fits : {m n k : ℕ} → m ≤ n → n ≡ k → m ≤ k
       fits h same = omega (arith, h, same)
@@ -201,9 +218,14 @@ module _ (host : MachineHost) (R : Saved → Deferred → Type 0) (tested : Equa
           → value_types (start_parts (cell_types x.layout.structs fn.result)) ≡ cell_types x.layout.structs fn.result
           → LinesStand x.code x.places one (dropped many) → LinesStand x.code x.places (one + lines_size (dropped many)) (dropped size)
           → op_at x.code (one + lines_size (dropped many) + lines_size (dropped size)) ≡ Some ops.Retn
-          → (flow : Flow) (r : Progress) (h : FlowHolds R x fn.result (record { allowed = false; scope = []; depth = 0; label = 0 }) (record { allowed = false; scope = []; depth = 0; label = 0 }) (after_stmts fn.body scope) (size + many) flow r)
+          → (flow : Flow) (r : Progress)
+          (h : FlowHolds R x fn.result (record { allowed = false; scope = []; depth = 0; label = 0 })
+          (record { allowed = false; scope = []; depth = 0; label = 0 }) (after_stmts fn.body scope)
+          (size + many) flow r)
           → Sim host R (HasResult R x fn.result) (result_place R x fn.result back lower calls pending) r.left (flow_credits c many flow)
-          (flow_place R x fn.result (record { allowed = false; scope = []; depth = 0; label = 0 }) (record { allowed = false; scope = []; depth = 0; label = 0 }) (after_stmts fn.body scope) (size + many) one (start_parts (cell_types x.layout.structs fn.result)) lower back calls pending flow r h)
+          (flow_place R x fn.result (record { allowed = false; scope = []; depth = 0; label = 0 })
+          (record { allowed = false; scope = []; depth = 0; label = 0 }) (after_stmts fn.body scope)
+          (size + many) one (start_parts (cell_types x.layout.structs fn.result)) lower back calls pending flow r h)
           (λ v. d) (Gives (result_of (cell_types x.layout.structs fn.result) flow) r)
       left_by fn scope size many one two lower back calls pending c d enough seen beneath typed drops more returns Next r h =
           let room = start_parts (cell_types x.layout.structs fn.result) in
@@ -214,17 +236,24 @@ module _ (host : MachineHost) (R : Saved → Deferred → Type 0) (tested : Equa
           let K1 = lower_kept host R x listed tables execute functions caller most fn.result h scope size less seen beneath in
           let none : 0 ≤ size = omega arith in
           let all : size - 0 ≡ size = omega arith in
-          let second = lower_goes host R x listed tables execute functions caller most fn.result K1 [] 0 none (λ n i. absurd i) (λ n i. absurd i) r.left (d + 1) (one + lines_size (dropped many)) between (back ∷ calls) pending size all more in
+          let second = lower_goes host R x listed tables execute functions caller most fn.result K1 [] 0 none
+          (λ n i. absurd i) (λ n i. absurd i) r.left (d + 1) (one + lines_size (dropped many)) between
+          (back ∷ calls) pending size all more in
           let K2 = lower_kept host R x listed tables execute functions caller most fn.result K1 [] 0 none (λ n i. absurd i) (λ n i. absurd i) in
           let few = few_ones size in
           let bare = nothing_left K2.frame K2.frame_size in
           let s2 = spot_at R x (one + lines_size (dropped many) + lines_size (dropped size)) [] between (back ∷ calls) pending K2 in
           let s3 = spot_at R x back [] between calls pending K2 in
-          let third = goes_back host R x listed tables execute functions caller most fn.result (one + lines_size (dropped many) + lines_size (dropped size)) back (K2.frame ++ (between ++ K2.under)) calls pending K2.machine returns in
+          let third = goes_back host R x listed tables execute functions caller most fn.result
+          (one + lines_size (dropped many) + lines_size (dropped size)) back
+          (K2.frame ++ (between ++ K2.under)) calls pending K2.machine returns in
           let ending : K2.frame ++ (between ++ K2.under) ≡ pushed room (lower ++ K2.under) = ap (λ t. t ++ (between ++ K2.under)) bare ∙ pushed_over room lower K2.under in (
             (typed, globals_alone K2),
             subst (λ (z : List Cell). Took host r.left (c + one_of many) (spot_at R x one [] between (back ∷ calls) pending h) r.left d (at x back z calls pending K2.machine)) ending
-                (took_then host first (took_then host (took_less host (d + 1 + one_of size) (omega (arith, enough, few)) (took_none host r.left c (spot_at R x (one + lines_size (dropped many)) [] between (back ∷ calls) pending K1)))
+                (took_then host first (took_then host
+                (took_less host (d + 1 + one_of size) (omega (arith, enough, few))
+                (took_none host r.left c (spot_at R x (one + lines_size (dropped many)) [] between
+                (back ∷ calls) pending K1)))
                 (took_then host second (took_cost host r.left (d + 1) d s2 s3 (omega arith) third)))),
           )
       left_by fn scope size many one two lower back calls pending c d enough seen beneath typed drops more returns Broke r h = absurd (never h.0)
@@ -239,14 +268,20 @@ module _ (host : MachineHost) (R : Saved → Deferred → Type 0) (tested : Equa
 
 -- ---- recursion
 
-found_run : (host : MachineHost) (R : Saved → Deferred → Type 0) (x : Site) (tables : CellLookup) (execute : Executor) (caller : Caller) (f : ℕ) (fn : Function) (found : Option Function) (values : List (List Value)) (p : Progress) → found ≡ Some fn
+found_run : (host : MachineHost) (R : Saved → Deferred → Type 0) (x : Site) (tables : CellLookup) (execute : Executor)
+    (caller : Caller) (f : ℕ) (fn : Function) (found : Option Function) (values : List (List Value)) (p : Progress)
+    → found ≡ Some fn
     → body_run (running_at host tables execute x) caller (Some fn) values p ≡ body_run (running_at host tables execute x) caller found values p
 found_run host R x tables execute caller f fn found values p h = ap (λ o. body_run (running_at host tables execute x) caller o values p) (sym h)
 
 pub functions_run : EqualityIsTested → FunctionsRun
 functions_run tested s host x tables execute fs listed engine_runs captures executes placed zero =
-    let none : CallsRun host (Carries s) x fs (calls (running_at host tables execute x) fs 0) 0 = λ f fn is values types p less K lower back cs pending c d enough. absurd (omega (arith, less)) in
-    (none, λ e. every_runs host (Carries s) tested x listed tables execute fs (calls (running_at host tables execute x) fs 0) 0 engine_runs captures (executes 0) none (λ g fn is. (placed g fn is).cells) e)
+    let none : CallsRun host (Carries s) x fs (calls (running_at host tables execute x) fs 0) 0 = λ f fn is values types p less K lower back cs pending c d enough. absurd (omega (arith, less)) in (
+      none,
+      λ e. every_runs host (Carries s) tested x listed tables execute fs
+          (calls (running_at host tables execute x) fs 0) 0 engine_runs captures (executes 0) none
+          (λ g fn is. (placed g fn is).cells) e,
+    )
 functions_run tested s host x tables execute fs listed engine_runs captures executes placed (suc k) =
     let before = functions_run tested s host x tables execute fs listed engine_runs captures executes placed k in
     let c = running_at host tables execute x in
@@ -254,5 +289,6 @@ functions_run tested s host x tables execute fs listed engine_runs captures exec
     subst (λ r. Sim host (Carries s) (HasResult (Carries s) x fn.result) (result_place (Carries s) x fn.result back lower cs pending) p.left credits
     (at x (x.places f) (pushed_all values (pushed (start_parts (cell_types x.layout.structs fn.result)) (lower ++ K.under))) (back ∷ cs) pending K.machine) (λ v. rest) r)
     (found_run host (Carries s) x tables execute (calls c fs k) f fn (slice_get fs f) values p is)
-    (function_runs host (Carries s) tested x listed tables execute fs (calls c fs k) k before.1 f fn (placed f fn is) values types p (omega (arith, less)) K lower back cs pending credits rest enough) in
+    (function_runs host (Carries s) tested x listed tables execute fs (calls c fs k) k before.1 f fn
+    (placed f fn is) values types p (omega (arith, less)) K lower back cs pending credits rest enough) in
     (now, λ e. every_runs host (Carries s) tested x listed tables execute fs (calls c fs (suc k)) (suc k) engine_runs captures (executes (suc k)) now (λ g fn is. (placed g fn is).cells) e)

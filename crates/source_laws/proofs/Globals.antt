@@ -95,7 +95,9 @@ only_bind P (OutOfSteps p) go h = tt
 goes_on : (c : Running) (caller : Caller) (sight : List ℕ) (ds : List TypedName) (p : Progress) → Only (λ f. f ≡ Next) (declared c caller sight ds p)
 goes_on c caller sight [] p = refl
 goes_on c caller sight (d ∷ ds) p =
-    only_bind (λ f. f ≡ Next) (initial_value c caller sight d.name.ty d.value p) (λ parts q. declared c caller (d.name.number ∷ sight) ds (record q { locals = with_variable q.locals d.name.number parts }))
+    only_bind (λ f. f ≡ Next) (initial_value c caller sight d.name.ty d.value p)
+    (λ parts q. declared c caller (d.name.number ∷ sight) ds
+    (record q { locals = with_variable q.locals d.name.number parts }))
     (λ parts q. goes_on c caller (d.name.number ∷ sight) ds (record q { locals = with_variable q.locals d.name.number parts }))
 
 sim_only : {A : Type 0} (host : MachineHost) (R : Saved → Deferred → Type 0) (P : A → Type 0) (B : A → Progress → Type 0) (place : (a : A) (p : Progress) → B a p → Machine)
@@ -153,7 +155,8 @@ module _ (host : MachineHost) (R : Saved → Deferred → Type 0) (tested : Equa
       let many = names_cells x.layout.structs ds in
       let next = place + lines_size (emit_names x.layout n 0 ds) in
       sim_only host R (λ f. f ≡ Next) (FlowHolds R x Void no_exit no_exit (after_names ds []) (0 + many)) (flow_place R x Void no_exit no_exit (after_names ds []) (0 + many) next [] [] back [] [])
-      (AreMade ds) (made_place ds next back) p.left c (at x place (K.frame ++ K.under) (back ∷ []) [] K.machine) (flow_credits c many) (λ f. c) (declared (running_at host tables execute x) no_functions [] ds p)
+      (AreMade ds) (made_place ds next back) p.left c (at x place (K.frame ++ K.under) (back ∷ []) [] K.machine)
+      (flow_credits c many) (λ f. c) (declared (running_at host tables execute x) no_functions [] ds p)
       (declaration_does host R x listed tables execute [] no_functions most Void 0 Void ds (names_run ds)
       no_exits no_exit no_exit [] 0 n place c p K [] [] back [] [] fine lines
       (record { break_label = refl; break_depth = refl; continue_label = refl; continue_depth = refl }) (not_allowed x [] 0) (not_allowed x [] 0) refl le)
@@ -164,7 +167,12 @@ module _ (host : MachineHost) (R : Saved → Deferred → Type 0) (tested : Equa
           → (K : AreMade ds f q) × Took host q.left (flow_credits c (names_cells x.layout.structs ds) f)
           (flow_place R x Void no_exit no_exit (after_names ds []) (0 + names_cells x.layout.structs ds) (place + lines_size (emit_names x.layout n 0 ds)) [] [] back [] [] f q h)
           q.left c (made_place ds (place + lines_size (emit_names x.layout n 0 ds)) back f q K)
-      left_by Next q h only = (h, took_less host c (omega arith) (took_none host q.left (flow_credits c (names_cells x.layout.structs ds) Next) (made_place ds (place + lines_size (emit_names x.layout n 0 ds)) back Next q h)))
+      left_by Next q h only = (
+        h,
+        took_less host c (omega arith)
+            (took_none host q.left (flow_credits c (names_cells x.layout.structs ds) Next)
+            (made_place ds (place + lines_size (emit_names x.layout n 0 ds)) back Next q h)),
+      )
       left_by Broke q h only = absurd cc
       left_by Continued q h only = absurd cc
       left_by (Returned v) q h only = absurd cc

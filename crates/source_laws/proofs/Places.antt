@@ -62,7 +62,8 @@ same_length above below new old h =
 module _ (host : MachineHost) (R : Saved → Deferred → Type 0) (x : Site) (listed : IsListed host x) where
   -- ---- reads
 
-  pub frame_reads : {scope : List ℕ} {size : ℕ} {globals locals : Variables} {world : World Deferred} (place next depth from count : ℕ) (temps between : List Cell) (calls : List ℕ) (pending : List Saved)
+  pub frame_reads : {scope : List ℕ} {size : ℕ} {globals locals : Variables} {world : World Deferred}
+      (place next depth from count : ℕ) (temps between : List Cell) (calls : List ℕ) (pending : List Saved)
       (K : Kept R x scope size globals locals world) (v : List Value) (s : Stands K.frame from v)
       → op_at x.code place ≡ Some (read x.layout depth count (InFrame from)) → place + 8 ≡ next → length v ≡ count → 0 < count → length temps + size ≡ depth
       → step host (spot_at R x place temps between calls pending K) ≡ Some (Goes (spot_at R x next (pushed v temps) between calls pending K))
@@ -72,7 +73,8 @@ module _ (host : MachineHost) (R : Saved → Deferred → Type 0) (x : Site) (li
       let n = length-append temps s.above in
       let m = stands_length K.frame from v s in
       let f = K.frame_size in
-      frame_copied host x listed place next depth from count (temps ++ (K.frame ++ rest)) (temps ++ s.above) v (s.below ++ rest) calls pending K.machine begins goes whole long some (omega (arith, n, m, f, deep, long))
+      frame_copied host x listed place next depth from count (temps ++ (K.frame ++ rest)) (temps ++ s.above) v
+      (s.below ++ rest) calls pending K.machine begins goes whole long some (omega (arith, n, m, f, deep, long))
       ∙ ap (λ t. Some (Goes (at x next t calls pending K.machine))) (sym (pushed_over v temps (K.frame ++ rest)))
 
   -- how far the globals lie beneath the top
@@ -93,7 +95,8 @@ module _ (host : MachineHost) (R : Saved → Deferred → Type 0) (x : Site) (li
       let u = K.under_size in
       omega (arith, a, b, u)
 
-  pub base_reads : {scope : List ℕ} {size : ℕ} {globals locals : Variables} {world : World Deferred} (place next depth from count : ℕ) (temps between : List Cell) (calls : List ℕ) (pending : List Saved)
+  pub base_reads : {scope : List ℕ} {size : ℕ} {globals locals : Variables} {world : World Deferred}
+      (place next depth from count : ℕ) (temps between : List Cell) (calls : List ℕ) (pending : List Saved)
       (K : Kept R x scope size globals locals world) (v : List Value) (s : Stands K.under from v)
       → op_at x.code place ≡ Some (read x.layout depth count (InGlobals from)) → place + 8 ≡ next → length v ≡ count → 0 < count → x.layout.globals ≡ x.bp
       → step host (spot_at R x place temps between calls pending K) ≡ Some (Goes (spot_at R x next (pushed v temps) between calls pending K))
@@ -102,14 +105,17 @@ module _ (host : MachineHost) (R : Saved → Deferred → Type 0) (x : Site) (li
       ap (λ t. temps ++ (K.frame ++ (between ++ t))) s.is ∙ split_under temps K.frame between s.above s.below v in
       let m = stands_length K.under from v s in
       let u = K.under_size in
-      base_copied host x listed place next x.layout.globals from (length s.above) count (temps ++ (K.frame ++ (between ++ K.under))) ((temps ++ (K.frame ++ between)) ++ s.above) v s.below calls pending K.machine
+      base_copied host x listed place next x.layout.globals from (length s.above) count
+      (temps ++ (K.frame ++ (between ++ K.under)))
+      ((temps ++ (K.frame ++ between)) ++ s.above) v s.below calls pending K.machine
       begins goes whole long some (omega (arith, m, u, full, long)) (reaches temps between K) (far_down temps between s.above K)
       ∙ ap (λ t. Some (Goes (at x next t calls pending K.machine))) (sym (pushed_over v temps (K.frame ++ (between ++ K.under))))
 
   -- ---- writes
 
   -- what is kept once variables have new parts, and the instruction that writes them
-  pub record Put (scope : List ℕ) (size : ℕ) (globals locals : Variables) (world : World Deferred) (s : Machine) (next : ℕ) (temps between : List Cell) (calls : List ℕ) (pending : List Saved) : Type 0 where
+  pub record Put (scope : List ℕ) (size : ℕ) (globals locals : Variables) (world : World Deferred) (s : Machine)
+      (next : ℕ) (temps between : List Cell) (calls : List ℕ) (pending : List Saved) : Type 0 where
     pub kept : Kept R x scope size globals locals world
     pub goes : step host s ≡ Some (Goes (spot_at R x next temps between calls pending kept))
 
@@ -122,11 +128,13 @@ module _ (host : MachineHost) (R : Saved → Deferred → Type 0) (x : Site) (li
     machine = K.machine;
     under_size = K.under_size;
     frame_size =
-        same_length ((K.local_values.value n i).above ++ pushed (drop (length new) (drop b (locals n))) []) (pushed (take b (locals n)) (K.local_values.value n i).below) new (parts_of b (length new) (locals n)) types
+        same_length ((K.local_values.value n i).above ++ pushed (drop (length new) (drop b (locals n))) [])
+        (pushed (take b (locals n)) (K.local_values.value n i).below) new (parts_of b (length new) (locals n)) types
         ∙ sym (ap length (part_is K.frame (position x.layout n) (locals n) b (length new) (K.local_values.value n i)))
         ∙ K.frame_size;
     under_held = K.under_held;
-    frame_held = held_put ((K.local_values.value n i).above ++ pushed (drop (length new) (drop b (locals n))) []) (pushed (take b (locals n)) (K.local_values.value n i).below) new (parts_of b (length new) (locals n))
+    frame_held = held_put ((K.local_values.value n i).above ++ pushed (drop (length new) (drop b (locals n))) [])
+        (pushed (take b (locals n)) (K.local_values.value n i).below) new (parts_of b (length new) (locals n))
         (subst AreHeld (part_is K.frame (position x.layout n) (locals n) b (length new) (K.local_values.value n i)) K.frame_held);
     global_values = K.global_values;
     local_values = vars_put x scope K.frame locals n b new K.local_values i h types;
@@ -141,11 +149,14 @@ module _ (host : MachineHost) (R : Saved → Deferred → Type 0) (x : Site) (li
     frame = K.frame;
     machine = K.machine;
     under_size =
-        same_length ((K.global_values.value n i).above ++ pushed (drop (length new) (drop b (globals n))) []) (pushed (take b (globals n)) (K.global_values.value n i).below) new (parts_of b (length new) (globals n)) types
+        same_length ((K.global_values.value n i).above ++ pushed (drop (length new) (drop b (globals n))) [])
+        (pushed (take b (globals n)) (K.global_values.value n i).below) new
+        (parts_of b (length new) (globals n)) types
         ∙ sym (ap length (part_is K.under (position x.layout n) (globals n) b (length new) (K.global_values.value n i)))
         ∙ K.under_size;
     frame_size = K.frame_size;
-    under_held = held_put ((K.global_values.value n i).above ++ pushed (drop (length new) (drop b (globals n))) []) (pushed (take b (globals n)) (K.global_values.value n i).below) new (parts_of b (length new) (globals n))
+    under_held = held_put ((K.global_values.value n i).above ++ pushed (drop (length new) (drop b (globals n))) [])
+        (pushed (take b (globals n)) (K.global_values.value n i).below) new (parts_of b (length new) (globals n))
         (subst AreHeld (part_is K.under (position x.layout n) (globals n) b (length new) (K.global_values.value n i)) K.under_held);
     frame_held = K.frame_held;
     global_values = vars_put x x.globals K.under globals n b new K.global_values i h types;
@@ -154,7 +165,9 @@ module _ (host : MachineHost) (R : Saved → Deferred → Type 0) (x : Site) (li
   }
 
   pub frame_writes : {scope : List ℕ} {size : ℕ} {globals locals : Variables} {world : World Deferred} (place next depth count : ℕ) (temps between : List Cell) (calls : List ℕ) (pending : List Saved)
-      (K : Kept R x scope size globals locals world) (n b : ℕ) (new : List Value) (i : In n scope) (h : b + length new ≤ length (locals n)) (types : value_types new ≡ value_types (parts_of b (length new) (locals n)))
+      (K : Kept R x scope size globals locals world) (n b : ℕ) (new : List Value) (i : In n scope)
+      (h : b + length new ≤ length (locals n))
+      (types : value_types new ≡ value_types (parts_of b (length new) (locals n)))
       → op_at x.code place ≡ Some (write x.layout (depth + count) count (InFrame (position x.layout n + b))) → place + 8 ≡ next → length new ≡ count → 0 < count → length temps + size ≡ depth
       → Put scope size globals (with_variable locals n (with_parts b new (locals n))) world (spot_at R x place (pushed new temps) between calls pending K) next (pushed new temps) between calls pending
   frame_writes {locals = locals} place next depth count temps between calls pending K n b new i h types begins goes long some deep =
@@ -176,15 +189,20 @@ module _ (host : MachineHost) (R : Saved → Deferred → Type 0) (x : Site) (li
       let j = pushed_length new temps in
       record {
         kept = frame_kept K n b new i h types;
-        goes = frame_written host x listed place next (depth + count) (position x.layout n + b) count (pushed new temps ++ (K.frame ++ rest)) (pushed new temps ++ above) new old (below ++ rest) (temps ++ (K.frame ++ rest)) calls pending K.machine
+        goes = frame_written host x listed place next (depth + count) (position x.layout n + b) count
+            (pushed new temps ++ (K.frame ++ rest)) (pushed new temps ++ above) new old (below ++ rest)
+            (temps ++ (K.frame ++ rest)) calls pending K.machine
             begins goes whole (pushed_over new temps (K.frame ++ rest)) long types some (omega (arith, a, c, d, e, f, g, j, at_is, long, deep))
             ∙ ap (λ t. Some (Goes (at x next t calls pending K.machine))) (sym (split_in (pushed new temps) above below rest new));
       }
 
   pub base_writes : {scope : List ℕ} {size : ℕ} {globals locals : Variables} {world : World Deferred} (place next depth count : ℕ) (temps between : List Cell) (calls : List ℕ) (pending : List Saved)
-      (K : Kept R x scope size globals locals world) (n b : ℕ) (new : List Value) (i : In n x.globals) (h : b + length new ≤ length (globals n)) (types : value_types new ≡ value_types (parts_of b (length new) (globals n)))
+      (K : Kept R x scope size globals locals world) (n b : ℕ) (new : List Value) (i : In n x.globals)
+      (h : b + length new ≤ length (globals n))
+      (types : value_types new ≡ value_types (parts_of b (length new) (globals n)))
       → op_at x.code place ≡ Some (write x.layout depth count (InGlobals (position x.layout n + b))) → place + 8 ≡ next → length new ≡ count → 0 < count → x.layout.globals ≡ x.bp
-      → Put scope size (with_variable globals n (with_parts b new (globals n))) locals world (spot_at R x place (pushed new temps) between calls pending K) next (pushed new temps) between calls pending
+      → Put scope size (with_variable globals n (with_parts b new (globals n))) locals world
+      (spot_at R x place (pushed new temps) between calls pending K) next (pushed new temps) between calls pending
   base_writes {globals = globals} place next depth count temps between calls pending K n b new i h types begins goes long some full =
       let s = K.global_values.value n i in
       let old = parts_of b (length new) (globals n) in
@@ -202,7 +220,9 @@ module _ (host : MachineHost) (R : Saved → Deferred → Type 0) (x : Site) (li
       let u = K.under_size in
       record {
         kept = under_kept K n b new i h types;
-        goes = base_written host x listed place next x.layout.globals (position x.layout n + b) (length above) count (pushed new temps ++ (K.frame ++ (between ++ K.under))) (upper ++ above) new old below (temps ++ (K.frame ++ (between ++ K.under))) calls pending K.machine
+        goes = base_written host x listed place next x.layout.globals (position x.layout n + b) (length above) count
+            (pushed new temps ++ (K.frame ++ (between ++ K.under))) (upper ++ above) new old below
+            (temps ++ (K.frame ++ (between ++ K.under))) calls pending K.machine
             begins goes whole (pushed_over new temps (K.frame ++ (between ++ K.under))) long types some (omega (arith, a, c, d, e, u, at_is, long, full))
             (reaches (pushed new temps) between K) (far_down (pushed new temps) between above K)
             ∙ ap (λ t. Some (Goes (at x next t calls pending K.machine))) (sym (split_under (pushed new temps) K.frame between above below new));
@@ -211,14 +231,20 @@ module _ (host : MachineHost) (R : Saved → Deferred → Type 0) (x : Site) (li
   -- ---- spots
 
   -- the parts that are read at a spot, on top of what was there
-  pub record Read (scope : List ℕ) (size : ℕ) (t : Ty) (s : Spot) (p : Progress) (place next : ℕ) (temps between : List Cell) (calls : List ℕ) (pending : List Saved) (K : Kept R x scope size p.globals p.locals p.world) : Type 0 where
+  pub record Read (scope : List ℕ) (size : ℕ) (t : Ty) (s : Spot) (p : Progress) (place next : ℕ)
+      (temps between : List Cell) (calls : List ℕ) (pending : List Saved)
+      (K : Kept R x scope size p.globals p.locals p.world) : Type 0 where
     pub typed : value_types (read_at s (length (cell_types x.layout.structs t)) p) ≡ cell_types x.layout.structs t
-    pub goes : step host (spot_at R x place temps between calls pending K) ≡ Some (Goes (spot_at R x next (pushed (read_at s (length (cell_types x.layout.structs t)) p) temps) between calls pending K))
+    pub goes : step host (spot_at R x place temps between calls pending K)
+        ≡ Some (Goes (spot_at R x next
+        (pushed (read_at s (length (cell_types x.layout.structs t)) p) temps) between calls pending K))
 
   typed_length : (v : List Value) (ts : List Ty) → value_types v ≡ ts → length v ≡ length ts
   typed_length v ts h = sym (length-map v type_of_value) ∙ ap length h
 
-  pub spot_reads : (scope : List ℕ) (size : ℕ) (t : Ty) (s : Spot) → IsSpot x scope t s → (p : Progress) (place next depth : ℕ) (temps between : List Cell) (calls : List ℕ) (pending : List Saved) (K : Kept R x scope size p.globals p.locals p.world)
+  pub spot_reads : (scope : List ℕ) (size : ℕ) (t : Ty) (s : Spot) → IsSpot x scope t s
+      → (p : Progress) (place next depth : ℕ) (temps between : List Cell) (calls : List ℕ) (pending : List Saved)
+      (K : Kept R x scope size p.globals p.locals p.world)
       → op_at x.code place ≡ Some (read x.layout depth (length (cell_types x.layout.structs t)) (home_of x scope s)) → place + 8 ≡ next → length temps + size ≡ depth
       → Read scope size t s p place next temps between calls pending K
   spot_reads scope size t (OfLocal n b) f p place next depth temps between calls pending K begins goes deep =
@@ -248,8 +274,11 @@ module _ (host : MachineHost) (R : Saved → Deferred → Type 0) (x : Site) (li
 
   pub spot_writes : (scope : List ℕ) (size : ℕ) (t : Ty) (s : Spot) → IsSpot x scope t s → (p : Progress) (new : List Value) → value_types new ≡ cell_types x.layout.structs t
       → (place next depth : ℕ) (temps between : List Cell) (calls : List ℕ) (pending : List Saved) (K : Kept R x scope size p.globals p.locals p.world)
-      → op_at x.code place ≡ Some (write x.layout (depth + length (cell_types x.layout.structs t)) (length (cell_types x.layout.structs t)) (home_of x scope s)) → place + 8 ≡ next → length temps + size ≡ depth
-      → Put scope size (written_at s new p).globals (written_at s new p).locals (written_at s new p).world (spot_at R x place (pushed new temps) between calls pending K) next (pushed new temps) between calls pending
+      → op_at x.code place ≡ Some
+      (write x.layout (depth + length (cell_types x.layout.structs t)) (length (cell_types x.layout.structs t))
+      (home_of x scope s)) → place + 8 ≡ next → length temps + size ≡ depth
+      → Put scope size (written_at s new p).globals (written_at s new p).locals (written_at s new p).world
+      (spot_at R x place (pushed new temps) between calls pending K) next (pushed new temps) between calls pending
   spot_writes scope size t (OfLocal n b) f p new types place next depth temps between calls pending K begins goes deep =
       let count = length (cell_types x.layout.structs t) in
       let long = typed_length new (cell_types x.layout.structs t) types in
@@ -333,7 +362,8 @@ module _ (host : MachineHost) (R : Saved → Deferred → Type 0) (x : Site) (li
       let k = K.frame_size in
       record {
         kept = frame_kept K n b new fine.0 (omega (arith, all, inside, long)) types;
-        goes = in_frame place next depth (position x.layout n + b) (temps ++ (K.frame ++ rest)) (temps ++ above) (below ++ rest) m.0 calls pending K.machine begins goes whole (omega (arith, a, c, d, e, g, k, at_is, deep))
+        goes = in_frame place next depth (position x.layout n + b) (temps ++ (K.frame ++ rest)) (temps ++ above)
+            (below ++ rest) m.0 calls pending K.machine begins goes whole (omega (arith, a, c, d, e, g, k, at_is, deep))
             ∙ ap (λ u. Some (Goes (at x next ((temps ++ above) ++ pushed u (below ++ rest)) calls pending K.machine))) (sym new_is)
             ∙ ap (λ t. Some (Goes (at x next t calls pending K.machine))) (sym (split_in temps above below rest new));
       }

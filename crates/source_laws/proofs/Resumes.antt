@@ -70,7 +70,9 @@ resumed_run tested s host self saved d carried p w same listed engine_runs execu
     } in
     let begins : entry (continued saved self) w ≡ start = ap (λ (k : ℕ). frame_of k (length saved.globals)) carried.script ∙ ap (frame_of d.script) carried.size in
     let fine = subst (λ (t : EngineTable). IsFine t fs x d.sight d.call) (sym same) (carried.fine self []) in
-    let runs = (functions_run tested s host x s.tables execute fs listed engine_runs (captures_are_carried s host s.tables execute d.script self [] l same carried.is) executes placed (suc p.left)).1 d.call
+    let runs = (functions_run tested s host x s.tables execute fs listed engine_runs
+    (captures_are_carried s host s.tables execute d.script self [] l same carried.is) executes placed
+    (suc p.left)).1 d.call
     d.sight depth carried.label depth saved.place 0 q K [] between [] [] fine b.0 (omega arith) (omega arith) tt in
     let ended = sim_map host R (HoldsValue R x d.sight depth (type_of d.call)) (value_place R x d.sight depth (type_of d.call) next [] between [] [])
     (IsOver R) (over_place R x next) p.left 0 start (value_credits 0) (λ v. 1) (eval here (calling here fs q) d.sight d.call q)

@@ -172,7 +172,9 @@ module _ (host : MachineHost) (R : Saved → Deferred → Type 0) (x : Site) (li
       → step host (at (making x) place cells calls pending world) ≡ Some (Goes (at x (place + 2) (Base 0 ∷ cells) calls pending world))
   unfolding act
   saved_goes place cells calls pending world begins size =
-      acted host (making x) (low_listed []) place ops.SaveBp cells calls pending world (Moves (at (record x { bp = length cells }) (place + 2) (Base 0 ∷ cells) calls pending world).running) begins refl
+      acted host (making x) (low_listed []) place ops.SaveBp cells calls pending world
+      (Moves (at (record x { bp = length cells }) (place + 2)
+      (Base 0 ∷ cells) calls pending world).running) begins refl
       ∙ ap (λ (b : ℕ). Some (Goes (at (record x { bp = b }) (place + 2) (Base 0 ∷ cells) calls pending world))) size
 
   restored_goes : (place : ℕ) (cells : List Cell) (calls : List ℕ) (pending : List Saved) (world : World Saved) → op_at x.code place ≡ Some ops.RestoreBp
@@ -236,7 +238,9 @@ module _ (tested : EqualityIsTested) (stand : CodeStands) (s : Setting) (host : 
   names = global_names l.unit.items
 
   -- what was made are the globals
-  abbrev made_kept : {gs : List ℕ} {globals locals : ℕ → List Value} {world : World Deferred} → (K : Kept (Carries s) (bottom x gs) (after_names names []) (0 + names_cells x.layout.structs names) globals locals world)
+  abbrev made_kept : {gs : List ℕ} {globals locals : ℕ → List Value} {world : World Deferred}
+      → (K : Kept (Carries s) (bottom x gs) (after_names names [])
+      (0 + names_cells x.layout.structs names) globals locals world)
       → length K.frame ≡ x.bp → Kept (Carries s) x [] 0 locals no_variables world
   made_kept K size = record {
     under = K.frame;
@@ -310,7 +314,9 @@ module _ (tested : EqualityIsTested) (stand : CodeStands) (s : Setting) (host : 
             (subst (λ (f : EntryPoint). Sim host R B there m 15 s1 (λ v. 1) (whole here f q)) (sym begins)
             (sim_bind host R (λ v r. KeepsGlobals R x r) (λ v r K. at x two (Base 0 ∷ K.under) (19 ∷ []) [] K.machine) B there m 15 s1 (λ v. 9) (λ v. 1)
             (bind (declared here no_functions [] names q0) (λ flow r. entry_called (calling here fs r) e (globals_made r))) (λ parts r. Gives [] r)
-            (sim_bind host R (AreMade host R tested y low s.tables execute m engine_runs captures (low_executes m) names) (made_place host R tested y low s.tables execute m engine_runs captures (low_executes m) names one 19)
+            (sim_bind host R (AreMade host R tested y low s.tables execute m engine_runs captures
+            (low_executes m) names) (made_place host R tested y low s.tables execute m engine_runs captures
+            (low_executes m) names one 19)
             (λ v r. KeepsGlobals R x r) (λ v r K. at x two (Base 0 ∷ K.under) (19 ∷ []) [] K.machine) m 15 s1 (λ f. 15) (λ v. 9)
             (declared here no_functions [] names q0) (λ flow r. entry_called (calling here fs r) e (globals_made r))
             (names_made host R tested y low s.tables execute m engine_runs captures (low_executes m) names (n + 1) 21 19 15 q0 K0 fine a.0 (omega arith))
@@ -346,7 +352,8 @@ module _ (tested : EqualityIsTested) (stand : CodeStands) (s : Setting) (host : 
     where
       by_size : (size : ℕ) → x.bp ≡ size → (e : EntryPoint) → l.unit.entry ≡ e → (fn : Function) → slice_get fs (entry_function e) ≡ Some fn → fn.parameters ≡ [] → fn.result ≡ entry_type e
           → has_globals l.unit.items ≡ true → (p : Progress) (w : World Saved) → Alike (Carries s) w p.world
-          → Sim host (Carries s) (EndsAlike (Carries s)) (end_place (Carries s) (making x) 19) p.left 0 (at (making x) 13 [] [] [] w) (λ v. 1) (listed_started s (executing s start) script self (Some l) p)
+          → Sim host (Carries s) (EndsAlike (Carries s)) (end_place (Carries s) (making x) 19) p.left 0
+          (at (making x) 13 [] [] [] w) (λ v. 1) (listed_started s (executing s start) script self (Some l) p)
       by_size zero none =
           let low_fine = names_more x host.table [] [] x.globals (λ n i. absurd i) names 0 [] fine in
           let count = globals_cells x.layout.structs l.unit.items in
@@ -371,7 +378,9 @@ module _ (begin : ℕ → EntryPoint) (t : Ty) (last : ℕ) (of_function : (f : 
           (at (making (unit_site script l.unit self waiting)) 13 [] [] [] w) (λ v. 1) (listed_started s (executing s start) script self (Some l) p)
       by_globals true some =
           every_globals_start tested stand s host start script self waiting l same is listed engine_runs executes ready.placed ready.made low_executes
-          (begin ready.entry) ready.begins ready.main (ap (slice_get (functions l.unit.items)) (of_function ready.entry) ∙ ready.is) ready.parameters (ready.result ∙ sym (of_type ready.entry)) some p w alike
+          (begin ready.entry) ready.begins ready.main
+          (ap (slice_get (functions l.unit.items)) (of_function ready.entry) ∙ ready.is) ready.parameters
+          (ready.result ∙ sym (of_type ready.entry)) some p w alike
       by_globals false none =
           let x = unit_site script l.unit self waiting in
           subst (λ (b : ℕ). Sim host (Carries s) (EndsAlike (Carries s)) (end_place (Carries s) (record x { bp = b }) last) p.left 0

@@ -83,7 +83,9 @@ module _ (x : Site) where
           let p = parted s.above (pushed (variables n) s.below) more frame (sym s.is) (let at_is = s.at in omega (arith, size, typed, count, deep, at_is)) in
           record { above = p.between; below = s.below; is = p.right; at = s.at }
 
-  new_value : (scope : List ℕ) (frame : List Cell) (variables : Variables) (n : ℕ) (v : List Value) → Vars x scope frame variables → length frame ≡ position x.layout n → (m : ℕ) → In m (n ∷ scope) → (t : Bool) → (m == n) ≡ t
+  new_value : (scope : List ℕ) (frame : List Cell) (variables : Variables) (n : ℕ) (v : List Value)
+      → Vars x scope frame variables → length frame ≡ position x.layout n → (m : ℕ) → In m (n ∷ scope) → (t : Bool)
+      → (m == n) ≡ t
       → Stands (pushed v frame) (position x.layout m) (if t then v else variables m)
   new_value scope frame variables n v vars size m i true e =
       let same : m ≡ n = (Decides-eqb m n).0 e in
@@ -91,14 +93,17 @@ module _ (x : Site) where
   new_value scope frame variables n v vars size m (inl same) false e = absurd (differ (sym ((Decides-eqb m n).1 same) ∙ e))
   new_value scope frame variables n v vars size m (inr i) false e = stands_over frame (map Holds (reverse v)) (position x.layout m) (variables m) (vars.value m i)
 
-  new_typed : (scope : List ℕ) (frame : List Cell) (variables : Variables) (n : ℕ) (v : List Value) → Vars x scope frame variables → value_types v ≡ part_types x n → (m : ℕ) → In m (n ∷ scope) → (t : Bool) → (m == n) ≡ t
+  new_typed : (scope : List ℕ) (frame : List Cell) (variables : Variables) (n : ℕ) (v : List Value)
+      → Vars x scope frame variables → value_types v ≡ part_types x n → (m : ℕ) → In m (n ∷ scope) → (t : Bool)
+      → (m == n) ≡ t
       → value_types (if t then v else variables m) ≡ part_types x m
   new_typed scope frame variables n v vars typed m i true e = typed ∙ ap (part_types x) (sym ((Decides-eqb m n).0 e))
   new_typed scope frame variables n v vars typed m (inl same) false e = absurd (differ (sym ((Decides-eqb m n).1 same) ∙ e))
   new_typed scope frame variables n v vars typed m (inr i) false e = vars.typed m i
 
   -- the new one lies above all others
-  above_all : (scope : List ℕ) (frame : List Cell) (variables : Variables) (n : ℕ) → Vars x scope frame variables → length frame ≡ position x.layout n → (m k : ℕ) → In m (n ∷ scope) → In k (n ∷ scope) → (m ≡ k → ⊥)
+  above_all : (scope : List ℕ) (frame : List Cell) (variables : Variables) (n : ℕ) → Vars x scope frame variables
+      → length frame ≡ position x.layout n → (m k : ℕ) → In m (n ∷ scope) → In k (n ∷ scope) → (m ≡ k → ⊥)
       → (position x.layout m + length (part_types x m) ≤ position x.layout k) ⊎ (position x.layout k + length (part_types x k) ≤ position x.layout m)
   above_all scope frame variables n vars size m k (inl a) (inl b) apart = absurd (apart (a ∙ sym b))
   above_all scope frame variables n vars size m k (inl a) (inr j) apart =
@@ -111,7 +116,8 @@ module _ (x : Site) where
       inl (omega (arith, w, p, size))
   above_all scope frame variables n vars size m k (inr i) (inr j) apart = vars.apart m k i j apart
 
-  pub vars_new : (scope : List ℕ) (frame : List Cell) (variables : Variables) (n : ℕ) (v : List Value) → Vars x scope frame variables → length frame ≡ position x.layout n → value_types v ≡ part_types x n
+  pub vars_new : (scope : List ℕ) (frame : List Cell) (variables : Variables) (n : ℕ) (v : List Value)
+      → Vars x scope frame variables → length frame ≡ position x.layout n → value_types v ≡ part_types x n
       → Vars x (n ∷ scope) (pushed v frame) (with_variable variables n v)
   vars_new scope frame variables n v vars size typed = record {
     value = λ m i. new_value scope frame variables n v vars size m i (m == n) refl;
@@ -186,9 +192,13 @@ module _ (host : MachineHost) (R : Saved → Deferred → Type 0) (x : Site) (li
 
   -- MOVSP takes the upper cells of the frame; where there are none, nothing is emitted
   pub lower_goes : {scope : List ℕ} {size : ℕ} {globals locals : Variables} {world : World Deferred} (K : Kept R x scope size globals locals world) (fewer : List ℕ) (depth : ℕ) (less : depth ≤ size)
-      (seen : (n : ℕ) → In n fewer → In n scope) (beneath_it : (n : ℕ) → In n fewer → position x.layout n + length (part_types x n) ≤ depth) (n c : ℕ) (place : ℕ) (between : List Cell) (calls : List ℕ) (pending : List Saved) (gone : ℕ) → size - depth ≡ gone
+      (seen : (n : ℕ) → In n fewer → In n scope)
+      (beneath_it : (n : ℕ) → In n fewer → position x.layout n + length (part_types x n) ≤ depth) (n c : ℕ)
+      (place : ℕ) (between : List Cell) (calls : List ℕ) (pending : List Saved) (gone : ℕ) → size - depth ≡ gone
       → LinesStand x.code x.places place (dropped gone)
-      → Took host n (c + one_of gone) (spot_at R x place [] between calls pending K) n c (spot_at R x (place + lines_size (dropped gone)) [] between calls pending (lower_kept K fewer depth less seen beneath_it))
+      → Took host n (c + one_of gone) (spot_at R x place [] between calls pending K) n c
+      (spot_at R x (place + lines_size (dropped gone)) [] between calls pending
+      (lower_kept K fewer depth less seen beneath_it))
   lower_goes {size = size} K fewer depth less seen beneath_it n c place between calls pending zero is lines =
       let same : place ≡ place + 0 = omega arith in
       let whole : K.frame ≡ drop (size - depth) K.frame = ap (λ k. drop k K.frame) (sym is) in
@@ -218,7 +228,8 @@ module _ (host : MachineHost) (R : Saved → Deferred → Type 0) (x : Site) (li
   abbrev pub Holds' : Exit → Exit → List ℕ → ℕ → Flow → Progress → Type 0
   Holds' breaks continues scope size f p = FlowHolds R x result breaks continues scope size f p
 
-  abbrev pub place_of_flow : (breaks continues : Exit) (scope : List ℕ) (size : ℕ) → ℕ → List Value → List Cell → ℕ → List ℕ → List Saved → (f : Flow) (p : Progress) → Holds' breaks continues scope size f p → Machine
+  abbrev pub place_of_flow : (breaks continues : Exit) (scope : List ℕ) (size : ℕ) → ℕ → List Value → List Cell → ℕ
+      → List ℕ → List Saved → (f : Flow) (p : Progress) → Holds' breaks continues scope size f p → Machine
   place_of_flow breaks continues scope size next room lower back calls pending f p h = flow_place R x result breaks continues scope size next room lower back calls pending f p h
 
   -- a frame of so many cells and no more
@@ -279,7 +290,8 @@ module _ (host : MachineHost) (R : Saved → Deferred → Type 0) (x : Site) (li
 
   -- the end of a statement by further instructions, with credits to spare; every other way to leave
   -- it stays
-  flow_on : (breaks continues : Exit) (scope : List ℕ) (size first next n c d : ℕ) (s : Machine) (room : List Value) (lower : List Cell) (back : ℕ) (calls : List ℕ) (pending : List Saved) (r : Outcome Flow) → c + 1 ≤ d
+  flow_on : (breaks continues : Exit) (scope : List ℕ) (size first next n c d : ℕ) (s : Machine) (room : List Value)
+      (lower : List Cell) (back : ℕ) (calls : List ℕ) (pending : List Saved) (r : Outcome Flow) → c + 1 ≤ d
       → ((p : Progress) (K : Kept R x scope (size + 0) p.globals p.locals p.world)
       → step host (spot_at R x first [] (pushed room lower) (back ∷ calls) pending K) ≡ Some (Goes (spot_at R x next [] (pushed room lower) (back ∷ calls) pending K)))
       → Sim host R (Holds' breaks continues scope (size + 0)) (place_of_flow breaks continues scope (size + 0) first room lower back calls pending) n d s (flow_credits d 0) r
@@ -290,14 +302,23 @@ module _ (host : MachineHost) (R : Saved → Deferred → Type 0) (x : Site) (li
       (λ f p g. on_flow f p g)
     where
       on_flow : (f : Flow) (p : Progress) (g : Holds' breaks continues scope (size + 0) f p) → (y : Holds' breaks continues scope (size + 0) f p)
-          × Took host p.left (flow_credits d 0 f) (place_of_flow breaks continues scope (size + 0) first room lower back calls pending f p g) p.left (flow_credits c 0 f) (place_of_flow breaks continues scope (size + 0) next room lower back calls pending f p y)
-      on_flow Next p g = (g, took_cost host p.left (d + 0) (c + 0) (spot_at R x first [] (pushed room lower) (back ∷ calls) pending g) (spot_at R x next [] (pushed room lower) (back ∷ calls) pending g) (omega arith) (jump p g))
+          × Took host p.left (flow_credits d 0 f)
+          (place_of_flow breaks continues scope (size + 0) first room lower back calls pending f p g) p.left
+          (flow_credits c 0 f) (place_of_flow breaks continues scope
+          (size + 0) next room lower back calls pending f p y)
+      on_flow Next p g = (
+        g,
+        took_cost host p.left (d + 0) (c + 0)
+            (spot_at R x first [] (pushed room lower) (back ∷ calls) pending g)
+            (spot_at R x next [] (pushed room lower) (back ∷ calls) pending g) (omega arith) (jump p g),
+      )
       on_flow Broke p g = (g, took_less host c (omega arith) (took_none host p.left d (spot_at R x (x.places breaks.label) [] (pushed room lower) (back ∷ calls) pending g.1)))
       on_flow Continued p g = (g, took_less host c (omega arith) (took_none host p.left d (spot_at R x (x.places continues.label) [] (pushed room lower) (back ∷ calls) pending g.1)))
       on_flow (Returned v) p g = (g, took_less host c (omega arith) (took_none host p.left d (spot_at R x back [] (pushed v lower) calls pending g.1)))
 
   -- the same end at an equal place, with credits to spare
-  flow_same : (breaks continues : Exit) (scope : List ℕ) (size first next n c d : ℕ) (s : Machine) (room : List Value) (lower : List Cell) (back : ℕ) (calls : List ℕ) (pending : List Saved) (r : Outcome Flow) → c ≤ d → first ≡ next
+  flow_same : (breaks continues : Exit) (scope : List ℕ) (size first next n c d : ℕ) (s : Machine) (room : List Value)
+      (lower : List Cell) (back : ℕ) (calls : List ℕ) (pending : List Saved) (r : Outcome Flow) → c ≤ d → first ≡ next
       → Sim host R (Holds' breaks continues scope (size + 0)) (place_of_flow breaks continues scope (size + 0) first room lower back calls pending) n d s (flow_credits d 0) r
       → Sim host R (Holds' breaks continues scope (size + 0)) (place_of_flow breaks continues scope (size + 0) next room lower back calls pending) n d s (flow_credits c 0) r
   flow_same breaks continues scope size first next n c d s room lower back calls pending r less same h =
@@ -307,7 +328,10 @@ module _ (host : MachineHost) (R : Saved → Deferred → Type 0) (x : Site) (li
       (λ f p g. (g, fewer f p g)))
     where
       fewer : (f : Flow) (p : Progress) (g : Holds' breaks continues scope (size + 0) f p)
-          → Took host p.left (flow_credits d 0 f) (place_of_flow breaks continues scope (size + 0) first room lower back calls pending f p g) p.left (flow_credits c 0 f) (place_of_flow breaks continues scope (size + 0) first room lower back calls pending f p g)
+          → Took host p.left (flow_credits d 0 f)
+          (place_of_flow breaks continues scope (size + 0) first room lower back calls pending f p g) p.left
+          (flow_credits c 0 f) (place_of_flow breaks continues scope
+          (size + 0) first room lower back calls pending f p g)
       fewer Next p g = took_less host (c + 0) (omega arith) (took_none host p.left (d + 0) (spot_at R x first [] (pushed room lower) (back ∷ calls) pending g))
       fewer Broke p g = took_less host c less (took_none host p.left d (spot_at R x (x.places breaks.label) [] (pushed room lower) (back ∷ calls) pending g.1))
       fewer Continued p g = took_less host c less (took_none host p.left d (spot_at R x (x.places continues.label) [] (pushed room lower) (back ∷ calls) pending g.1))
@@ -315,7 +339,9 @@ module _ (host : MachineHost) (R : Saved → Deferred → Type 0) (x : Site) (li
 
   -- ---- expressions as statements
 
-  value_dropped : {scope : List ℕ} {size : ℕ} {globals locals : Variables} {world : World Deferred} (K : Kept R x scope size globals locals world) (n c place count : ℕ) (v : List Value) (between : List Cell) (calls : List ℕ) (pending : List Saved)
+  value_dropped : {scope : List ℕ} {size : ℕ} {globals locals : Variables} {world : World Deferred}
+      (K : Kept R x scope size globals locals world) (n c place count : ℕ) (v : List Value) (between : List Cell)
+      (calls : List ℕ) (pending : List Saved)
       → length v ≡ count → LinesStand x.code x.places place (dropped count)
       → Took host n (c + 1) (spot_at R x place (pushed v []) between calls pending K) n c (spot_at R x (place + lines_size (dropped count)) [] between calls pending K)
   value_dropped K n c place zero [] between calls pending long lines =
@@ -353,8 +379,12 @@ module _ (host : MachineHost) (R : Saved → Deferred → Type 0) (x : Site) (li
   pub empty_does : (m : ℕ) → Does (empty m)
   empty_does m out breaks continues scope size n place c p K room lower back calls pending fine stands exits ends starts typed le =
       let same : place ≡ place + 0 = omega arith in
-      let s = spot_at R x place [] (pushed room lower) (back ∷ calls) pending K in
-      (and_none K, subst (λ k. Took host p.left c s p.left (c + 0) (spot_at R x k [] (pushed room lower) (back ∷ calls) pending K)) same (took_less host (c + 0) (omega arith) (took_none host p.left c s)))
+      let s = spot_at R x place [] (pushed room lower) (back ∷ calls) pending K in (
+        and_none K,
+        subst (λ k. Took host p.left c s p.left (c + 0)
+            (spot_at R x k [] (pushed room lower) (back ∷ calls) pending K)) same
+            (took_less host (c + 0) (omega arith) (took_none host p.left c s)),
+      )
 
   -- ---- `if`
 
@@ -371,7 +401,9 @@ module _ (host : MachineHost) (R : Saved → Deferred → Type 0) (x : Site) (li
   is_nought false h = absurd cc
 
   -- what follows a test at a jump
-  tested_then : (breaks continues : Exit) (scope : List ℕ) (size n c at_jump : ℕ) (q : Progress) (K : Kept R x scope size q.globals q.locals q.world) (next : ℕ) (room : List Value) (lower : List Cell) (back : ℕ) (calls : List ℕ) (pending : List Saved)
+  tested_then : (breaks continues : Exit) (scope : List ℕ) (size n c at_jump : ℕ) (q : Progress)
+      (K : Kept R x scope size q.globals q.locals q.world) (next : ℕ) (room : List Value) (lower : List Cell) (back : ℕ)
+      (calls : List ℕ) (pending : List Saved)
       (v : List Value) (go other : Progress → Outcome Flow) → value_types v ≡ IntTy ∷ []
       → ((k : ℤ) → is_zero k ≡ false → Sim host R (Holds' breaks continues scope (size + 0)) (place_of_flow breaks continues scope (size + 0) next room lower back calls pending)
       q.left n (spot_at R x at_jump (Holds (Int k) ∷ []) (pushed room lower) (back ∷ calls) pending K) (flow_credits c 0) (go q))
@@ -401,12 +433,15 @@ module _ (host : MachineHost) (R : Saved → Deferred → Type 0) (x : Site) (li
       let between = pushed room lower in
       sim_bind host R (HoldsValue R x scope size (type_of e)) (value_place R x scope size (type_of e) middle [] between (back ∷ calls) pending)
       (Holds' breaks continues scope (size + 0)) (place_of_flow breaks continues scope (size + 0) next room lower back calls pending)
-      p.left c (spot_at R x place [] between (back ∷ calls) pending K) (value_credits c) (flow_credits c 0) (eval here caller scope e p) (λ v q. chosen (is_true v) (λ u. exec here caller scope a u) (λ u. Gives Next u) q)
+      p.left c (spot_at R x place [] between (back ∷ calls) pending K) (value_credits c) (flow_credits c 0)
+      (eval here caller scope e p)
+      (λ v q. chosen (is_true v) (λ u. exec here caller scope a u) (λ u. Gives Next u) q)
       (r scope size (n + 1) size place c p K [] between (back ∷ calls) pending fine.0.0 b.0 (omega arith) le tt)
       (λ v q h less.
       let L = h.1 in
       let rest = L.frame ++ (between ++ L.under) in
-      tested_then breaks continues scope size (8 + c) c middle q L next room lower back calls pending v (λ u. exec here caller scope a u) (λ u. Gives Next u) (h.0 ∙ ap (cell_types x.layout.structs) fine.0.1)
+      tested_then breaks continues scope size (8 + c) c middle q L next room lower back calls pending v
+      (λ u. exec here caller scope a u) (λ u. Gives Next u) (h.0 ∙ ap (cell_types x.layout.structs) fine.0.1)
       (λ k nonzero.
       let s0 = spot_at R x middle (Holds (Int k) ∷ []) between (back ∷ calls) pending L in
       let s1 = spot_at R x (middle + 6) [] between (back ∷ calls) pending L in
@@ -440,12 +475,16 @@ module _ (host : MachineHost) (R : Saved → Deferred → Type 0) (x : Site) (li
       let between = pushed room lower in
       sim_bind host R (HoldsValue R x scope size (type_of e)) (value_place R x scope size (type_of e) middle [] between (back ∷ calls) pending)
       (Holds' breaks continues scope (size + 0)) (place_of_flow breaks continues scope (size + 0) next room lower back calls pending)
-      p.left c (spot_at R x place [] between (back ∷ calls) pending K) (value_credits c) (flow_credits c 0) (eval here caller scope e p) (λ v q. chosen (is_true v) (λ u. exec here caller scope a u) (λ u. exec here caller scope o u) q)
+      p.left c (spot_at R x place [] between (back ∷ calls) pending K) (value_credits c) (flow_credits c 0)
+      (eval here caller scope e p)
+      (λ v q. chosen (is_true v) (λ u. exec here caller scope a u) (λ u. exec here caller scope o u) q)
       (r scope size (n + 2) size place c p K [] between (back ∷ calls) pending fine.0.0 b.0 (omega arith) le tt)
       (λ v q h less.
       let L = h.1 in
       let rest = L.frame ++ (between ++ L.under) in
-      tested_then breaks continues scope size (8 + c) c middle q L next room lower back calls pending v (λ u. exec here caller scope a u) (λ u. exec here caller scope o u) (h.0 ∙ ap (cell_types x.layout.structs) fine.0.1)
+      tested_then breaks continues scope size (8 + c) c middle q L next room lower back calls pending v
+      (λ u. exec here caller scope a u) (λ u. exec here caller scope o u)
+      (h.0 ∙ ap (cell_types x.layout.structs) fine.0.1)
       (λ k nonzero.
       let s0 = spot_at R x middle (Holds (Int k) ∷ []) between (back ∷ calls) pending L in
       let s1 = spot_at R x (middle + 6) [] between (back ∷ calls) pending L in
@@ -462,11 +501,13 @@ module _ (host : MachineHost) (R : Saved → Deferred → Type 0) (x : Site) (li
       sim_after host R (Holds' breaks continues scope (size + 0)) (place_of_flow breaks continues scope (size + 0) next room lower back calls pending) (flow_credits c 0) (exec here caller scope o q)
       (took_cost host q.left (8 + c) (7 + c) s0 s1 (omega arith) jump)
       (flow_same breaks continues scope size (jumps + 6 + 0 + lines_size second) next q.left c (7 + c) s1 room lower back calls pending (exec here caller scope o q) (omega arith) ending
-      (keeps o fine.4 db out breaks continues scope size (n + 2 + labels e + stmt_labels a) (jumps + 6 + 0) (7 + c) q L room lower back calls pending fine.2 f.0 exits ends starts typed (omega (arith, less, le))))))
+      (keeps o fine.4 db out breaks continues scope size (n + 2 + labels e + stmt_labels a) (jumps + 6 + 0)
+      (7 + c) q L room lower back calls pending fine.2 f.0 exits ends starts typed (omega (arith, less, le))))))
 
   -- ---- lists of statements
 
-  abbrev sized : {scope : List ℕ} {size : ℕ} {globals locals : Variables} {world : World Deferred} (other : ℕ) → size ≡ other → Kept R x scope size globals locals world → Kept R x scope other globals locals world
+  abbrev sized : {scope : List ℕ} {size : ℕ} {globals locals : Variables} {world : World Deferred} (other : ℕ)
+      → size ≡ other → Kept R x scope size globals locals world → Kept R x scope other globals locals world
   sized other same K = record {
     under = K.under;
     frame = K.frame;
@@ -487,14 +528,19 @@ module _ (host : MachineHost) (R : Saved → Deferred → Type 0) (x : Site) (li
       → AreFineStmts host.table functions x result breaks.allowed continues.allowed size scope ss → LinesStand x.code x.places place (emit_stmts x.layout out n size None ss)
       → AreExits out breaks continues → IsExit x scope size breaks → IsExit x scope size continues → value_types room ≡ cell_types x.layout.structs result → p.left ≤ most
       → Sim host R (Holds' breaks continues (after_stmts ss scope) (size + all_declared_cells x.layout.structs ss))
-      (place_of_flow breaks continues (after_stmts ss scope) (size + all_declared_cells x.layout.structs ss) (place + lines_size (emit_stmts x.layout out n size None ss)) room lower back calls pending)
+      (place_of_flow breaks continues (after_stmts ss scope) (size + all_declared_cells x.layout.structs ss)
+      (place + lines_size (emit_stmts x.layout out n size None ss)) room lower back calls pending)
       p.left c (spot_at R x place [] (pushed room lower) (back ∷ calls) pending K) (flow_credits c (all_declared_cells x.layout.structs ss)) (execs here caller scope ss p)
 
   pub none_do : DoAll no_stmt
   none_do out breaks continues scope size n place c p K room lower back calls pending fine stands exits ends starts typed le =
       let same : place ≡ place + 0 = omega arith in
-      let s = spot_at R x place [] (pushed room lower) (back ∷ calls) pending K in
-      (and_none K, subst (λ k. Took host p.left c s p.left (c + 0) (spot_at R x k [] (pushed room lower) (back ∷ calls) pending K)) same (took_less host (c + 0) (omega arith) (took_none host p.left c s)))
+      let s = spot_at R x place [] (pushed room lower) (back ∷ calls) pending K in (
+        and_none K,
+        subst (λ k. Took host p.left c s p.left (c + 0)
+            (spot_at R x k [] (pushed room lower) (back ∷ calls) pending K)) same
+            (took_less host (c + 0) (omega arith) (took_none host p.left c s)),
+      )
 
   exit_later : (s : TypedStmt) (scope : List ℕ) (size : ℕ) (e : Exit) → IsExit x scope size e → IsExit x (after_stmt s scope) (size + declared_cells x.layout.structs s) e
   exit_later s scope size e h = record {
@@ -503,12 +549,19 @@ module _ (host : MachineHost) (R : Saved → Deferred → Type 0) (x : Site) (li
     beneath = h.beneath;
   }
 
-  regrouped : (breaks continues : Exit) (scope : List ℕ) (size d e first next c : ℕ) (room : List Value) (lower : List Cell) (back : ℕ) (calls : List ℕ) (pending : List Saved) → first ≡ next → size + d + e ≡ size + (d + e) → one_of (d + e) ≤ one_of d + one_of e
+  regrouped : (breaks continues : Exit) (scope : List ℕ) (size d e first next c : ℕ) (room : List Value)
+      (lower : List Cell) (back : ℕ) (calls : List ℕ) (pending : List Saved) → first ≡ next
+      → size + d + e ≡ size + (d + e) → one_of (d + e) ≤ one_of d + one_of e
       → (f : Flow) (r : Progress) (g : Holds' breaks continues scope (size + d + e) f r) → (y : Holds' breaks continues scope (size + (d + e)) f r)
-      × Took host r.left (flow_credits (c + one_of d) e f) (place_of_flow breaks continues scope (size + d + e) first room lower back calls pending f r g) r.left (flow_credits c (d + e) f) (place_of_flow breaks continues scope (size + (d + e)) next room lower back calls pending f r y)
+      × Took host r.left (flow_credits (c + one_of d) e f)
+      (place_of_flow breaks continues scope (size + d + e) first room lower back calls pending f r g) r.left
+      (flow_credits c (d + e) f)
+      (place_of_flow breaks continues scope (size + (d + e)) next room lower back calls pending f r y)
   regrouped breaks continues scope size d e first next c room lower back calls pending same whole enough Next r g = (
     sized (size + (d + e)) whole g,
-    subst (λ k. Took host r.left (c + one_of d + one_of e) (spot_at R x first [] (pushed room lower) (back ∷ calls) pending g) r.left (c + one_of (d + e)) (spot_at R x k [] (pushed room lower) (back ∷ calls) pending g)) same
+    subst (λ k. Took host r.left (c + one_of d + one_of e)
+        (spot_at R x first [] (pushed room lower) (back ∷ calls) pending g) r.left (c + one_of (d + e))
+        (spot_at R x k [] (pushed room lower) (back ∷ calls) pending g)) same
         (took_less host (c + one_of (d + e)) (omega (arith, enough)) (took_none host r.left (c + one_of d + one_of e) (spot_at R x first [] (pushed room lower) (back ∷ calls) pending g))),
   )
   regrouped breaks continues scope size d e first next c room lower back calls pending same whole enough Broke r g =
@@ -534,19 +587,26 @@ module _ (host : MachineHost) (R : Saved → Deferred → Type 0) (x : Site) (li
       let B = Holds' breaks continues last (size + (one + many)) in
       let there = place_of_flow breaks continues last (size + (one + many)) next room lower back calls pending in
       sim_bind host R (Holds' breaks continues (after_stmt s scope) (size + one)) (place_of_flow breaks continues (after_stmt s scope) (size + one) middle room lower back calls pending) B there
-      p.left c (spot_at R x place [] between (back ∷ calls) pending K) (flow_credits c one) (flow_credits c (one + many)) (exec here caller scope s p) (λ f q. on_next f (λ r. execs here caller (after_stmt s scope) ss r) q)
+      p.left c (spot_at R x place [] between (back ∷ calls) pending K) (flow_credits c one)
+      (flow_credits c (one + many)) (exec here caller scope s p)
+      (λ f q. on_next f (λ r. execs here caller (after_stmt s scope) ss r) q)
       (ds out breaks continues scope size n place c p K room lower back calls pending fine.0 b.0 exits ends starts typed le)
       (λ f q h less. on_first s ss dss out breaks continues scope size n place c p.left room lower back calls pending fine.1 middle next b.1 ending exits ends starts typed le f q h less)
     where
-      on_first : (s : TypedStmt) (ss : TypedStmts) (dss : DoAll ss) (out : Exits) (breaks continues : Exit) (scope : List ℕ) (size n place c left : ℕ) (room : List Value) (lower : List Cell) (back : ℕ) (calls : List ℕ) (pending : List Saved)
+      on_first : (s : TypedStmt) (ss : TypedStmts) (dss : DoAll ss) (out : Exits) (breaks continues : Exit)
+          (scope : List ℕ) (size n place c left : ℕ) (room : List Value) (lower : List Cell) (back : ℕ) (calls : List ℕ)
+          (pending : List Saved)
           → AreFineStmts host.table functions x result breaks.allowed continues.allowed (size + declared_cells x.layout.structs s) (after_stmt s scope) ss → (middle next : ℕ)
           → LinesStand x.code x.places middle (emit_stmts x.layout out (n + stmt_labels s) (size + declared_cells x.layout.structs s) None ss)
           → middle + lines_size (emit_stmts x.layout out (n + stmt_labels s) (size + declared_cells x.layout.structs s) None ss) ≡ next
           → AreExits out breaks continues → IsExit x scope size breaks → IsExit x scope size continues → value_types room ≡ cell_types x.layout.structs result → left ≤ most
           → (f : Flow) (q : Progress) (h : Holds' breaks continues (after_stmt s scope) (size + declared_cells x.layout.structs s) f q) → q.left ≤ left
           → Sim host R (Holds' breaks continues (after_stmts ss (after_stmt s scope)) (size + (declared_cells x.layout.structs s + all_declared_cells x.layout.structs ss)))
-          (place_of_flow breaks continues (after_stmts ss (after_stmt s scope)) (size + (declared_cells x.layout.structs s + all_declared_cells x.layout.structs ss)) next room lower back calls pending)
-          q.left (flow_credits c (declared_cells x.layout.structs s) f) (place_of_flow breaks continues (after_stmt s scope) (size + declared_cells x.layout.structs s) middle room lower back calls pending f q h)
+          (place_of_flow breaks continues (after_stmts ss (after_stmt s scope))
+          (size + (declared_cells x.layout.structs s + all_declared_cells x.layout.structs ss)) next room lower back calls pending)
+          q.left (flow_credits c (declared_cells x.layout.structs s) f)
+          (place_of_flow breaks continues (after_stmt s scope)
+          (size + declared_cells x.layout.structs s) middle room lower back calls pending f q h)
           (flow_credits c (declared_cells x.layout.structs s + all_declared_cells x.layout.structs ss)) (on_next f (λ r. execs here caller (after_stmt s scope) ss r) q)
       on_first s ss dss out breaks continues scope size n place c left room lower back calls pending fine middle next lines ending exits ends starts typed le Next q h less =
           let structs = x.layout.structs in
@@ -558,8 +618,11 @@ module _ (host : MachineHost) (R : Saved → Deferred → Type 0) (x : Site) (li
           let enough = sum_of d e in
           sim_map host R (Holds' breaks continues scope' (size + d + e)) (place_of_flow breaks continues scope' (size + d + e) (middle + lines_size rest) room lower back calls pending)
           (Holds' breaks continues scope' (size + (d + e))) (place_of_flow breaks continues scope' (size + (d + e)) next room lower back calls pending)
-          q.left (c + one_of d) (spot_at R x middle [] (pushed room lower) (back ∷ calls) pending h) (flow_credits (c + one_of d) e) (flow_credits c (d + e)) (execs here caller (after_stmt s scope) ss q)
-          (dss out breaks continues (after_stmt s scope) (size + d) (n + stmt_labels s) middle (c + one_of d) q h room lower back calls pending fine lines exits (exit_later s scope size breaks ends) (exit_later s scope size continues starts) typed (omega (arith, less, le)))
+          q.left (c + one_of d) (spot_at R x middle [] (pushed room lower) (back ∷ calls) pending h)
+          (flow_credits (c + one_of d) e) (flow_credits c (d + e)) (execs here caller (after_stmt s scope) ss q)
+          (dss out breaks continues (after_stmt s scope) (size + d) (n + stmt_labels s) middle
+          (c + one_of d) q h room lower back calls pending fine lines exits (exit_later s scope size breaks ends)
+          (exit_later s scope size continues starts) typed (omega (arith, less, le)))
           (λ f r g. regrouped breaks continues scope' size d e (middle + lines_size rest) next c room lower back calls pending ending whole enough f r g)
       on_first s ss dss out breaks continues scope size n place c left room lower back calls pending fine middle next lines ending exits ends starts typed le Broke q h less =
           (h, took_none host q.left c (spot_at R x (x.places breaks.label) [] (pushed room lower) (back ∷ calls) pending h.1))
@@ -582,7 +645,9 @@ module _ (host : MachineHost) (R : Saved → Deferred → Type 0) (x : Site) (li
       (Holds' breaks continues scope (size + 0)) (place_of_flow breaks continues scope (size + 0) next room lower back calls pending)
       p.left c (spot_at R x place [] (pushed room lower) (back ∷ calls) pending K) (flow_credits c many) (flow_credits c 0) (execs here caller scope ss p)
       (dss out breaks continues scope size n place c p K room lower back calls pending fine b.0 exits ends starts typed le)
-      (λ f q g. on_end breaks continues ss scope size many middle next c room lower back calls pending b.1 ending (λ i j. fits (position x.layout i + length (part_types x i)) (length K.frame) size (within x scope K.frame p.locals K.local_values i j) K.frame_size) f q g)
+      (λ f q g. on_end breaks continues ss scope size many middle next c room lower back calls pending b.1 ending
+      (λ i j. fits (position x.layout i + length (part_types x i)) (length K.frame) size
+      (within x scope K.frame p.locals K.local_values i j) K.frame_size) f q g)
     where
       fits : (a b c : ℕ) → a ≤ b → b ≡ c → a ≤ c
       fits a b c h k = omega arith
@@ -590,25 +655,36 @@ module _ (host : MachineHost) (R : Saved → Deferred → Type 0) (x : Site) (li
       on_end : (breaks continues : Exit) (ss : TypedStmts) (scope : List ℕ) (size many middle next c : ℕ) (room : List Value) (lower : List Cell) (back : ℕ) (calls : List ℕ) (pending : List Saved)
           → LinesStand x.code x.places middle (dropped many) → middle + lines_size (dropped many) ≡ next → ((i : ℕ) → In i scope → position x.layout i + length (part_types x i) ≤ size)
           → (f : Flow) (q : Progress) (g : Holds' breaks continues (after_stmts ss scope) (size + many) f q) → (y : Holds' breaks continues scope (size + 0) f q)
-          × Took host q.left (flow_credits c many f) (place_of_flow breaks continues (after_stmts ss scope) (size + many) middle room lower back calls pending f q g) q.left (flow_credits c 0 f) (place_of_flow breaks continues scope (size + 0) next room lower back calls pending f q y)
+          × Took host q.left (flow_credits c many f)
+          (place_of_flow breaks continues (after_stmts ss scope)
+          (size + many) middle room lower back calls pending f q g) q.left (flow_credits c 0 f)
+          (place_of_flow breaks continues scope (size + 0) next room lower back calls pending f q y)
       on_end breaks continues ss scope size many middle next c room lower back calls pending lines ending beneath_it Next q g =
           let less : size ≤ size + many = omega arith in
           let gone : size + many - size ≡ many = omega arith in
           let none : c ≡ c + 0 = omega arith in
           let K = lower_kept g scope size less (seen_stmts ss scope) beneath_it in (
             and_none K,
-            subst (λ k. Took host q.left (c + one_of many) (spot_at R x middle [] (pushed room lower) (back ∷ calls) pending g) q.left (c + 0) (spot_at R x k [] (pushed room lower) (back ∷ calls) pending K)) ending
-                (subst (λ d. Took host q.left (c + one_of many) (spot_at R x middle [] (pushed room lower) (back ∷ calls) pending g) q.left d (spot_at R x (middle + lines_size (dropped many)) [] (pushed room lower) (back ∷ calls) pending K)) none
+            subst (λ k. Took host q.left (c + one_of many)
+                (spot_at R x middle [] (pushed room lower) (back ∷ calls) pending g) q.left (c + 0)
+                (spot_at R x k [] (pushed room lower) (back ∷ calls) pending K)) ending
+                (subst (λ d. Took host q.left (c + one_of many)
+                (spot_at R x middle [] (pushed room lower) (back ∷ calls) pending g) q.left d
+                (spot_at R x (middle + lines_size (dropped many)) [] (pushed room lower)
+                (back ∷ calls) pending K)) none
                 (lower_goes g scope size less (seen_stmts ss scope) beneath_it q.left c middle (pushed room lower) (back ∷ calls) pending many gone lines)),
           )
       on_end breaks continues ss scope size many middle next c room lower back calls pending lines ending beneath_it Broke q g = (g, took_none host q.left c (spot_at R x (x.places breaks.label) [] (pushed room lower) (back ∷ calls) pending g.1))
       on_end breaks continues ss scope size many middle next c room lower back calls pending lines ending beneath_it Continued q g = (g, took_none host q.left c (spot_at R x (x.places continues.label) [] (pushed room lower) (back ∷ calls) pending g.1))
-      on_end breaks continues ss scope size many middle next c room lower back calls pending lines ending beneath_it (Returned v) q g = (g, took_none host q.left c (spot_at R x back [] (pushed v lower) calls pending g.1))
+      on_end breaks continues ss scope size many middle next c room lower back calls pending lines ending beneath_it
+          (Returned v) q g = (g, took_none host q.left c (spot_at R x back [] (pushed v lower) calls pending g.1))
 
   -- ---- `break` and `continue`
 
   lower_step : {scope : List ℕ} {size : ℕ} {globals locals : Variables} {world : World Deferred} (K : Kept R x scope size globals locals world) (fewer : List ℕ) (depth : ℕ) (less : depth ≤ size)
-      (seen : (n : ℕ) → In n fewer → In n scope) (beneath_it : (n : ℕ) → In n fewer → position x.layout n + length (part_types x n) ≤ depth) (place : ℕ) (between : List Cell) (calls : List ℕ) (pending : List Saved) (gone : ℕ) → size - depth ≡ suc gone
+      (seen : (n : ℕ) → In n fewer → In n scope)
+      (beneath_it : (n : ℕ) → In n fewer → position x.layout n + length (part_types x n) ≤ depth) (place : ℕ)
+      (between : List Cell) (calls : List ℕ) (pending : List Saved) (gone : ℕ) → size - depth ≡ suc gone
       → op_at x.code place ≡ Some (ops.MovSp (beneath (suc gone)))
       → step host (spot_at R x place [] between calls pending K) ≡ Some (Goes (spot_at R x (place + 6) [] between calls pending (lower_kept K fewer depth less seen beneath_it)))
   lower_step {size = size} K fewer depth less seen beneath_it place between calls pending gone is begins =
@@ -625,14 +701,17 @@ module _ (host : MachineHost) (R : Saved → Deferred → Type 0) (x : Site) (li
       ap (λ t. step host (at x place t calls pending K.machine)) whole
       ∙ dropped_goes host x listed place (place + 6) (suc gone) (reverse v.0) (lower ++ rest) calls pending K.machine begins refl long
 
-  record Left (e : Exit) (scope : List ℕ) (size m c : ℕ) (globals locals : Variables) (world : World Deferred) (s : Machine) (between : List Cell) (calls : List ℕ) (pending : List Saved) : Type 0 where
+  record Left (e : Exit) (scope : List ℕ) (size m c : ℕ) (globals locals : Variables) (world : World Deferred)
+      (s : Machine) (between : List Cell) (calls : List ℕ) (pending : List Saved) : Type 0 where
     first : Machine
     goes : step host s ≡ Some (Goes first)
     kept : Kept R x e.scope e.depth globals locals world
     took : Took host m (15 + c) first m c (spot_at R x (x.places e.label) [] between calls pending kept)
 
   -- the frame is lowered to where the exit leads, and the jump follows
-  leaves : {scope : List ℕ} {size : ℕ} {globals locals : Variables} {world : World Deferred} (K : Kept R x scope size globals locals world) (e : Exit) (label m c place : ℕ) (between : List Cell) (calls : List ℕ) (pending : List Saved) (gone : ℕ)
+  leaves : {scope : List ℕ} {size : ℕ} {globals locals : Variables} {world : World Deferred}
+      (K : Kept R x scope size globals locals world) (e : Exit) (label m c place : ℕ) (between : List Cell)
+      (calls : List ℕ) (pending : List Saved) (gone : ℕ)
       → e.allowed ≡ true → IsExit x scope size e → label ≡ e.label → size - e.depth ≡ gone → LinesStand x.code x.places place (dropped gone ++ JumpTo Jmp label ∷ [])
       → Left e scope size m c globals locals world (spot_at R x place [] between calls pending K) between calls pending
   leaves {scope = scope} {size = size} K e label m c place between calls pending zero allowed ends same is lines =
@@ -663,7 +742,9 @@ module _ (host : MachineHost) (R : Saved → Deferred → Type 0) (x : Site) (li
       let between = pushed room lower in
       let s = spot_at R x place [] between (back ∷ calls) pending K in
       let next = place + lines_size (dropped (size - out.break_depth) ++ JumpTo Jmp out.break_to ∷ []) in
-      sim_paid host R (Holds' breaks continues scope (size + 0)) (place_of_flow breaks continues scope (size + 0) next room lower back calls pending) c s (flow_credits c 0) p (λ q. Gives Broke q) K.alike
+      sim_paid host R (Holds' breaks continues scope (size + 0))
+      (place_of_flow breaks continues scope (size + 0) next room lower back calls pending) c s (flow_credits c 0) p
+      (λ q. Gives Broke q) K.alike
       (λ k left.
       let l = leaves K breaks out.break_to k c place between (back ∷ calls) pending (size - out.break_depth) fine ends exits.break_label (ap (λ d. size - d) (sym exits.break_depth)) stands in
       (l.first, l.goes, ((fine, l.kept), l.took)))
@@ -673,9 +754,13 @@ module _ (host : MachineHost) (R : Saved → Deferred → Type 0) (x : Site) (li
       let between = pushed room lower in
       let s = spot_at R x place [] between (back ∷ calls) pending K in
       let next = place + lines_size (dropped (size - out.continue_depth) ++ JumpTo Jmp out.continue_to ∷ []) in
-      sim_paid host R (Holds' breaks continues scope (size + 0)) (place_of_flow breaks continues scope (size + 0) next room lower back calls pending) c s (flow_credits c 0) p (λ q. Gives Continued q) K.alike
+      sim_paid host R (Holds' breaks continues scope (size + 0))
+      (place_of_flow breaks continues scope (size + 0) next room lower back calls pending) c s (flow_credits c 0) p
+      (λ q. Gives Continued q) K.alike
       (λ k left.
-      let l = leaves K continues out.continue_to k c place between (back ∷ calls) pending (size - out.continue_depth) fine starts exits.continue_label (ap (λ d. size - d) (sym exits.continue_depth)) stands in
+      let l = leaves K continues out.continue_to k c place between (back ∷ calls) pending
+      (size - out.continue_depth) fine starts exits.continue_label
+      (ap (λ d. size - d) (sym exits.continue_depth)) stands in
       (l.first, l.goes, ((fine, l.kept), l.took)))
 
   -- ---- `return`
@@ -732,7 +817,9 @@ module _ (host : MachineHost) (R : Saved → Deferred → Type 0) (x : Site) (li
       let deep : length over + (count + 0) ≡ size + 2 * count = omega (arith, frame, first_size, value_size, long) in
       let zero_less : size + 2 * count ≡ size + 2 * count - 0 = omega arith in
       let begins = subst (λ k. op_at x.code middle ≡ Some (ops.CpDownSp (beneath k) (bytes_of count))) zero_less b.1.0 in
-      let first = frame_written host x listed middle (middle + 8) (size + 2 * count) 0 count cells over v room under (L.frame ++ (between ++ L.under)) (back ∷ calls) pending L.machine begins refl whole top long (of_result ∙ sym typed) some deep in
+      let first = frame_written host x listed middle (middle + 8) (size + 2 * count) 0 count cells over v room under
+      (L.frame ++ (between ++ L.under)) (back ∷ calls) pending L.machine begins refl whole top long
+      (of_result ∙ sym typed) some deep in
       let held = held_over (pushed v []) L.frame (held_pushed v [] tt) L.frame_held in
       let u = parts_in_cells over held in
       let rest = pushed v under in
@@ -751,7 +838,9 @@ module _ (host : MachineHost) (R : Saved → Deferred → Type 0) (x : Site) (li
         ),
       )))
     where
-      drops_and_returns : (k c count place : ℕ) (over : List Cell) (v : List Value) (rest : List Cell) (back : ℕ) (calls : List ℕ) (pending : List Saved) (world : World Saved) → over ++ rest ≡ pushed v rest → length v ≡ count
+      drops_and_returns : (k c count place : ℕ) (over : List Cell) (v : List Value) (rest : List Cell) (back : ℕ)
+          (calls : List ℕ) (pending : List Saved) (world : World Saved) → over ++ rest ≡ pushed v rest
+          → length v ≡ count
           → LinesStand x.code x.places place (dropped count) → op_at x.code (place + lines_size (dropped count)) ≡ Some ops.Retn → (final : List Cell) → rest ≡ final → 1 ≤ count
           → Took host k (15 + (8 + c)) (at x place (over ++ rest) (back ∷ calls) pending world) k c (at x back final calls pending world)
       drops_and_returns k c zero place over v rest back calls pending world as_one long drops returns final same some = absurd (omega arith)
@@ -802,9 +891,13 @@ module _ (host : MachineHost) (R : Saved → Deferred → Type 0) (x : Site) (li
   abbrev pub parts_place : (scope : List ℕ) (size : ℕ) (ts : List Ty) → ℕ → List Cell → List Cell → List ℕ → List Saved → (v : List Value) (p : Progress) → HasParts scope size ts v p → Machine
   parts_place scope size ts next base between calls pending v p h = spot_at R x next (pushed v base) between calls pending h.2
 
-  pub made_runs : (ts : List Ty) → AllByRecursion IsCell ts → (scope : List ℕ) (size place c : ℕ) (p : Progress) (K : Kept R x scope size p.globals p.locals p.world) (base between : List Cell) (calls : List ℕ) (pending : List Saved)
+  pub made_runs : (ts : List Ty) → AllByRecursion IsCell ts
+      → (scope : List ℕ) (size place c : ℕ) (p : Progress) (K : Kept R x scope size p.globals p.locals p.world)
+      (base between : List Cell) (calls : List ℕ) (pending : List Saved)
       → LinesStand x.code x.places place (started ts)
-      → Sim host R (HasParts scope size ts) (parts_place scope size ts (place + lines_size (started ts)) base between calls pending) p.left c (spot_at R x place base between calls pending K) (λ v. c + one_of (length ts)) (made ts p)
+      → Sim host R (HasParts scope size ts)
+      (parts_place scope size ts (place + lines_size (started ts)) base between calls pending) p.left c
+      (spot_at R x place base between calls pending K) (λ v. c + one_of (length ts)) (made ts p)
   made_runs [] cells scope size place c p K base between calls pending lines =
       let same : place ≡ place + 0 = omega arith in
       let s = spot_at R x place base between calls pending K in
@@ -822,7 +915,9 @@ module _ (host : MachineHost) (R : Saved → Deferred → Type 0) (x : Site) (li
         s1,
         start_goes place t (base ++ (K.frame ++ (between ++ K.under))) calls pending K.machine cells.0 lines.0,
         sim_bind host R (HasParts scope size ts) (parts_place scope size ts (place + 2 + lines_size (started ts)) (Holds (start_part t) ∷ base) between calls pending)
-            (HasParts scope size (t ∷ ts)) (parts_place scope size (t ∷ ts) next base between calls pending) m (15 + c) s1 (λ v. 15 + c + one_of (length ts)) (λ v. c + one_of (length (t ∷ ts))) (made ts q) (λ parts r. Gives (start_part t ∷ parts) r)
+            (HasParts scope size (t ∷ ts)) (parts_place scope size (t ∷ ts) next base between calls pending) m
+            (15 + c) s1 (λ v. 15 + c + one_of (length ts)) (λ v. c + one_of (length (t ∷ ts))) (made ts q)
+            (λ parts r. Gives (start_part t ∷ parts) r)
             (made_runs ts cells.1 scope size (place + 2) (15 + c) q K (Holds (start_part t) ∷ base) between calls pending lines.1)
             (λ v r h less.
             let whole : pushed v (Holds (start_part t) ∷ base) ≡ pushed (start_part t ∷ v) base = sym (pushed_append (start_part t ∷ []) v base) in
@@ -844,31 +939,47 @@ module _ (host : MachineHost) (R : Saved → Deferred → Type 0) (x : Site) (li
   few_ones zero = omega arith
   few_ones (suc n) = omega arith
 
-  initial_runs : (t : Ty) (o : Option TypedExpr) → MaybeRuns o → (scope : List ℕ) (size n place c : ℕ) (p : Progress) (K : Kept R x scope size p.globals p.locals p.world) (between : List Cell) (calls : List ℕ) (pending : List Saved)
+  initial_runs : (t : Ty) (o : Option TypedExpr) → MaybeRuns o
+      → (scope : List ℕ) (size n place c : ℕ) (p : Progress) (K : Kept R x scope size p.globals p.locals p.world)
+      (between : List Cell) (calls : List ℕ) (pending : List Saved)
       → IsFineValue host.table functions x result scope t o → LinesStand x.code x.places place (initial x.layout n size t o) → p.left ≤ most
-      → Sim host R (HoldsValue R x scope size t) (value_place R x scope size t (place + lines_size (initial x.layout n size t o)) [] between calls pending) p.left c (spot_at R x place [] between calls pending K)
+      → Sim host R (HoldsValue R x scope size t)
+      (value_place R x scope size t
+      (place + lines_size (initial x.layout n size t o)) [] between calls pending) p.left c
+      (spot_at R x place [] between calls pending K)
       (λ v. c + one_of (length (cell_types x.layout.structs t))) (initial_value here caller scope t o p)
   initial_runs t None r scope size n place c p K between calls pending fine lines le =
       let ts = cell_types x.layout.structs t in
       let next = place + lines_size (started ts) in
       sim_map host R (HasParts scope size ts) (parts_place scope size ts next [] between calls pending)
-      (HoldsValue R x scope size t) (value_place R x scope size t next [] between calls pending) p.left c (spot_at R x place [] between calls pending K) (λ v. c + one_of (length ts)) (λ v. c + one_of (length ts)) (made ts p)
+      (HoldsValue R x scope size t) (value_place R x scope size t next [] between calls pending) p.left c
+      (spot_at R x place [] between calls pending K) (λ v. c + one_of (length ts)) (λ v. c + one_of (length ts))
+      (made ts p)
       (made_runs ts fine scope size place c p K [] between calls pending lines)
       (λ v q h. ((h.1, h.2), took_none host q.left (c + one_of (length ts)) (spot_at R x next (pushed v []) between calls pending h.2)))
   initial_runs t (Some e) r scope size n place c p K between calls pending fine lines le =
       let next = place + lines_size (emit x.layout n size e) in
       let few = few_ones (length (cell_types x.layout.structs t)) in
       sim_map host R (HoldsValue R x scope size (type_of e)) (value_place R x scope size (type_of e) next [] between calls pending)
-      (HoldsValue R x scope size t) (value_place R x scope size t next [] between calls pending) p.left c (spot_at R x place [] between calls pending K) (value_credits c) (λ v. c + one_of (length (cell_types x.layout.structs t))) (eval here caller scope e p)
+      (HoldsValue R x scope size t) (value_place R x scope size t next [] between calls pending) p.left c
+      (spot_at R x place [] between calls pending K) (value_credits c)
+      (λ v. c + one_of (length (cell_types x.layout.structs t))) (eval here caller scope e p)
       (r scope size n size place c p K [] between calls pending fine.0 lines (omega arith) le tt)
-      (λ v q h. ((h.0 ∙ ap (cell_types x.layout.structs) fine.1, h.1), took_less host (c + one_of (length (cell_types x.layout.structs t))) (omega (arith, few)) (took_none host q.left (8 + c) (spot_at R x next (pushed v []) between calls pending h.1))))
+      (λ v q h. (
+        (h.0 ∙ ap (cell_types x.layout.structs) fine.1, h.1),
+        took_less host
+            (c + one_of (length (cell_types x.layout.structs t))) (omega (arith, few))
+            (took_none host q.left (8 + c) (spot_at R x next (pushed v []) between calls pending h.1)),
+      ))
 
   abbrev pub EachName : List TypedName → Type 0
   EachName [] = Unit {0}
   EachName (d ∷ ds) = MaybeRuns d.value × EachName ds
 
   -- the frame with a variable more
-  abbrev declared_kept : {scope : List ℕ} {size : ℕ} {globals locals : Variables} {world : World Deferred} (K : Kept R x scope size globals locals world) (n wide : ℕ) (v : List Value) → position x.layout n ≡ size → value_types v ≡ part_types x n → length v ≡ wide
+  abbrev declared_kept : {scope : List ℕ} {size : ℕ} {globals locals : Variables} {world : World Deferred}
+      (K : Kept R x scope size globals locals world) (n wide : ℕ) (v : List Value) → position x.layout n ≡ size
+      → value_types v ≡ part_types x n → length v ≡ wide
       → Kept R x (n ∷ scope) (size + wide) globals (with_variable locals n v) world
   declared_kept {scope = scope} {size = size} {locals = locals} K n wide v place typed long = record {
     under = K.under;
@@ -885,7 +996,9 @@ module _ (host : MachineHost) (R : Saved → Deferred → Type 0) (x : Site) (li
 
   NamesDo : List TypedName → Type 0
   NamesDo ds =
-      (breaks continues : Exit) (scope : List ℕ) (size n place c : ℕ) (p : Progress) (K : Kept R x scope size p.globals p.locals p.world) (room : List Value) (lower : List Cell) (back : ℕ) (calls : List ℕ) (pending : List Saved)
+      (breaks continues : Exit) (scope : List ℕ) (size n place c : ℕ) (p : Progress)
+      (K : Kept R x scope size p.globals p.locals p.world) (room : List Value) (lower : List Cell) (back : ℕ)
+      (calls : List ℕ) (pending : List Saved)
       → AreFineNames host.table functions x result size scope ds → LinesStand x.code x.places place (emit_names x.layout n size ds) → p.left ≤ most
       → Sim host R (Holds' breaks continues (after_names ds scope) (size + names_cells x.layout.structs ds))
       (place_of_flow breaks continues (after_names ds scope) (size + names_cells x.layout.structs ds) (place + lines_size (emit_names x.layout n size ds)) room lower back calls pending)
@@ -895,8 +1008,12 @@ module _ (host : MachineHost) (R : Saved → Deferred → Type 0) (x : Site) (li
   unfolding NamesDo
   names_do [] each breaks continues scope size n place c p K room lower back calls pending fine lines le =
       let same : place ≡ place + 0 = omega arith in
-      let s = spot_at R x place [] (pushed room lower) (back ∷ calls) pending K in
-      (and_none K, subst (λ k. Took host p.left c s p.left (c + 0) (spot_at R x k [] (pushed room lower) (back ∷ calls) pending K)) same (took_less host (c + 0) (omega arith) (took_none host p.left c s)))
+      let s = spot_at R x place [] (pushed room lower) (back ∷ calls) pending K in (
+        and_none K,
+        subst (λ k. Took host p.left c s p.left (c + 0)
+            (spot_at R x k [] (pushed room lower) (back ∷ calls) pending K)) same
+            (took_less host (c + 0) (omega arith) (took_none host p.left c s)),
+      )
   names_do (d ∷ ds) each breaks continues scope size n place c p K room lower back calls pending fine lines le =
       let structs = x.layout.structs in
       let t = d.name.ty in
@@ -914,7 +1031,10 @@ module _ (host : MachineHost) (R : Saved → Deferred → Type 0) (x : Site) (li
       let enough = sum_of wide many in
       sim_bind host R (HoldsValue R x scope size t) (value_place R x scope size t middle [] between (back ∷ calls) pending)
       (Holds' breaks continues scope' (size + (wide + many))) (place_of_flow breaks continues scope' (size + (wide + many)) next room lower back calls pending)
-      p.left c (spot_at R x place [] between (back ∷ calls) pending K) (λ v. c + one_of wide) (flow_credits c (wide + many)) (initial_value here caller scope t d.value p) (λ parts q. declared here caller (d.name.number ∷ scope) ds (record q { locals = with_variable q.locals d.name.number parts }))
+      p.left c (spot_at R x place [] between (back ∷ calls) pending K) (λ v. c + one_of wide)
+      (flow_credits c (wide + many)) (initial_value here caller scope t d.value p)
+      (λ parts q. declared here caller (d.name.number ∷ scope) ds
+      (record q { locals = with_variable q.locals d.name.number parts }))
       (initial_runs t d.value each.0 scope size n place c p K between (back ∷ calls) pending fine.2 b.0 le)
       (λ v q h less.
       let L = h.1 in
@@ -928,8 +1048,11 @@ module _ (host : MachineHost) (R : Saved → Deferred → Type 0) (x : Site) (li
       q.left (c + one_of wide) (at x middle z (back ∷ calls) pending L.machine) (flow_credits c (wide + many)) (declared here caller (d.name.number ∷ scope) ds r)) (sym cells_are)
       (sim_map host R (Holds' breaks continues scope' (size + wide + many)) (place_of_flow breaks continues scope' (size + wide + many) (middle + lines_size rest) room lower back calls pending)
       (Holds' breaks continues scope' (size + (wide + many))) (place_of_flow breaks continues scope' (size + (wide + many)) next room lower back calls pending)
-      q.left (c + one_of wide) (spot_at R x middle [] between (back ∷ calls) pending M) (flow_credits (c + one_of wide) many) (flow_credits c (wide + many)) (declared here caller (d.name.number ∷ scope) ds r)
-      (names_do ds each.1 breaks continues (d.name.number ∷ scope) (size + wide) (n + some_labels d.value) middle (c + one_of wide) r M room lower back calls pending fine.3 b.1 (omega (arith, less, le)))
+      q.left (c + one_of wide) (spot_at R x middle [] between (back ∷ calls) pending M)
+      (flow_credits (c + one_of wide) many) (flow_credits c (wide + many))
+      (declared here caller (d.name.number ∷ scope) ds r)
+      (names_do ds each.1 breaks continues (d.name.number ∷ scope) (size + wide) (n + some_labels d.value) middle
+      (c + one_of wide) r M room lower back calls pending fine.3 b.1 (omega (arith, less, le)))
       (λ f u g. regrouped breaks continues scope' size wide many (middle + lines_size rest) next c room lower back calls pending ending whole enough f u g)))
 
   pub declaration_does : (m : ℕ) (t : Ty) (ds : List TypedName) → EachName ds → Does (declaration m t ds)
@@ -948,7 +1071,9 @@ module _ (host : MachineHost) (R : Saved → Deferred → Type 0) (x : Site) (li
 
   -- ---- loops
 
-  exit_here : (scope : List ℕ) (frame : List Cell) (locals : Variables) (size label : ℕ) → Vars x scope frame locals → length frame ≡ size → IsExit x scope size (record { allowed = true; scope = scope; depth = size; label = label })
+  exit_here : (scope : List ℕ) (frame : List Cell) (locals : Variables) (size label : ℕ) → Vars x scope frame locals
+      → length frame ≡ size → IsExit x scope size
+      (record { allowed = true; scope = scope; depth = size; label = label })
   exit_here scope frame locals size label v same = record {
     within = λ a. omega arith;
     seen = λ a n i. i;
@@ -984,7 +1109,9 @@ module _ (host : MachineHost) (R : Saved → Deferred → Type 0) (x : Site) (li
       enters : (p : Progress) (K : Kept R x scope size p.globals p.locals p.world) (k : ℤ) → is_zero k ≡ false → step host (there decides (Holds (Int k) ∷ []) K) ≡ Some (Goes (there start [] K))
       ends : (p : Progress) (K : Kept R x scope size p.globals p.locals p.world) (k : ℤ) → is_zero k ≡ true → step host (there decides (Holds (Int k) ∷ []) K) ≡ Some (Goes (there ending [] K))
       body_runs : (p : Progress) (K : Kept R x scope size p.globals p.locals p.world) → p.left ≤ most
-          → Sim host R (Holds' inner_break inner_continue scope (size + 0)) (place_of_flow inner_break inner_continue scope (size + 0) body_end room lower back calls pending) p.left (8 + c) (there start [] K) (flow_credits (8 + c) 0) (body p)
+          → Sim host R (Holds' inner_break inner_continue scope (size + 0))
+          (place_of_flow inner_break inner_continue scope (size + 0) body_end room lower back calls pending) p.left
+          (8 + c) (there start [] K) (flow_credits (8 + c) 0) (body p)
       to_third : (p : Progress) (K : Kept R x scope size p.globals p.locals p.world) (n : ℕ) → Took host n (8 + c) (there body_end [] K) n (7 + c) (there third_at [] K)
       third_runs : (p : Progress) (K : Kept R x scope size p.globals p.locals p.world) → p.left ≤ most → Sim host R HasThird third_place p.left (7 + c) (there third_at [] K) (λ w. c) (third p)
 
@@ -1009,14 +1136,16 @@ module _ (host : MachineHost) (R : Saved → Deferred → Type 0) (x : Site) (li
         (decided l k q h.1 (omega (arith, less, few)) (omega (arith, less, le)) value.0 (is_zero value.0) refl (λ t M fewer enough. turns_run l k t M fewer enough)))
       where
         go_on : (l : LoopRuns) (k : ℕ) (t : Progress) (M : Kept R x scope size t.globals t.locals t.world) → t.left < k → t.left ≤ most
-            → ((y : Progress) (N : Kept R x scope size y.globals y.locals y.world) → y.left < k → y.left ≤ most → Sim host R Outer outer_place y.left c (there head [] N) (flow_credits c 0) (turns k test body third y))
+            → ((y : Progress) (N : Kept R x scope size y.globals y.locals y.world) → y.left < k → y.left ≤ most
+            → Sim host R Outer outer_place y.left c (there head [] N) (flow_credits c 0) (turns k test body third y))
             → Sim host R Outer outer_place t.left (7 + c) (there third_at [] M) (flow_credits c 0) (bind (third t) (λ w y. turns k test body third y))
         go_on l k t M few le again =
             sim_bind host R HasThird third_place Outer outer_place t.left (7 + c) (there third_at [] M) (λ w. c) (flow_credits c 0) (third t) (λ w y. turns k test body third y)
             (l.third_runs t M le) (λ w y N less. again y N (omega (arith, less, few)) (omega (arith, less, le)))
 
         after : (l : LoopRuns) (k : ℕ) (f : Flow) (t : Progress) (g : Holds' inner_break inner_continue scope (size + 0) f t) → t.left < k → t.left ≤ most
-            → ((y : Progress) (N : Kept R x scope size y.globals y.locals y.world) → y.left < k → y.left ≤ most → Sim host R Outer outer_place y.left c (there head [] N) (flow_credits c 0) (turns k test body third y))
+            → ((y : Progress) (N : Kept R x scope size y.globals y.locals y.world) → y.left < k → y.left ≤ most
+            → Sim host R Outer outer_place y.left c (there head [] N) (flow_credits c 0) (turns k test body third y))
             → Sim host R Outer outer_place t.left (flow_credits (8 + c) 0 f) (place_of_flow inner_break inner_continue scope (size + 0) body_end room lower back calls pending f t g) (flow_credits c 0)
             (on_body f (λ u. bind (third u) (λ w y. turns k test body third y)) t)
         after l k Next t g few le again =
@@ -1035,7 +1164,8 @@ module _ (host : MachineHost) (R : Saved → Deferred → Type 0) (x : Site) (li
         after l k (Returned v) t g few le again = (g, took_less host c (omega arith) (took_none host t.left (8 + c) (spot_at R x back [] (pushed v lower) calls pending g.1)))
 
         decided : (l : LoopRuns) (k : ℕ) (q : Progress) (L : Kept R x scope size q.globals q.locals q.world) → q.left < suc k → q.left ≤ most → (j : ℤ) (b : Bool) → is_zero j ≡ b
-            → ((y : Progress) (N : Kept R x scope size y.globals y.locals y.world) → y.left < k → y.left ≤ most → Sim host R Outer outer_place y.left c (there head [] N) (flow_credits c 0) (turns k test body third y))
+            → ((y : Progress) (N : Kept R x scope size y.globals y.locals y.world) → y.left < k → y.left ≤ most
+            → Sim host R Outer outer_place y.left c (there head [] N) (flow_credits c 0) (turns k test body third y))
             → Sim host R Outer outer_place q.left (8 + c) (there decides (Holds (Int j) ∷ []) L) (flow_credits c 0)
             (spend q (λ r. chosen (is_true (Int j ∷ [])) (λ s. bind (body s) (λ f t. on_body f (λ u. bind (third u) (λ w y. turns k test body third y)) t)) (λ s. Gives Next s) r))
         decided l k q L few le j true is again =
@@ -1059,21 +1189,32 @@ module _ (host : MachineHost) (R : Saved → Deferred → Type 0) (x : Site) (li
                   (chosen b (λ s. bind (body s) (λ f t. on_body f (λ u. bind (third u) (λ w y. turns k test body third y)) t)) (λ s. Gives Next s) r)) (sym (ap not is))
                   (sim_after host R Outer outer_place (flow_credits c 0) (bind (body r) (λ f t. on_body f (λ u. bind (third u) (λ w y. turns k test body third y)) t))
                   (took_less host (8 + c) (omega arith) (took_none host m (15 + (8 + c)) (there start [] L)))
-                  (sim_bind host R (Holds' inner_break inner_continue scope (size + 0)) (place_of_flow inner_break inner_continue scope (size + 0) body_end room lower back calls pending) Outer outer_place
+                  (sim_bind host R (Holds' inner_break inner_continue scope (size + 0))
+                  (place_of_flow inner_break inner_continue scope
+                  (size + 0) body_end room lower back calls pending) Outer outer_place
                   m (8 + c) (there start [] L) (flow_credits (8 + c) 0) (flow_credits c 0) (body r) (λ f t. on_body f (λ u. bind (third u) (λ w y. turns k test body third y)) t)
                   (l.body_runs r L (omega (arith, left, le)))
                   (λ f t g fewer. after l k f t g (omega (arith, left, fewer, few)) (omega (arith, left, fewer, le)) again))),
             ))
 
-    looped_run : LoopRuns → (p : Progress) (K : Kept R x scope size p.globals p.locals p.world) → p.left ≤ most → Sim host R Outer outer_place p.left c (there head [] K) (flow_credits c 0) (looped test body third p)
+    looped_run : LoopRuns → (p : Progress) (K : Kept R x scope size p.globals p.locals p.world) → p.left ≤ most
+        → Sim host R Outer outer_place p.left c (there head [] K) (flow_credits c 0) (looped test body third p)
     looped_run l p K le = turns_run l (suc p.left) p K (omega arith) le
 
   -- a test of an int
-  as_test : (e : TypedExpr) (scope : List ℕ) (size place next c : ℕ) (p : Progress) (K : Kept R x scope size p.globals p.locals p.world) (between : List Cell) (calls : List ℕ) (pending : List Saved) → type_of e ≡ IntTy
-      → Sim host R (HoldsValue R x scope size (type_of e)) (value_place R x scope size (type_of e) next [] between calls pending) p.left c (spot_at R x place [] between calls pending K) (value_credits c) (eval here caller scope e p)
-      → Sim host R (HoldsValue R x scope size IntTy) (value_place R x scope size IntTy next [] between calls pending) p.left c (spot_at R x place [] between calls pending K) (value_credits c) (eval here caller scope e p)
+  as_test : (e : TypedExpr) (scope : List ℕ) (size place next c : ℕ) (p : Progress)
+      (K : Kept R x scope size p.globals p.locals p.world) (between : List Cell) (calls : List ℕ) (pending : List Saved)
+      → type_of e ≡ IntTy
+      → Sim host R (HoldsValue R x scope size (type_of e))
+      (value_place R x scope size (type_of e) next [] between calls pending) p.left c
+      (spot_at R x place [] between calls pending K) (value_credits c) (eval here caller scope e p)
+      → Sim host R (HoldsValue R x scope size IntTy)
+      (value_place R x scope size IntTy next [] between calls pending) p.left c
+      (spot_at R x place [] between calls pending K) (value_credits c) (eval here caller scope e p)
   as_test e scope size place next c p K between calls pending is h =
-      sim_map host R (HoldsValue R x scope size (type_of e)) (value_place R x scope size (type_of e) next [] between calls pending) (HoldsValue R x scope size IntTy) (value_place R x scope size IntTy next [] between calls pending)
+      sim_map host R (HoldsValue R x scope size (type_of e))
+      (value_place R x scope size (type_of e) next [] between calls pending) (HoldsValue R x scope size IntTy)
+      (value_place R x scope size IntTy next [] between calls pending)
       p.left c (spot_at R x place [] between calls pending K) (value_credits c) (value_credits c) (eval here caller scope e p) h
       (λ v q g. ((g.0 ∙ ap (cell_types x.layout.structs) is, g.1), took_none host q.left (8 + c) (spot_at R x next (pushed v []) between calls pending g.1)))
 
@@ -1095,16 +1236,23 @@ module _ (host : MachineHost) (R : Saved → Deferred → Type 0) (x : Site) (li
       let between = pushed room lower in
       let broken : x.places (n + 1) ≡ next = d.1.1.0 ∙ ending in
       let again : x.places n ≡ head = stands.0 ∙ same in
-      subst (λ k. Sim host R (Holds' breaks continues scope (size + 0)) (place_of_flow breaks continues scope (size + 0) next room lower back calls pending) p.left c (spot_at R x k [] between (back ∷ calls) pending K) (flow_credits c 0)
+      subst (λ k. Sim host R (Holds' breaks continues scope (size + 0))
+      (place_of_flow breaks continues scope (size + 0) next room lower back calls pending) p.left c
+      (spot_at R x k [] between (back ∷ calls) pending K) (flow_credits c 0)
       (looped (λ q. eval here caller scope e q) (λ q. exec here caller scope a q) (λ q. Gives [] q) p)) (sym same)
-      (looped_run breaks continues scope size room lower back calls pending head decides start body_end head next (n + 1) n c (λ q. eval here caller scope e q) (λ q. exec here caller scope a q) (λ q. Gives [] q)
+      (looped_run breaks continues scope size room lower back calls pending head decides start body_end head next
+      (n + 1) n c (λ q. eval here caller scope e q) (λ q. exec here caller scope a q) (λ q. Gives [] q)
       (record {
         break_is = broken;
         continue_is = again;
-        test_runs = λ q L few. as_test e scope size head decides c q L between (back ∷ calls) pending fine.0.1 (r scope size (n + 2) size head c q L [] between (back ∷ calls) pending fine.0.0 b.0 (omega arith) few tt);
+        test_runs = λ q L few. as_test e scope size head decides c q L between (back ∷ calls) pending fine.0.1
+            (r scope size (n + 2) size head c q L [] between (back ∷ calls) pending fine.0.0 b.0 (omega arith) few tt);
         enters = λ q L k nonzero. other_passes host x listed decides start _ k (L.frame ++ (between ++ L.under)) (back ∷ calls) pending L.machine b.1.0.begins nonzero refl;
         ends = λ q L k nought. zero_jumps host x listed decides next _ k (L.frame ++ (between ++ L.under)) (back ∷ calls) pending L.machine b.1.0.begins nought (b.1.0.leads ∙ broken);
-        body_runs = λ q L few. keeps a fine.2 da inner (record { allowed = true; scope = scope; depth = size; label = n + 1 }) (record { allowed = true; scope = scope; depth = size; label = n }) scope size (n + 2 + labels e) start (8 + c) q L
+        body_runs = λ q L few. keeps a fine.2 da inner
+            (record { allowed = true; scope = scope; depth = size; label = n + 1 })
+            (record { allowed = true; scope = scope; depth = size; label = n }) scope size (n + 2 + labels e) start
+            (8 + c) q L
             room lower back calls pending fine.1 d.0 (record { break_label = refl; break_depth = refl; continue_label = refl; continue_depth = refl })
             (exit_here scope L.frame q.locals size (n + 1) L.local_values L.frame_size) (exit_here scope L.frame q.locals size n L.local_values L.frame_size) typed few;
         to_third = λ q L k. took_cost host k (8 + c) (7 + c) (spot_at R x body_end [] between (back ∷ calls) pending L) (spot_at R x head [] between (back ∷ calls) pending L) (omega arith)
@@ -1114,9 +1262,13 @@ module _ (host : MachineHost) (R : Saved → Deferred → Type 0) (x : Site) (li
 
   -- ---- `for`
 
-  evaluated_runs : (o : Option TypedExpr) → MaybeRuns o → (scope : List ℕ) (size n place c : ℕ) (p : Progress) (K : Kept R x scope size p.globals p.locals p.world) (between : List Cell) (calls : List ℕ) (pending : List Saved)
+  evaluated_runs : (o : Option TypedExpr) → MaybeRuns o
+      → (scope : List ℕ) (size n place c : ℕ) (p : Progress) (K : Kept R x scope size p.globals p.locals p.world)
+      (between : List Cell) (calls : List ℕ) (pending : List Saved)
       → IsFineMaybe host.table functions x result scope o → LinesStand x.code x.places place (evaluated x.layout n size o) → p.left ≤ most
-      → Sim host R (λ w q. Kept R x scope size q.globals q.locals q.world) (λ w q L. spot_at R x (place + lines_size (evaluated x.layout n size o)) [] between calls pending L) p.left c (spot_at R x place [] between calls pending K) (λ w. c) (maybe here caller scope o p)
+      → Sim host R (λ w q. Kept R x scope size q.globals q.locals q.world)
+      (λ w q L. spot_at R x (place + lines_size (evaluated x.layout n size o)) [] between calls pending L) p.left c
+      (spot_at R x place [] between calls pending K) (λ w. c) (maybe here caller scope o p)
   evaluated_runs None r scope size n place c p K between calls pending fine lines le =
       let same : place ≡ place + 0 = omega arith in
       let s = spot_at R x place [] between calls pending K in
@@ -1129,25 +1281,42 @@ module _ (host : MachineHost) (R : Saved → Deferred → Type 0) (x : Site) (li
       let next = place + lines_size (value ++ dropped count) in
       let goes : middle + lines_size (dropped count) ≡ next = let h = sizes value (dropped count) in omega (arith, h) in
       sim_map host R (HoldsValue R x scope size (type_of e)) (value_place R x scope size (type_of e) middle [] between calls pending)
-      (λ w q. Kept R x scope size q.globals q.locals q.world) (λ w q L. spot_at R x next [] between calls pending L) p.left c (spot_at R x place [] between calls pending K) (value_credits c) (λ w. c) (eval here caller scope e p)
+      (λ w q. Kept R x scope size q.globals q.locals q.world)
+      (λ w q L. spot_at R x next [] between calls pending L) p.left c (spot_at R x place [] between calls pending K)
+      (value_credits c) (λ w. c) (eval here caller scope e p)
       (r scope size n size place c p K [] between calls pending fine b.0 (omega arith) le tt)
       (λ v q h.
       let long : length v ≡ count = sym (length-map v type_of_value) ∙ ap length h.0 in (
         h.1,
         subst (λ k. Took host q.left (8 + c) (spot_at R x middle (pushed v []) between calls pending h.1) q.left c (spot_at R x k [] between calls pending h.1)) goes
-            (took_then host (took_less host (c + 1) (omega arith) (took_none host q.left (8 + c) (spot_at R x middle (pushed v []) between calls pending h.1))) (value_dropped h.1 q.left c middle count v between calls pending long b.1)),
+            (took_then host (took_less host (c + 1) (omega arith)
+            (took_none host q.left (8 + c) (spot_at R x middle (pushed v []) between calls pending h.1)))
+            (value_dropped h.1 q.left c middle count v between calls pending long b.1)),
       ))
 
-  tested_runs : (o : Option TypedExpr) → MaybeRuns o → (scope : List ℕ) (size n place c : ℕ) (p : Progress) (K : Kept R x scope size p.globals p.locals p.world) (between : List Cell) (calls : List ℕ) (pending : List Saved)
+  tested_runs : (o : Option TypedExpr) → MaybeRuns o
+      → (scope : List ℕ) (size n place c : ℕ) (p : Progress) (K : Kept R x scope size p.globals p.locals p.world)
+      (between : List Cell) (calls : List ℕ) (pending : List Saved)
       → IsFineTest host.table functions x result scope o → LinesStand x.code x.places place (tested x.layout n size o) → p.left ≤ most
-      → Sim host R (HoldsValue R x scope size IntTy) (value_place R x scope size IntTy (place + lines_size (tested x.layout n size o)) [] between calls pending) p.left c (spot_at R x place [] between calls pending K) (value_credits c) (tested_value here caller scope o p)
+      → Sim host R (HoldsValue R x scope size IntTy)
+      (value_place R x scope size IntTy
+      (place + lines_size (tested x.layout n size o)) [] between calls pending) p.left c
+      (spot_at R x place [] between calls pending K) (value_credits c) (tested_value here caller scope o p)
   tested_runs None r scope size n place c p K between calls pending fine lines le =
       let next = place + lines_size (int_constant (pos 1) ∷ []) in
       let t = spot_at R x next (Holds (Int (pos 1)) ∷ []) between calls pending K in
-      sim_paid host R (HoldsValue R x scope size IntTy) (value_place R x scope size IntTy next [] between calls pending) c (spot_at R x place [] between calls pending K) (value_credits c) p (λ q. Gives (Int (pos 1) ∷ []) q) K.alike
-      (λ m left. (t, int_goes host x listed place next (pos 1) (K.frame ++ (between ++ K.under)) calls pending K.machine lines.0 (omega arith), ((refl, K), took_less host (8 + c) (omega arith) (took_none host m (15 + c) t))))
+      sim_paid host R (HoldsValue R x scope size IntTy)
+      (value_place R x scope size IntTy next [] between calls pending) c
+      (spot_at R x place [] between calls pending K) (value_credits c) p (λ q. Gives (Int (pos 1) ∷ []) q) K.alike
+      (λ m left. (
+        t,
+        int_goes host x listed place next (pos 1)
+            (K.frame ++ (between ++ K.under)) calls pending K.machine lines.0 (omega arith),
+        ((refl, K), took_less host (8 + c) (omega arith) (took_none host m (15 + c) t)),
+      ))
   tested_runs (Some e) r scope size n place c p K between calls pending fine lines le =
-      as_test e scope size place (place + lines_size (emit x.layout n size e)) c p K between calls pending fine.1 (r scope size n size place c p K [] between calls pending fine.0 lines (omega arith) le tt)
+      as_test e scope size place (place + lines_size (emit x.layout n size e)) c p K between calls pending fine.1
+      (r scope size n size place c p K [] between calls pending fine.0 lines (omega arith) le tt)
 
   pub for_does : (m : ℕ) (e y z : Option TypedExpr) (a : TypedStmt) → MaybeRuns e → MaybeRuns y → MaybeRuns z → Does a → Does (for_loop m e y z a)
   for_does m e y z a re ry rz da out breaks continues scope size n place c p K room lower back calls pending fine stands exits ends starts typed le =
@@ -1181,26 +1350,38 @@ module _ (host : MachineHost) (R : Saved → Deferred → Type 0) (x : Site) (li
       let same_third : body_end ≡ third_at = omega arith in
       let goes_on : x.places (n + 1) ≡ third_at = f.1.0 ∙ same_third in
       sim_bind host R (λ w q. Kept R x scope size q.globals q.locals q.world) (λ w q L. spot_at R x loop_at [] between (back ∷ calls) pending L)
-      (Holds' breaks continues scope (size + 0)) (place_of_flow breaks continues scope (size + 0) next room lower back calls pending) p.left c (spot_at R x place [] between (back ∷ calls) pending K) (λ w. c) (flow_credits c 0)
+      (Holds' breaks continues scope (size + 0))
+      (place_of_flow breaks continues scope (size + 0) next room lower back calls pending) p.left c
+      (spot_at R x place [] between (back ∷ calls) pending K) (λ w. c) (flow_credits c 0)
       (maybe here caller scope e p) (λ parts q. looped (λ u. tested_value here caller scope y u) (λ u. exec here caller scope a u) (λ u. maybe here caller scope z u) q)
       (evaluated_runs e re scope size (n + 3) place c p K between (back ∷ calls) pending fine.0 b.0 le)
       (λ w q M less.
-      subst (λ k. Sim host R (Holds' breaks continues scope (size + 0)) (place_of_flow breaks continues scope (size + 0) next room lower back calls pending) q.left c (spot_at R x k [] between (back ∷ calls) pending M) (flow_credits c 0)
+      subst (λ k. Sim host R (Holds' breaks continues scope (size + 0))
+      (place_of_flow breaks continues scope (size + 0) next room lower back calls pending) q.left c
+      (spot_at R x k [] between (back ∷ calls) pending M) (flow_credits c 0)
       (looped (λ u. tested_value here caller scope y u) (λ u. exec here caller scope a u) (λ u. maybe here caller scope z u) q)) (sym same_head)
-      (looped_run breaks continues scope size room lower back calls pending head decides start body_end third_at next (n + 2) (n + 1) c (λ u. tested_value here caller scope y u) (λ u. exec here caller scope a u) (λ u. maybe here caller scope z u)
+      (looped_run breaks continues scope size room lower back calls pending head decides start body_end third_at next
+      (n + 2) (n + 1) c (λ u. tested_value here caller scope y u) (λ u. exec here caller scope a u)
+      (λ u. maybe here caller scope z u)
       (record {
         break_is = broken;
         continue_is = goes_on;
         test_runs = λ u L few. tested_runs y ry scope size (n + 3 + some_labels e) head c u L between (back ∷ calls) pending fine.1 d.0 few;
         enters = λ u L k nonzero. other_passes host x listed decides start _ k (L.frame ++ (between ++ L.under)) (back ∷ calls) pending L.machine d.1.0.begins nonzero refl;
         ends = λ u L k nought. zero_jumps host x listed decides next _ k (L.frame ++ (between ++ L.under)) (back ∷ calls) pending L.machine d.1.0.begins nought (d.1.0.leads ∙ broken);
-        body_runs = λ u L few. keeps a fine.4 da inner (record { allowed = true; scope = scope; depth = size; label = n + 2 }) (record { allowed = true; scope = scope; depth = size; label = n + 1 }) scope size
-            (n + 3 + some_labels e + some_labels y) start (8 + c) u L room lower back calls pending fine.3 f.0 (record { break_label = refl; break_depth = refl; continue_label = refl; continue_depth = refl })
+        body_runs = λ u L few. keeps a fine.4 da inner
+            (record { allowed = true; scope = scope; depth = size; label = n + 2 })
+            (record { allowed = true; scope = scope; depth = size; label = n + 1 }) scope size
+            (n + 3 + some_labels e + some_labels y) start (8 + c) u L room lower back calls pending fine.3 f.0
+            (record { break_label = refl; break_depth = refl; continue_label = refl; continue_depth = refl })
             (exit_here scope L.frame u.locals size (n + 2) L.local_values L.frame_size) (exit_here scope L.frame u.locals size (n + 1) L.local_values L.frame_size) typed few;
         to_third = λ u L k. subst (λ t. Took host k (8 + c) (spot_at R x body_end [] between (back ∷ calls) pending L) k (7 + c) (spot_at R x t [] between (back ∷ calls) pending L)) same_third
             (took_less host (7 + c) (omega arith) (took_none host k (8 + c) (spot_at R x body_end [] between (back ∷ calls) pending L)));
         third_runs = λ u L few. sim_map host R (λ w q. Kept R x scope size q.globals q.locals q.world) (λ w q N. spot_at R x third_end [] between (back ∷ calls) pending N)
-            (λ w q. Kept R x scope size q.globals q.locals q.world) (λ w q N. spot_at R x head [] between (back ∷ calls) pending N) u.left (7 + c) (spot_at R x third_at [] between (back ∷ calls) pending L) (λ w. 7 + c) (λ w. c) (maybe here caller scope z u)
+            (λ w q. Kept R x scope size q.globals q.locals q.world)
+            (λ w q N. spot_at R x head [] between (back ∷ calls) pending N) u.left (7 + c)
+            (spot_at R x third_at [] between (back ∷ calls) pending L) (λ w. 7 + c) (λ w. c)
+            (maybe here caller scope z u)
             (evaluated_runs z rz scope size (n + 3 + some_labels e + some_labels y + stmt_labels a) third_at (7 + c) u L between (back ∷ calls) pending fine.2 g.0 few)
             (λ w q N. (
               N,
@@ -1211,14 +1392,17 @@ module _ (host : MachineHost) (R : Saved → Deferred → Type 0) (x : Site) (li
 
   -- ---- `do`
 
-  pub one_jumps : (place next : ℕ) (offset k : ℤ) (cells : List Cell) (calls' : List ℕ) (pending : List Saved) (world : World Saved) → op_at x.code place ≡ Some (ops.Jnz offset) → is_zero k ≡ false → jump_place place offset ≡ next
+  pub one_jumps : (place next : ℕ) (offset k : ℤ) (cells : List Cell) (calls' : List ℕ) (pending : List Saved)
+      (world : World Saved) → op_at x.code place ≡ Some (ops.Jnz offset) → is_zero k ≡ false
+      → jump_place place offset ≡ next
       → step host (at x place (Holds (Int k) ∷ cells) calls' pending world) ≡ Some (Goes (at x next cells calls' pending world))
   unfolding act cells_after
   one_jumps place next offset k cells calls' pending world begins test goes =
       moves host x listed place next (ops.Jnz offset) (Holds (Int k) ∷ cells) cells calls' pending world begins refl refl refl
       (ap (λ (b : Bool). if b then place + 6 else jump_place place offset) test ∙ goes)
 
-  pub zero_passes : (place next : ℕ) (offset k : ℤ) (cells : List Cell) (calls' : List ℕ) (pending : List Saved) (world : World Saved) → op_at x.code place ≡ Some (ops.Jnz offset) → is_zero k ≡ true → place + 6 ≡ next
+  pub zero_passes : (place next : ℕ) (offset k : ℤ) (cells : List Cell) (calls' : List ℕ) (pending : List Saved)
+      (world : World Saved) → op_at x.code place ≡ Some (ops.Jnz offset) → is_zero k ≡ true → place + 6 ≡ next
       → step host (at x place (Holds (Int k) ∷ cells) calls' pending world) ≡ Some (Goes (at x next cells calls' pending world))
   unfolding act cells_after
   zero_passes place next offset k cells calls' pending world begins test goes =
@@ -1248,35 +1432,58 @@ module _ (host : MachineHost) (R : Saved → Deferred → Type 0) (x : Site) (li
       let runs : LoopRuns breaks continues scope size room lower back calls pending head decides start body_end head next (n + 2) (n + 1) c (λ q. eval here caller scope e q) (λ q. exec here caller scope a q) (λ q. Gives [] q) = record {
         break_is = broken;
         continue_is = continued;
-        test_runs = λ q L few. as_test e scope size head decides c q L between (back ∷ calls) pending fine.1.1 (r scope size (n + 3 + stmt_labels a) size head c q L [] between (back ∷ calls) pending fine.1.0 d.0 (omega arith) few tt);
+        test_runs = λ q L few. as_test e scope size head decides c q L between (back ∷ calls) pending fine.1.1
+            (r scope size (n + 3 + stmt_labels a) size head c q L [] between (back ∷ calls) pending fine.1.0 d.0
+            (omega arith) few tt);
         enters = λ q L k nonzero. one_jumps decides start _ k (L.frame ++ (between ++ L.under)) (back ∷ calls) pending L.machine d.1.0.begins nonzero (d.1.0.leads ∙ again);
         ends = λ q L k nought. zero_passes decides next _ k (L.frame ++ (between ++ L.under)) (back ∷ calls) pending L.machine d.1.0.begins nought ending;
-        body_runs = λ q L few. keeps a fine.2 da inner (record { allowed = true; scope = scope; depth = size; label = n + 2 }) (record { allowed = true; scope = scope; depth = size; label = n + 1 }) scope size (n + 3) start (8 + c) q L
+        body_runs = λ q L few. keeps a fine.2 da inner
+            (record { allowed = true; scope = scope; depth = size; label = n + 2 })
+            (record { allowed = true; scope = scope; depth = size; label = n + 1 }) scope size (n + 3) start (8 + c) q L
             room lower back calls pending fine.0 b.0 (record { break_label = refl; break_depth = refl; continue_label = refl; continue_depth = refl })
             (exit_here scope L.frame q.locals size (n + 2) L.local_values L.frame_size) (exit_here scope L.frame q.locals size (n + 1) L.local_values L.frame_size) typed few;
         to_third = λ q L k. subst (λ t. Took host k (8 + c) (spot_at R x body_end [] between (back ∷ calls) pending L) k (7 + c) (spot_at R x t [] between (back ∷ calls) pending L)) same_head
             (took_less host (7 + c) (omega arith) (took_none host k (8 + c) (spot_at R x body_end [] between (back ∷ calls) pending L)));
         third_runs = λ q L few. (L, took_less host c (omega arith) (took_none host q.left (7 + c) (spot_at R x head [] between (back ∷ calls) pending L)));
       } in
-      subst (λ k. Sim host R (Holds' breaks continues scope (size + 0)) (place_of_flow breaks continues scope (size + 0) next room lower back calls pending) p.left c (spot_at R x k [] between (back ∷ calls) pending K) (flow_credits c 0)
+      subst (λ k. Sim host R (Holds' breaks continues scope (size + 0))
+      (place_of_flow breaks continues scope (size + 0) next room lower back calls pending) p.left c
+      (spot_at R x k [] between (back ∷ calls) pending K) (flow_credits c 0)
       (bind (exec here caller scope a p) (λ f q. on_body f (λ u. looped (λ w. eval here caller scope e w) (λ w. exec here caller scope a w) (λ w. Gives [] w) u) q))) (sym same)
       (sim_bind host R (Holds' (record { allowed = true; scope = scope; depth = size; label = n + 2 }) (record { allowed = true; scope = scope; depth = size; label = n + 1 }) scope (size + 0))
-      (place_of_flow (record { allowed = true; scope = scope; depth = size; label = n + 2 }) (record { allowed = true; scope = scope; depth = size; label = n + 1 }) scope (size + 0) body_end room lower back calls pending)
+      (place_of_flow (record { allowed = true; scope = scope; depth = size; label = n + 2 })
+      (record { allowed = true; scope = scope; depth = size; label = n + 1 }) scope
+      (size + 0) body_end room lower back calls pending)
       (Holds' breaks continues scope (size + 0)) (place_of_flow breaks continues scope (size + 0) next room lower back calls pending)
-      p.left c (spot_at R x start [] between (back ∷ calls) pending K) (flow_credits c 0) (flow_credits c 0) (exec here caller scope a p) (λ f q. on_body f (λ u. looped (λ w. eval here caller scope e w) (λ w. exec here caller scope a w) (λ w. Gives [] w) u) q)
-      (keeps a fine.2 da inner (record { allowed = true; scope = scope; depth = size; label = n + 2 }) (record { allowed = true; scope = scope; depth = size; label = n + 1 }) scope size (n + 3) start c p K
+      p.left c (spot_at R x start [] between (back ∷ calls) pending K) (flow_credits c 0) (flow_credits c 0)
+      (exec here caller scope a p)
+      (λ f q. on_body f (λ u. looped (λ w. eval here caller scope e w) (λ w. exec here caller scope a w)
+      (λ w. Gives [] w) u) q)
+      (keeps a fine.2 da inner (record { allowed = true; scope = scope; depth = size; label = n + 2 })
+      (record { allowed = true; scope = scope; depth = size; label = n + 1 }) scope size (n + 3) start c p K
       room lower back calls pending fine.0 b.0 (record { break_label = refl; break_depth = refl; continue_label = refl; continue_depth = refl })
       (exit_here scope K.frame p.locals size (n + 2) K.local_values K.frame_size) (exit_here scope K.frame p.locals size (n + 1) K.local_values K.frame_size) typed le)
-      (λ f q g less. first_body breaks continues scope size room lower back calls pending head next body_end (n + 2) (n + 1) c (λ w. looped (λ w. eval here caller scope e w) (λ w. exec here caller scope a w) (λ w. Gives [] w) w) broken continued same_head
+      (λ f q g less. first_body breaks continues scope size room lower back calls pending head next body_end (n + 2)
+      (n + 1) c (λ w. looped (λ w. eval here caller scope e w) (λ w. exec here caller scope a w)
+      (λ w. Gives [] w) w) broken continued same_head
       (λ q L few. looped_run breaks continues scope size room lower back calls pending head decides start body_end head next (n + 2) (n + 1) c (λ q. eval here caller scope e q) (λ q. exec here caller scope a q) (λ q. Gives [] q) runs q L few) f q g (omega (arith, less, le))))
     where
-      first_body : (breaks continues : Exit) (scope : List ℕ) (size : ℕ) (room : List Value) (lower : List Cell) (back : ℕ) (calls : List ℕ) (pending : List Saved) (head next body_end break_label continue_label c : ℕ) (loop : Progress → Outcome Flow)
+      first_body : (breaks continues : Exit) (scope : List ℕ) (size : ℕ) (room : List Value) (lower : List Cell)
+          (back : ℕ) (calls : List ℕ) (pending : List Saved) (head next body_end break_label continue_label c : ℕ)
+          (loop : Progress → Outcome Flow)
           → x.places break_label ≡ next → x.places continue_label ≡ head → body_end ≡ head
           → ((q : Progress) (L : Kept R x scope size q.globals q.locals q.world) → q.left ≤ most
-          → Sim host R (Holds' breaks continues scope (size + 0)) (place_of_flow breaks continues scope (size + 0) next room lower back calls pending) q.left c (spot_at R x head [] (pushed room lower) (back ∷ calls) pending L) (flow_credits c 0) (loop q))
-          → (f : Flow) (q : Progress) (g : Holds' (record { allowed = true; scope = scope; depth = size; label = break_label }) (record { allowed = true; scope = scope; depth = size; label = continue_label }) scope (size + 0) f q) → q.left ≤ most
+          → Sim host R (Holds' breaks continues scope (size + 0))
+          (place_of_flow breaks continues scope (size + 0) next room lower back calls pending) q.left c
+          (spot_at R x head [] (pushed room lower) (back ∷ calls) pending L) (flow_credits c 0) (loop q))
+          → (f : Flow) (q : Progress)
+          (g : Holds' (record { allowed = true; scope = scope; depth = size; label = break_label })
+          (record { allowed = true; scope = scope; depth = size; label = continue_label }) scope (size + 0) f q)
+          → q.left ≤ most
           → Sim host R (Holds' breaks continues scope (size + 0)) (place_of_flow breaks continues scope (size + 0) next room lower back calls pending) q.left (flow_credits c 0 f)
-          (place_of_flow (record { allowed = true; scope = scope; depth = size; label = break_label }) (record { allowed = true; scope = scope; depth = size; label = continue_label }) scope (size + 0) body_end room lower back calls pending f q g)
+          (place_of_flow (record { allowed = true; scope = scope; depth = size; label = break_label })
+          (record { allowed = true; scope = scope; depth = size; label = continue_label }) scope
+          (size + 0) body_end room lower back calls pending f q g)
           (flow_credits c 0) (on_body f loop q)
       first_body breaks continues scope size room lower back calls pending head next body_end break_label continue_label c loop broken continued same run Next q g le =
           let M = no_more g in
@@ -1285,12 +1492,16 @@ module _ (host : MachineHost) (R : Saved → Deferred → Type 0) (x : Site) (li
           (took_less host c (omega arith) (took_none host q.left (c + 0) (spot_at R x body_end [] (pushed room lower) (back ∷ calls) pending M)))) (run q M le)
       first_body breaks continues scope size room lower back calls pending head next body_end break_label continue_label c loop broken continued same run Broke q g le = (
         and_none g.1,
-        subst (λ z. Took host q.left c (spot_at R x (x.places break_label) [] (pushed room lower) (back ∷ calls) pending g.1) q.left (c + 0) (spot_at R x z [] (pushed room lower) (back ∷ calls) pending g.1)) broken
+        subst (λ z. Took host q.left c
+            (spot_at R x (x.places break_label) [] (pushed room lower) (back ∷ calls) pending g.1) q.left (c + 0)
+            (spot_at R x z [] (pushed room lower) (back ∷ calls) pending g.1)) broken
             (took_less host (c + 0) (omega arith) (took_none host q.left c (spot_at R x (x.places break_label) [] (pushed room lower) (back ∷ calls) pending g.1))),
       )
       first_body breaks continues scope size room lower back calls pending head next body_end break_label continue_label c loop broken continued same run Continued q g le =
           sim_after host R (Holds' breaks continues scope (size + 0)) (place_of_flow breaks continues scope (size + 0) next room lower back calls pending) (flow_credits c 0) (loop q)
-          (subst (λ z. Took host q.left c (spot_at R x (x.places continue_label) [] (pushed room lower) (back ∷ calls) pending g.1) q.left c (spot_at R x z [] (pushed room lower) (back ∷ calls) pending g.1)) continued
+          (subst (λ z. Took host q.left c
+          (spot_at R x (x.places continue_label) [] (pushed room lower) (back ∷ calls) pending g.1) q.left c
+          (spot_at R x z [] (pushed room lower) (back ∷ calls) pending g.1)) continued
           (took_none host q.left c (spot_at R x (x.places continue_label) [] (pushed room lower) (back ∷ calls) pending g.1))) (run q g.1 le)
       first_body breaks continues scope size room lower back calls pending head next body_end break_label continue_label c loop broken continued same run (Returned v) q g le =
           (g, took_none host q.left c (spot_at R x back [] (pushed v lower) calls pending g.1))
@@ -1337,11 +1548,15 @@ module _ (host : MachineHost) (R : Saved → Deferred → Type 0) (x : Site) (li
       let B = Holds' breaks continues scope (size + 0) in
       let there = place_of_flow breaks continues scope (size + 0) next room lower back calls pending in
       let d = both_stand x.code x.places place (dropped size) (Instruction ops.Retn ∷ []) stands in
-      sim_bind host R (λ w q. (w ≡ []) × Kept R x scope size q.globals q.locals q.world) (λ w q h. spot_at R x place [] between (back ∷ calls) pending h.1) B there p.left c s (λ w. c) (flow_credits c 0)
+      sim_bind host R (λ w q. (w ≡ []) × Kept R x scope size q.globals q.locals q.world)
+      (λ w q h. spot_at R x place [] between (back ∷ calls) pending h.1) B there p.left c s (λ w. c)
+      (flow_credits c 0)
       (maybe here caller scope None p) (λ parts q. spend q (λ u. Gives (Returned parts) u)) ((refl, K), took_none host p.left c s)
       (λ w q h less.
       subst (λ (v : List Value). Sim host R B there q.left c (spot_at R x place [] between (back ∷ calls) pending h.1) (flow_credits c 0) (spend q (λ u. Gives (Returned v) u))) (sym h.0)
-      (subst (λ (v : List Value). Sim host R B there q.left c (spot_at R x place [] (pushed v lower) (back ∷ calls) pending h.1) (flow_credits c 0) (spend q (λ u. Gives (Returned []) u))) (sym no_room)
+      (subst (λ (v : List Value). Sim host R B there q.left c
+      (spot_at R x place [] (pushed v lower) (back ∷ calls) pending h.1) (flow_credits c 0)
+      (spend q (λ u. Gives (Returned []) u))) (sym no_room)
       (sim_paid host R B there c (spot_at R x place [] lower (back ∷ calls) pending h.1) (flow_credits c 0) q (λ u. Gives (Returned []) u) h.1.alike
       (λ k left.
       let back_again = goes_home k c size place h.1.frame (lower ++ h.1.under) back calls pending h.1.machine h.1.frame_held h.1.frame_size d.0 d.1.0 in

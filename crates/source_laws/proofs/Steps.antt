@@ -299,7 +299,8 @@ module _ (host : MachineHost) (x : Site) (listed : IsListed host x) where
 
   -- ---- operators
 
-  pub operator_goes : (tested : EqualityIsTested) (place next : ℕ) (structs : Structs) (o : BinaryOperator) (s t r : Ty) (v w : List Value) (cells : List Cell) (calls : List ℕ) (pending : List Saved) (world : World Saved)
+  pub operator_goes : (tested : EqualityIsTested) (place next : ℕ) (structs : Structs) (o : BinaryOperator) (s t r : Ty)
+      (v w : List Value) (cells : List Cell) (calls : List ℕ) (pending : List Saved) (world : World Saved)
       → op_at x.code place ≡ Some (operation o s (length (cell_types structs s))) → place + op_size (operation o s (length (cell_types structs s))) ≡ next
       → binary_type o s t ≡ Some r → value_types v ≡ cell_types structs s → value_types w ≡ cell_types structs t → divides_by_zero o w ≡ false
       → step host (at x place (pushed w (pushed v cells)) calls pending world) ≡ Some (Goes (at x next (pushed (operate o v w) cells) calls pending world))
@@ -310,7 +311,8 @@ module _ (host : MachineHost) (x : Site) (listed : IsListed host x) where
       does.after (does.undivided ∙ divides)
       (operation_passes o s (length (cell_types structs s)) place (pushed w (pushed v cells)) ∙ goes)
 
-  pub operator_divides : (tested : EqualityIsTested) (place : ℕ) (structs : Structs) (o : BinaryOperator) (s t r : Ty) (v w : List Value) (cells : List Cell) (calls : List ℕ) (pending : List Saved) (world : World Saved)
+  pub operator_divides : (tested : EqualityIsTested) (place : ℕ) (structs : Structs) (o : BinaryOperator) (s t r : Ty)
+      (v w : List Value) (cells : List Cell) (calls : List ℕ) (pending : List Saved) (world : World Saved)
       → op_at x.code place ≡ Some (operation o s (length (cell_types structs s)))
       → binary_type o s t ≡ Some r → value_types v ≡ cell_types structs s → value_types w ≡ cell_types structs t → divides_by_zero o w ≡ true
       → step host (at x place (pushed w (pushed v cells)) calls pending world) ≡ Some Divided

@@ -53,7 +53,8 @@ joined ops places place (line ∷ a) b h k =
     let e : place + (line_size line + lines_size a) ≡ place + line_size line + lines_size a = omega arith in
     (h.0, joined ops places (place + line_size line) a b h.1 (subst (λ m. LinesStand ops places m b) e k))
 
-without_label : (ops : List PlainOp) (places : ℕ → ℕ) (b : Bool) (label place : ℕ) (rest : List Line) → LinesStand ops places place ((if b then Label label ∷ [] else []) ++ rest) → LinesStand ops places place rest
+without_label : (ops : List PlainOp) (places : ℕ → ℕ) (b : Bool) (label place : ℕ) (rest : List Line)
+    → LinesStand ops places place ((if b then Label label ∷ [] else []) ++ rest) → LinesStand ops places place rest
 without_label ops places true label place rest h = let e : place + 0 ≡ place = omega arith in subst (λ m. LinesStand ops places m rest) e h.1
 without_label ops places false label place rest h = h
 
@@ -278,7 +279,10 @@ module _ (host : MachineHost) (R : Saved → Deferred → Type 0) (tested : Equa
         let drops_size = ap (λ d. lines_size (dropped d)) h.count in
         let stopped = a.ending in
         let finish : place + lines_size (body ++ dropped cells) ≡ last = omega (arith, all_size, drops_size, stopped, stop) in
-        subst (λ k. Sim host R Inner (λ f p g. flow_place R x result breaks continues scope (base + 1 + 0) k room lower back calls pending f p g) q.left (7 + c) (there place L) (flow_credits (7 + c) 0) (execs here caller scope ss q)) finish
+        subst (λ k. Sim host R Inner
+        (λ f p g. flow_place R x result breaks continues scope
+        (base + 1 + 0) k room lower back calls pending f p g) q.left (7 + c) (there place L)
+        (flow_credits (7 + c) 0) (execs here caller scope ss q)) finish
         (does out breaks continues scope (base + 1) n place (7 + c) q L room lower back calls pending h.fine all a.exits a.ended a.continued a.typed le)
 
     -- at the end, with nothing left to do
@@ -300,7 +304,9 @@ module _ (host : MachineHost) (R : Saved → Deferred → Type 0) (tested : Equa
         of_kind : (s : TypedStmt) (ss : TypedStmts) → EachRest (more_stmts s ss) → Around → (n label place : ℕ) → IsAt (more_stmts s ss) n label place → LabelsStandFirst (more_stmts s ss)
             → (q : Progress) (L : Kept R x scope (base + 1) q.globals q.locals q.world) → q.left ≤ most → Kind here caller s
             → ((m l k : ℕ) → IsAt ss m l k → Sim host R Inner inner_place q.left (7 + c) (there (x.places (otherwise end_label l ss)) L) (flow_credits (7 + c) 0) (from_default here caller scope ss q))
-            → Sim host R Inner inner_place q.left (7 + c) (there (x.places (otherwise end_label label (more_stmts s ss))) L) (flow_credits (7 + c) 0) (from_default here caller scope (more_stmts s ss) q)
+            → Sim host R Inner inner_place q.left (7 + c)
+            (there (x.places (otherwise end_label label (more_stmts s ss))) L) (flow_credits (7 + c) 0)
+            (from_default here caller scope (more_stmts s ss) q)
         of_kind s ss rests a n label place h first q L le (a_default m) rest =
             let here_is : x.places label ≡ place + 0 = h.lines.0 ∙ omega arith in
             subst (λ k. Sim host R Inner inner_place q.left (7 + c) (there k L) (flow_credits (7 + c) 0) (execs here caller scope ss q)) (sym here_is)
@@ -316,11 +322,15 @@ module _ (host : MachineHost) (R : Saved → Deferred → Type 0) (tested : Equa
             by_labels : DeclaresNothing s ⊎ HasNoLabels ss → Sim host R Inner inner_place q.left (7 + c) (there (x.places (otherwise end_label (behind label s) ss)) L) (flow_credits (7 + c) 0)
                 (from_default here caller (after_stmt s scope) ss q)
             by_labels (inl nothing) =
-                subst (λ z. Sim host R Inner inner_place q.left (7 + c) (there (x.places (otherwise end_label (behind label s) ss)) L) (flow_credits (7 + c) 0) (from_default here caller z ss q)) (sym (same_scope s scope nothing))
+                subst (λ z. Sim host R Inner inner_place q.left (7 + c)
+                (there (x.places (otherwise end_label (behind label s) ss)) L) (flow_credits (7 + c) 0)
+                (from_default here caller z ss q)) (sym (same_scope s scope nothing))
                 (rest (n + stmt_labels s) (behind label s) (place + lines_size (emit_stmt x.layout out n (base + 1) s)) (later s ss n label place nothing h))
             by_labels (inr none) =
                 let t = none_tested here caller ss none in
-                subst (λ r. Sim host R Inner inner_place q.left (7 + c) (there (x.places (otherwise end_label (behind label s) ss)) L) (flow_credits (7 + c) 0) r) (sym (t.defaults (after_stmt s scope) q))
+                subst (λ r. Sim host R Inner inner_place q.left (7 + c)
+                (there (x.places (otherwise end_label (behind label s) ss)) L) (flow_credits (7 + c) 0) r)
+                (sym (t.defaults (after_stmt s scope) q))
                 (ends_here (x.places (otherwise end_label (behind label s) ss)) (ap x.places (t.goes_on end_label (behind label s)) ∙ a.over) q L)
 
     -- ---- the tests
@@ -329,11 +339,14 @@ module _ (host : MachineHost) (R : Saved → Deferred → Type 0) (tested : Equa
     record IsTest (k : ℤ) (j : Const) (label place : ℕ) (cells : List Cell) (world : World Saved) : Type 0 where
       first : Machine
       copies : step host (at x place (Holds (Int k) ∷ cells) (back ∷ calls) pending world) ≡ Some (Goes first)
-      holds : (m : ℕ) → values_eq (Int k ∷ []) (constant_value x.self j ∷ []) ≡ true → Took host m (15 + (8 + c)) first m (7 + c) (at x (x.places label) (Holds (Int k) ∷ cells) (back ∷ calls) pending world)
+      holds : (m : ℕ) → values_eq (Int k ∷ []) (constant_value x.self j ∷ []) ≡ true
+          → Took host m (15 + (8 + c)) first m (7 + c)
+          (at x (x.places label) (Holds (Int k) ∷ cells) (back ∷ calls) pending world)
       fails : (m next : ℕ) → place + lines_size (test_of label (case_label 0 j)) ≡ next → values_eq (Int k ∷ []) (constant_value x.self j ∷ []) ≡ false
           → Took host m (15 + (8 + c)) first m (8 + c) (at x next (Holds (Int k) ∷ cells) (back ∷ calls) pending world)
 
-    test_is : (k : ℤ) (j : Const) (label place : ℕ) (cells : List Cell) (world : World Saved) → const_type j ≡ IntTy → LinesStand x.code x.places place (test_of label (case_label 0 j)) → IsTest k j label place cells world
+    test_is : (k : ℤ) (j : Const) (label place : ℕ) (cells : List Cell) (world : World Saved) → const_type j ≡ IntTy
+        → LinesStand x.code x.places place (test_of label (case_label 0 j)) → IsTest k j label place cells world
     test_is k j label place cells world int lines =
         let w = constant_value x.self j in
         let b = values_eq (Int k ∷ []) (w ∷ []) in
@@ -352,12 +365,16 @@ module _ (host : MachineHost) (R : Saved → Deferred → Type 0) (tested : Equa
           copies = top_copied host x listed place p1 (Int k) cells (back ∷ calls) pending world lines.0 refl;
           holds = λ m yes.
               let s4 = at x (x.places label) stack (back ∷ calls) pending world in
-              let fourth = one_jumps host R x listed tables execute functions caller most result p3 (x.places label) _ (as_int b) stack (back ∷ calls) pending world lines.1.1.1.0.begins (one_is b yes) lines.1.1.1.0.leads in
+              let fourth = one_jumps host R x listed tables execute functions caller most result p3 (x.places label) _
+              (as_int b) stack (back ∷ calls) pending world lines.1.1.1.0.begins
+              (one_is b yes) lines.1.1.1.0.leads in
               took_less host (7 + c) (omega arith) (took_then host (took_cost host m (15 + (8 + c)) (22 + c) s1 s2 (omega arith) second)
               (took_then host (took_cost host m (22 + c) (21 + c) s2 s3 (omega arith) third) (took_cost host m (21 + c) (20 + c) s3 s4 (omega arith) fourth)));
           fails = λ m next same no.
               let s4 = at x next stack (back ∷ calls) pending world in
-              let fourth = zero_passes host R x listed tables execute functions caller most result p3 next _ (as_int b) stack (back ∷ calls) pending world lines.1.1.1.0.begins (nought_is b no) (omega (arith, same)) in
+              let fourth = zero_passes host R x listed tables execute functions caller most result p3 next _
+              (as_int b) stack (back ∷ calls) pending world lines.1.1.1.0.begins (nought_is b no)
+              (omega (arith, same)) in
               took_less host (8 + c) (omega arith) (took_then host (took_cost host m (15 + (8 + c)) (22 + c) s1 s2 (omega arith) second)
               (took_then host (took_cost host m (22 + c) (21 + c) s2 s3 (omega arith) third) (took_cost host m (21 + c) (20 + c) s3 s4 (omega arith) fourth)));
         }
@@ -387,7 +404,8 @@ module _ (host : MachineHost) (R : Saved → Deferred → Type 0) (tested : Equa
         of_kind : (s : TypedStmt) (ss : TypedStmts) → EachRest (more_stmts s ss) → Around → (k : ℤ) (jump : ℕ) (other : Progress → Outcome Flow)
             → ((q : Progress) (K : Kept R x scope base q.globals q.locals q.world) → q.left ≤ most
             → Sim host R Inner inner_place q.left (8 + c) (there jump (topped K k)) (flow_credits (7 + c) 0) (other q))
-            → (n label test place : ℕ) → LinesStand x.code x.places test (tests label (more_stmts s ss)) → test + lines_size (tests label (more_stmts s ss)) ≡ jump → IsAt (more_stmts s ss) n label place
+            → (n label test place : ℕ) → LinesStand x.code x.places test (tests label (more_stmts s ss))
+            → test + lines_size (tests label (more_stmts s ss)) ≡ jump → IsAt (more_stmts s ss) n label place
             → LabelsStandFirst (more_stmts s ss) → (q : Progress) (K : Kept R x scope base q.globals q.locals q.world) → q.left ≤ most → Kind here caller s
             → ((m l t p : ℕ) → LinesStand x.code x.places t (tests l ss) → t + lines_size (tests l ss) ≡ jump → IsAt ss m l p
             → (r : Progress) (L : Kept R x scope base r.globals r.locals r.world) → r.left ≤ most
@@ -426,7 +444,9 @@ module _ (host : MachineHost) (R : Saved → Deferred → Type 0) (tested : Equa
             by_labels : DeclaresNothing s ⊎ HasNoLabels ss → LinesStand x.code x.places test (tests (behind label s) ss) → test + lines_size (tests (behind label s) ss) ≡ jump
                 → Sim host R Inner inner_place q.left (8 + c) (there test (topped K k)) (flow_credits (7 + c) 0) (selected here caller (after_stmt s scope) (Int k ∷ []) other ss q)
             by_labels (inl nothing) lines' ending' =
-                subst (λ z. Sim host R Inner inner_place q.left (8 + c) (there test (topped K k)) (flow_credits (7 + c) 0) (selected here caller z (Int k ∷ []) other ss q)) (sym (same_scope s scope nothing))
+                subst (λ z. Sim host R Inner inner_place q.left (8 + c) (there test (topped K k))
+                (flow_credits (7 + c) 0) (selected here caller z (Int k ∷ []) other ss q))
+                (sym (same_scope s scope nothing))
                 (rest (n + stmt_labels s) (behind label s) test (place + lines_size (emit_stmt x.layout out n (base + 1) s)) lines' ending' (later s ss n label place nothing h) q K le)
             by_labels (inr none) lines' ending' =
                 let t = none_tested here caller ss none in
@@ -477,7 +497,8 @@ module _ (host : MachineHost) (R : Saved → Deferred → Type 0) (tested : Equa
       let last = stop + lines_size (dropped many) in
       let next = place + lines_size (value ++ (all_tests ++ behind_tests)) in
       let ending : last + 6 ≡ next =
-      let h1 = sizes value (all_tests ++ behind_tests) in let h2 = sizes all_tests behind_tests in let h3 = sizes body (dropped many ++ last_lines) in let h4 = sizes (dropped many) last_lines in omega (arith, h1, h2, h3, h4) in
+      let h1 = sizes value (all_tests ++ behind_tests) in let h2 = sizes all_tests behind_tests in let h3 = sizes body
+      (dropped many ++ last_lines) in let h4 = sizes (dropped many) last_lines in omega (arith, h1, h2, h3, h4) in
       let between = pushed room lower in
       let breaks' : Exit = record { allowed = true; scope = scope; depth = size + 1; label = n } in
       let beneath_it : (i : ℕ) → In i scope → position l i + length (part_types x i) ≤ size = λ i j. fits (within x scope K.frame p.locals K.local_values i j) K.frame_size in
@@ -490,7 +511,9 @@ module _ (host : MachineHost) (R : Saved → Deferred → Type 0) (tested : Equa
         ending = refl;
         over = g.1.0;
       } in
-      let list : IsAt inner breaks' continues scope size room lower back calls pending c many stop last n ss (n + 1 + count_labels ss + labels e) (n + 1) first = record { lines = f.0; ending = refl; count = refl; fine = fine.1 } in
+      let list : IsAt inner breaks' continues scope size room lower back calls pending c many stop last n ss
+      (n + 1 + count_labels ss + labels e)
+      (n + 1) first = record { lines = f.0; ending = refl; count = refl; fine = fine.1 } in
       sim_bind host R (HoldsValue R x scope size (type_of e)) (value_place R x scope size (type_of e) test [] between (back ∷ calls) pending)
       (FlowHolds R x result breaks continues scope (size + 0)) (flow_place R x result breaks continues scope (size + 0) next room lower back calls pending)
       p.left c (spot_at R x place [] between (back ∷ calls) pending K) (value_credits c) (flow_credits c 0) (eval here caller scope e p)
@@ -499,15 +522,23 @@ module _ (host : MachineHost) (R : Saved → Deferred → Type 0) (tested : Equa
       (λ v q h less.
       let k = an_int host R x listed tables execute functions caller most result v (h.0 ∙ ap (cell_types l.structs) fine.0.1) in
       subst (λ u. Sim host R (FlowHolds R x result breaks continues scope (size + 0)) (flow_place R x result breaks continues scope (size + 0) next room lower back calls pending)
-      q.left (8 + c) (spot_at R x test (pushed u []) between (back ∷ calls) pending h.1) (flow_credits c 0) (bind (selected here caller scope u (λ w. from_default here caller scope ss w) ss q) (λ t w. Gives (on_switch t) w))) (sym k.1)
+      q.left (8 + c) (spot_at R x test (pushed u []) between (back ∷ calls) pending h.1) (flow_credits c 0)
+      (bind (selected here caller scope u (λ w. from_default here caller scope ss w) ss q)
+      (λ t w. Gives (on_switch t) w))) (sym k.1)
       (sim_bind host R (FlowHolds R x result breaks' continues scope (size + 1 + 0)) (flow_place R x result breaks' continues scope (size + 1 + 0) last room lower back calls pending)
       (FlowHolds R x result breaks continues scope (size + 0)) (flow_place R x result breaks continues scope (size + 0) next room lower back calls pending)
-      q.left (8 + c) (spot_at R x test [] between (back ∷ calls) pending (topped h.1 k.0)) (flow_credits (7 + c) 0) (flow_credits c 0) (selected here caller scope (Int k.0 ∷ []) (λ u. from_default here caller scope ss u) ss q) (λ t u. Gives (on_switch t) u)
+      q.left (8 + c) (spot_at R x test [] between (back ∷ calls) pending (topped h.1 k.0)) (flow_credits (7 + c) 0)
+      (flow_credits c 0) (selected here caller scope (Int k.0 ∷ []) (λ u. from_default here caller scope ss u) ss q)
+      (λ t u. Gives (on_switch t) u)
       (selected_runs inner breaks' continues scope size room lower back calls pending c many stop last n ss rests a k.0 jump (λ u. from_default here caller scope ss u)
-      (λ u L enough. sim_after host R (FlowHolds R x result breaks' continues scope (size + 1 + 0)) (flow_place R x result breaks' continues scope (size + 1 + 0) last room lower back calls pending) (flow_credits (7 + c) 0) (from_default here caller scope ss u)
-      (took_cost host u.left (8 + c) (7 + c) (spot_at R x jump [] between (back ∷ calls) pending (topped L k.0)) (spot_at R x (x.places target) [] between (back ∷ calls) pending (topped L k.0)) (omega arith)
+      (λ u L enough. sim_after host R (FlowHolds R x result breaks' continues scope (size + 1 + 0))
+      (flow_place R x result breaks' continues scope (size + 1 + 0) last room lower back calls pending)
+      (flow_credits (7 + c) 0) (from_default here caller scope ss u)
+      (took_cost host u.left (8 + c) (7 + c) (spot_at R x jump [] between (back ∷ calls) pending (topped L k.0))
+      (spot_at R x (x.places target) [] between (back ∷ calls) pending (topped L k.0)) (omega arith)
       (jump_goes host x listed jump (x.places target) _ ((topped L k.0).frame ++ (between ++ L.under)) (back ∷ calls) pending L.machine d.1.0.begins d.1.0.leads))
-      (from_default_runs inner breaks' continues scope size room lower back calls pending c many stop last n ss rests a (n + 1 + count_labels ss + labels e) (n + 1) first list fine.2 u (topped L k.0) enough))
+      (from_default_runs inner breaks' continues scope size room lower back calls pending c many stop last n ss rests a
+      (n + 1 + count_labels ss + labels e) (n + 1) first list fine.2 u (topped L k.0) enough))
       (n + 1 + count_labels ss + labels e) (n + 1) test first d.0 refl list fine.2 q h.1 (omega (arith, less, le)))
       (λ t u w fewer. ends_with breaks continues scope size n last next c room lower back calls pending g.1.0 g.1.1 ending beneath_it t u w)))
     where
@@ -517,17 +548,22 @@ module _ (host : MachineHost) (R : Saved → Deferred → Type 0) (tested : Equa
       ends_with : (breaks continues : Exit) (scope : List ℕ) (size n last next c : ℕ) (room : List Value) (lower : List Cell) (back : ℕ) (calls : List ℕ) (pending : List Saved) → x.places n ≡ last
           → LinesStand x.code x.places (last + 0) (dropped 1) → last + 6 ≡ next → ((i : ℕ) → In i scope → position x.layout i + length (part_types x i) ≤ size)
           → (t : Flow) (u : Progress) (w : FlowHolds R x result (record { allowed = true; scope = scope; depth = size + 1; label = n }) continues scope (size + 1 + 0) t u)
-          → Sim host R (FlowHolds R x result breaks continues scope (size + 0)) (flow_place R x result breaks continues scope (size + 0) next room lower back calls pending) u.left (flow_credits (7 + c) 0 t)
-          (flow_place R x result (record { allowed = true; scope = scope; depth = size + 1; label = n }) continues scope (size + 1 + 0) last room lower back calls pending t u w) (flow_credits c 0) (Gives (on_switch t) u)
+          → Sim host R (FlowHolds R x result breaks continues scope (size + 0))
+          (flow_place R x result breaks continues scope (size + 0) next room lower back calls pending) u.left
+          (flow_credits (7 + c) 0 t)
+          (flow_place R x result (record { allowed = true; scope = scope; depth = size + 1; label = n }) continues scope
+          (size + 1 + 0) last room lower back calls pending t u w) (flow_credits c 0) (Gives (on_switch t) u)
       ends_with breaks continues scope size n last next c room lower back calls pending over drops ending beneath_it Next u w =
           let same : last + 0 ≡ last = omega arith in
-          taken_off breaks continues scope size last next c (7 + c + 0) room lower back calls pending (omega arith) (subst (λ k. LinesStand x.code x.places k (dropped 1)) same drops) ending beneath_it u
+          taken_off breaks continues scope size last next c (7 + c + 0) room lower back calls pending (omega arith)
+          (subst (λ k. LinesStand x.code x.places k (dropped 1)) same drops) ending beneath_it u
           (no_more host R x listed tables execute functions caller most result w)
       ends_with breaks continues scope size n last next c room lower back calls pending over drops ending beneath_it Broke u w =
           let same : last + 0 ≡ last = omega arith in
           subst (λ k. Sim host R (FlowHolds R x result breaks continues scope (size + 0)) (flow_place R x result breaks continues scope (size + 0) next room lower back calls pending) u.left (7 + c)
           (spot_at R x k [] (pushed room lower) (back ∷ calls) pending w.1) (flow_credits c 0) (Gives Next u)) (sym over)
-          (taken_off breaks continues scope size last next c (7 + c) room lower back calls pending (omega arith) (subst (λ k. LinesStand x.code x.places k (dropped 1)) same drops) ending beneath_it u w.1)
+          (taken_off breaks continues scope size last next c (7 + c) room lower back calls pending (omega arith)
+          (subst (λ k. LinesStand x.code x.places k (dropped 1)) same drops) ending beneath_it u w.1)
       ends_with breaks continues scope size n last next c room lower back calls pending over drops ending beneath_it Continued u w =
           (w, took_less host c (omega arith) (took_none host u.left (7 + c) (spot_at R x (x.places continues.label) [] (pushed room lower) (back ∷ calls) pending w.1)))
       ends_with breaks continues scope size n last next c room lower back calls pending over drops ending beneath_it (Returned v) u w =

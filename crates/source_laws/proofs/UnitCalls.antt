@@ -71,11 +71,15 @@ constants_are x (k ∷ ks) (p ∷ ps) h =
     let rest : map const_type ks ≡ map parameter_type ps = cc in
     ap (λ ts. ts ∷ constant_types ks) (constant_single x.layout.structs k ∙ ap (cell_types x.layout.structs) first) ∙ ap (λ r. cell_types x.layout.structs p.ty ∷ r) (constants_are x ks ps rest)
 
-value_case : (x : Site) (b : Bool) (e : TypedExpr) (p : TypedParameter) (rest ts : List (List Ty)) → b ≡ false → (if b then Action else type_of e) ≡ p.ty → rest ≡ ts → with_types b (cell_types x.layout.structs (type_of e)) rest ≡ cell_types x.layout.structs p.ty ∷ ts
+value_case : (x : Site) (b : Bool) (e : TypedExpr) (p : TypedParameter) (rest ts : List (List Ty)) → b ≡ false
+    → (if b then Action else type_of e) ≡ p.ty → rest ≡ ts
+    → with_types b (cell_types x.layout.structs (type_of e)) rest ≡ cell_types x.layout.structs p.ty ∷ ts
 value_case x true e p rest ts h k next = absurd cc
 value_case x false e p rest ts h k next = ap (λ u. cell_types x.layout.structs u ∷ rest) k ∙ ap (λ r. cell_types x.layout.structs p.ty ∷ r) next
 
-values_fit : (x : Site) (es : TypedExprs) (ks : List Const) (ps : List TypedParameter) → argument_types es ks ≡ map parameter_type ps → AreValues es → types_before x.layout.structs es (constant_types ks) ≡ parameter_types x ps
+values_fit : (x : Site) (es : TypedExprs) (ks : List Const) (ps : List TypedParameter)
+    → argument_types es ks ≡ map parameter_type ps → AreValues es
+    → types_before x.layout.structs es (constant_types ks) ≡ parameter_types x ps
 values_fit x no_typed ks ps h values = constants_are x ks ps h
 values_fit x (more_typed e es) ks [] h values = absurd cc
 values_fit x (more_typed e es) ks (p ∷ ps) h values =
@@ -88,7 +92,8 @@ module _ (host : MachineHost) (R : Saved → Deferred → Type 0) (tested : Equa
   abbrev Runs : TypedExpr → Type 0
   Runs e = ExprRuns host R x tables execute functions caller most e
 
-  pub call_goes : (place next : ℕ) (offset : ℤ) (cells : List Cell) (calls : List ℕ) (pending : List Saved) (world : World Saved) → op_at x.code place ≡ Some (ops.Jsr offset) → jump_place place offset ≡ next
+  pub call_goes : (place next : ℕ) (offset : ℤ) (cells : List Cell) (calls : List ℕ) (pending : List Saved)
+      (world : World Saved) → op_at x.code place ≡ Some (ops.Jsr offset) → jump_place place offset ≡ next
       → step host (at x place cells calls pending world) ≡ Some (Goes (at x next cells ((place + 6) ∷ calls) pending world))
   unfolding act
   call_goes place next offset cells calls pending world begins goes =
@@ -96,7 +101,9 @@ module _ (host : MachineHost) (R : Saved → Deferred → Type 0) (tested : Equa
       ∙ ap (λ k. Some (Goes (at x k cells ((place + 6) ∷ calls) pending world))) goes
 
   -- credits that are not needed
-  sim_less : (host : MachineHost) (R : Saved → Deferred → Type 0) (B : List Value → Progress → Type 0) (there : (v : List Value) (p : Progress) → B v p → Machine) (n c d : ℕ) (s : Machine) (e : List Value → ℕ) (r : Outcome (List Value)) → c ≤ d
+  sim_less : (host : MachineHost) (R : Saved → Deferred → Type 0) (B : List Value → Progress → Type 0)
+      (there : (v : List Value) (p : Progress) → B v p → Machine) (n c d : ℕ) (s : Machine) (e : List Value → ℕ)
+      (r : Outcome (List Value)) → c ≤ d
       → Sim host R B there n c s e r → Sim host R B there n d s e r
   sim_less host R B there n c d s e r less h = sim_after host R B there e r (took_less host c less (took_none host n d s)) h
 
@@ -115,7 +122,9 @@ module _ (host : MachineHost) (R : Saved → Deferred → Type 0) (tested : Equa
     alike = K.alike;
   }
 
-  abbrev with_frame : {scope : List ℕ} {size : ℕ} {globals locals before : Variables} {world earlier : World Deferred} → Kept R x scope size before locals earlier → Kept R x [] 0 globals no_variables world → Kept R x scope size globals locals world
+  abbrev with_frame : {scope : List ℕ} {size : ℕ} {globals locals before : Variables} {world earlier : World Deferred}
+      → Kept R x scope size before locals earlier → Kept R x [] 0 globals no_variables world
+      → Kept R x scope size globals locals world
   with_frame K G = record {
     under = G.under;
     frame = K.frame;
@@ -131,8 +140,14 @@ module _ (host : MachineHost) (R : Saved → Deferred → Type 0) (tested : Equa
 
   jsr_runs : (t : Ty) (f : ℕ) (es : TypedExprs) (ks : List Const) → CallsRun host R x functions caller most → (fine : CallsFunction functions t f es ks)
       → (scope : List ℕ) (size place next c : ℕ) (a : Arguments) (q : Progress) (temps between : List Cell) (calls : List ℕ) (pending : List Saved)
-      → (h : HasCall host R tested x listed tables execute functions caller most scope size es ks pending a q) → (offset : ℤ) → op_at x.code place ≡ Some (ops.Jsr offset) → jump_place place offset ≡ x.places f → place + 6 ≡ next → q.left ≤ most
-      → Sim host R (HoldsValue R x scope size t) (value_place R x scope size t next temps between calls pending) q.left c (spot_at R x place (pushed_all a.values (pushed (start_parts (cell_types x.layout.structs t)) temps)) between calls h.now h.kept) (value_credits c) (unit_called caller f a q)
+      → (h : HasCall host R tested x listed tables execute functions caller most scope size es ks pending a q)
+      → (offset : ℤ) → op_at x.code place ≡ Some (ops.Jsr offset) → jump_place place offset ≡ x.places f
+      → place + 6 ≡ next → q.left ≤ most
+      → Sim host R (HoldsValue R x scope size t)
+      (value_place R x scope size t next temps between calls pending) q.left c
+      (spot_at R x place (pushed_all a.values
+      (pushed (start_parts (cell_types x.layout.structs t)) temps)) between calls h.now h.kept) (value_credits c)
+      (unit_called caller f a q)
   jsr_runs t f es ks calls_run fine scope size place next c a q temps between calls pending h offset begins leads ending le =
       let K = h.kept in
       let room = start_parts (cell_types x.layout.structs t) in
@@ -150,14 +165,21 @@ module _ (host : MachineHost) (R : Saved → Deferred → Type 0) (tested : Equa
       ∙ ap (λ z. Some (Goes (at x (x.places f) z ((place + 6) ∷ calls) h.now K.machine))) cells_are
       ∙ ap (λ z. Some (Goes (at x (x.places f) (pushed_all a.values (pushed room (lower ++ K.under))) ((place + 6) ∷ calls) z K.machine))) none.1
       ∙ ap (λ z. Some (Goes (at x (x.places f) (pushed_all a.values (pushed room (lower ++ K.under))) (z ∷ calls) pending K.machine))) ending in
-      sim_paid host R (HoldsValue R x scope size t) (value_place R x scope size t next temps between calls pending) c s (value_credits c) q (λ r. bind (caller f a.values r) (λ parts u. Gives parts (record u { locals = r.locals }))) K.alike
+      sim_paid host R (HoldsValue R x scope size t) (value_place R x scope size t next temps between calls pending) c s
+      (value_credits c) q (λ r. bind (caller f a.values r)
+      (λ parts u. Gives parts (record u { locals = r.locals }))) K.alike
       (λ m left.
       let r = record q { left = m } in (
         s1,
         goes,
-        sim_bind host R (HasResult R x fine.function.result) (result_place R x fine.function.result next lower calls pending) (HoldsValue R x scope size t) (value_place R x scope size t next temps between calls pending)
+        sim_bind host R (HasResult R x fine.function.result)
+            (result_place R x fine.function.result next lower calls pending) (HoldsValue R x scope size t)
+            (value_place R x scope size t next temps between calls pending)
             m (15 + c) s1 (λ v. 12 + c) (value_credits c) (caller f a.values r) (λ parts u. Gives parts (record u { locals = r.locals }))
-            (subst (λ ts. Sim host R (HasResult R x fine.function.result) (result_place R x fine.function.result next lower calls pending) m (15 + c) (at x (x.places f) (pushed_all a.values (pushed (start_parts ts) (lower ++ K.under))) (next ∷ calls) pending K.machine) (λ v. 12 + c) (caller f a.values r)) result_is
+            (subst (λ ts. Sim host R (HasResult R x fine.function.result)
+            (result_place R x fine.function.result next lower calls pending) m (15 + c)
+            (at x (x.places f) (pushed_all a.values (pushed (start_parts ts) (lower ++ K.under)))
+            (next ∷ calls) pending K.machine) (λ v. 12 + c) (caller f a.values r)) result_is
             (calls_run f fine.function fine.is a.values types r (omega (arith, left, le)) (globals_of K) lower next calls pending (15 + c) (12 + c) (omega arith)))
             (λ v u g less.
             let M = with_frame K g.1 in
@@ -170,7 +192,9 @@ module _ (host : MachineHost) (R : Saved → Deferred → Type 0) (tested : Equa
       ))
 
   pub unit_call_runs : (t : Ty) (f : ℕ) (es : TypedExprs) (ks : List Const) → CapturesCarry host R x tables execute functions → CallsRun host R x functions caller most
-      → ((g : ℕ) (fn : Function) → slice_get functions g ≡ Some fn → AllByRecursion IsCell (cell_types x.layout.structs fn.result)) → EachRuns host R tested x listed tables execute functions caller most es
+      → ((g : ℕ) (fn : Function) → slice_get functions g ≡ Some fn
+      → AllByRecursion IsCell (cell_types x.layout.structs fn.result))
+      → EachRuns host R tested x listed tables execute functions caller most es
       → Runs (call t (InUnit f) es ks)
   unit_call_runs t f es ks captures calls_run results each scope size n depth place c p K temps between calls pending fine stands deep le held =
       let ts = cell_types x.layout.structs t in
@@ -181,7 +205,9 @@ module _ (host : MachineHost) (R : Saved → Deferred → Type 0) (tested : Equa
       let first = started ts in
       let middle_lines = constants ks ++ emit_all x.layout n within es in
       let last = JumpTo Jsr f ∷ [] in
-      let regroup : first ++ (constants ks ++ (emit_all x.layout n within es ++ last)) ≡ first ++ (middle_lines ++ last) = ap (λ z. first ++ z) (sym (append_assoc (constants ks) (emit_all x.layout n within es) last)) in
+      let regroup : first ++ (constants ks ++ (emit_all x.layout n within es ++ last))
+      ≡ first ++ (middle_lines ++ last) = ap (λ z. first ++ z)
+      (sym (append_assoc (constants ks) (emit_all x.layout n within es) last)) in
       let lines = subst (LinesStand x.code x.places place) regroup stands in
       let b = both_stand x.code x.places place first (middle_lines ++ last) lines in
       let one = place + lines_size first in
@@ -192,17 +218,30 @@ module _ (host : MachineHost) (R : Saved → Deferred → Type 0) (tested : Equa
       let B = HoldsValue R x scope size t in
       let there = value_place R x scope size t next temps between calls pending in
       let none = no_action es call_fine.values in
-      sim_bind host R (HasParts host R x listed tables execute functions caller most t scope size ts) (parts_place host R x listed tables execute functions caller most t scope size ts one temps between calls pending) B there
-      p.left c (spot_at R x place temps between calls pending K) (λ v. c + one_of wide) (value_credits c) (made ts p) (λ parts q. bind (arguments_of host R tested x listed tables execute functions caller most scope es ks q) (λ a r. unit_called caller f a r))
+      sim_bind host R (HasParts host R x listed tables execute functions caller most t scope size ts)
+      (parts_place host R x listed tables execute functions caller most t scope size ts one temps between calls pending) B there
+      p.left c (spot_at R x place temps between calls pending K) (λ v. c + one_of wide) (value_credits c) (made ts p)
+      (λ parts q. bind (arguments_of host R tested x listed tables execute functions caller most scope es ks q)
+      (λ a r. unit_called caller f a r))
       (made_runs host R x listed tables execute functions caller most t ts all_cells scope size place c p K temps between calls pending b.0)
       (λ v q h less.
       let long : length v ≡ wide = sym (length-map v type_of_value) ∙ ap length h.1 in
       let size_is = pushed_length v temps in
       let H = HasCall host R tested x listed tables execute functions caller most scope size es ks pending in
-      subst (λ (u : List Value). Sim host R B there q.left (c + one_of wide) (spot_at R x one (pushed u temps) between calls pending h.2) (value_credits c) (bind (arguments_of host R tested x listed tables execute functions caller most scope es ks q) (λ a r. unit_called caller f a r))) (sym h.0)
+      subst (λ (u : List Value). Sim host R B there q.left (c + one_of wide)
+      (spot_at R x one (pushed u temps) between calls pending h.2) (value_credits c)
+      (bind (arguments_of host R tested x listed tables execute functions caller most scope es ks q)
+      (λ a r. unit_called caller f a r))) (sym h.0)
       (sim_bind host R H (call_place host R tested x listed tables execute functions caller most scope size es ks two (pushed (start_parts ts) temps) between calls pending) B there
-      q.left (c + one_of wide) (spot_at R x one (pushed (start_parts ts) temps) between calls pending h.2) (λ a. spare es (spare_defaults ks (c + one_of wide))) (value_credits c) (arguments_of host R tested x listed tables execute functions caller most scope es ks q) (λ a r. unit_called caller f a r)
+      q.left (c + one_of wide) (spot_at R x one (pushed (start_parts ts) temps) between calls pending h.2)
+      (λ a. spare es (spare_defaults ks (c + one_of wide))) (value_credits c)
+      (arguments_of host R tested x listed tables execute functions caller most scope es ks q)
+      (λ a r. unit_called caller f a r)
       (call_arguments_run host R tested x listed tables execute functions caller most es ks captures each scope size n within one (c + one_of wide) q h.2 (pushed (start_parts ts) temps) between calls pending fine.1 d.0
-      (let starts_long = ap length h.0 in let z = pushed_length (start_parts ts) temps in omega (arith, long, starts_long, z, deep)) (omega (arith, less, le)) (held_pushed (start_parts ts) temps held) (omega (arith, none)))
-      (λ a r g fewer. sim_less host R B there r.left c (spare es (spare_defaults ks (c + one_of wide))) (spot_at R x two (pushed_all a.values (pushed (start_parts ts) temps)) between calls g.now g.kept) (value_credits c) (unit_called caller f a r) (let z = spare_more es ks (c + one_of wide) in omega (arith, z))
+      (let starts_long = ap length h.0 in let z = pushed_length (start_parts ts) temps in omega
+      (arith, long, starts_long, z, deep)) (omega (arith, less, le)) (held_pushed (start_parts ts) temps held)
+      (omega (arith, none)))
+      (λ a r g fewer. sim_less host R B there r.left c (spare es (spare_defaults ks (c + one_of wide)))
+      (spot_at R x two (pushed_all a.values (pushed (start_parts ts) temps)) between calls g.now g.kept)
+      (value_credits c) (unit_called caller f a r) (let z = spare_more es ks (c + one_of wide) in omega (arith, z))
       (jsr_runs t f es ks calls_run call_fine scope size two next c a r temps between calls pending g _ d.1.0.begins d.1.0.leads ending (omega (arith, less, fewer, le))))))

@@ -116,7 +116,9 @@ module _ (x : Site) (scope : List ℕ) where
 
   put_value : (cells : List Cell) (vars : Variables) (n b : ℕ) (new : List Value) (v : Vars x scope cells vars) (i : In n scope) (h : b + length new ≤ length (vars n))
       (m : ℕ) (j : In m scope) (t : Bool) → (m == n) ≡ t
-      → Stands (((v.value n i).above ++ pushed (drop (length new) (drop b (vars n))) []) ++ pushed new (pushed (take b (vars n)) (v.value n i).below)) (position x.layout m) (if t then with_parts b new (vars n) else vars m)
+      → Stands (((v.value n i).above ++ pushed (drop (length new) (drop b (vars n))) [])
+      ++ pushed new (pushed (take b (vars n)) (v.value n i).below)) (position x.layout m)
+      (if t then with_parts b new (vars n) else vars m)
   put_value cells vars n b new v i h m j true e =
       let same : m ≡ n = (Decides-eqb m n).0 e in
       let s = v.value n i in
@@ -132,7 +134,8 @@ module _ (x : Site) (scope : List ℕ) where
       let deep = part_at cells (position x.layout n) (vars n) b (omega (arith, h)) s in
       let long : length (parts_of b (length new) (vars n)) ≡ length new = length-take-le (length new) (drop b (vars n)) (let d = length-drop b (vars n) in omega (arith, d, h)) in
       others_stand (s.above ++ pushed rest []) new (parts_of b (length new) (vars n)) (pushed front s.below) (position x.layout m) (vars m) (sym long)
-      (sides (position x.layout m) (position x.layout n) (length (part_types x m)) (length (part_types x n)) b (length new) (length (pushed front s.below)) (length (vars m)) (length (parts_of b (length new) (vars n)))
+      (sides (position x.layout m) (position x.layout n) (length (part_types x m)) (length (part_types x n)) b
+      (length new) (length (pushed front s.below)) (length (vars m)) (length (parts_of b (length new) (vars n)))
       (v.apart m n j i (λ same. differ (sym ((Decides-eqb m n).1 same) ∙ e))) (omega (arith, h, size_n)) deep size_m long)
       (subst (λ (t : List Cell). Stands t (position x.layout m) (vars m)) (part_is cells (position x.layout n) (vars n) b (length new) s) other)
 
@@ -147,7 +150,8 @@ module _ (x : Site) (scope : List ℕ) where
   -- a variable's parts are written
   pub vars_put : (cells : List Cell) (vars : Variables) (n b : ℕ) (new : List Value) (v : Vars x scope cells vars) (i : In n scope) (h : b + length new ≤ length (vars n))
       → value_types new ≡ value_types (parts_of b (length new) (vars n))
-      → Vars x scope (((v.value n i).above ++ pushed (drop (length new) (drop b (vars n))) []) ++ pushed new (pushed (take b (vars n)) (v.value n i).below)) (with_variable vars n (with_parts b new (vars n)))
+      → Vars x scope (((v.value n i).above ++ pushed (drop (length new) (drop b (vars n))) [])
+      ++ pushed new (pushed (take b (vars n)) (v.value n i).below)) (with_variable vars n (with_parts b new (vars n)))
   vars_put cells vars n b new v i h types = record {
     value = λ m j. put_value cells vars n b new v i h m j (m == n) refl;
     typed = λ m j. put_typed cells vars n b new v i h types m j (m == n) refl;

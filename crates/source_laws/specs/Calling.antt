@@ -52,7 +52,8 @@ with_types false ts rest = ts ∷ rest
 -- the types of the values among arguments, before those of others
 abbrev pub types_before : Structs → TypedExprs → List (List Ty) → List (List Ty)
 types_before structs no_typed rest = rest
-types_before structs (more_typed e es) rest = with_types (is_captured e) (cell_types structs (type_of e)) (types_before structs es rest)
+types_before structs (more_typed e es) rest = with_types (is_captured e)
+    (cell_types structs (type_of e)) (types_before structs es rest)
 
 abbrev pub constant_types : List Const → List (List Ty)
 constant_types ks = map (λ k. const_type k ∷ []) ks
@@ -70,23 +71,35 @@ actions_in (more_typed e es) = one_if (is_captured e) + actions_in es
 
 -- The machine's engine gives what the engine of the meaning gives, in worlds that stay alike, and
 -- of routines that can be called its answers have the routines' types.
-pub record EngineRuns (host : MachineHost) (R : Saved → Deferred → Type 0) (tables : CellLookup) : Type 0 where
-  pub value : (n caller : ℕ) (values : List Value) (a : Option Saved) (d : Option Deferred) (w : World Saved) (v : World Deferred) → OptionAlike R a d → Alike R w v
-      → (host.engine n caller values a w).value ≡ (engine host.table tables n (call caller values d) v).value
-  pub world : (n caller : ℕ) (values : List Value) (a : Option Saved) (d : Option Deferred) (w : World Saved) (v : World Deferred) → OptionAlike R a d → Alike R w v
-      → Alike R (host.engine n caller values a w).world (engine host.table tables n (call caller values d) v).world
-  pub typed : (n : ℕ) (r : Routine) (caller : ℕ) (values : List Value) (a : Option Saved) (w : World Saved) → slice_get host.table.routines n ≡ Some r
-      → is_callable r ≡ true → value_types values ≡ argument_types r.params → value_types (parts_in (host.engine n caller values a w).value) ≡ result_types r.result
+pub record EngineRuns (host : MachineHost) (R : Saved → Deferred → Type 0)
+    (tables : CellLookup) : Type 0 where
+  pub value : (n caller : ℕ) (values : List Value) (a : Option Saved) (d : Option Deferred)
+      (w : World Saved) (v : World Deferred) → OptionAlike R a d → Alike R w v
+      → (host.engine n caller values a w).value
+      ≡ (engine host.table tables n (call caller values d) v).value
+  pub world : (n caller : ℕ) (values : List Value) (a : Option Saved) (d : Option Deferred)
+      (w : World Saved) (v : World Deferred) → OptionAlike R a d → Alike R w v
+      → Alike R (host.engine n caller values a w).world
+      (engine host.table tables n (call caller values d) v).world
+  pub typed : (n : ℕ) (r : Routine) (caller : ℕ) (values : List Value) (a : Option Saved)
+      (w : World Saved) → slice_get host.table.routines n ≡ Some r
+      → is_callable r ≡ true → value_types values ≡ argument_types r.params
+      → value_types (parts_in (host.engine n caller values a w).value) ≡ result_types r.result
   -- the routine that runs another script takes a name and a target, and gives nothing
-  pub runs : (n : ℕ) (r : Routine) → slice_get host.table.routines n ≡ Some r → is_execute_script r.role ≡ true
+  pub runs : (n : ℕ) (r : Routine) → slice_get host.table.routines n ≡ Some r
+      → is_execute_script r.role ≡ true
       → (argument_types r.params ≡ Text ∷ Object ∷ []) × (result_types r.result ≡ [])
 
 -- A state that is captured before the code of a call carries the call, with the variables as they
 -- are.
-abbrev pub CapturesCarry : MachineHost → (Saved → Deferred → Type 0) → Site → CellLookup → Executor → List Function → Type 0
+abbrev pub CapturesCarry : MachineHost → (Saved → Deferred → Type 0) → Site → CellLookup → Executor
+    → List Function → Type 0
 CapturesCarry host R x tables execute functions =
-    (scope : List ℕ) (size n depth place : ℕ) (e : TypedExpr) (p : Progress) (kept : Kept R x scope size p.globals p.locals p.world) (temps between : List Cell)
-    → IsFine host.table functions x scope e → LinesStand x.code x.places (resume_place place) (emit x.layout n depth e ++ Instruction ops.Retn ∷ [])
+    (scope : List ℕ) (size n depth place : ℕ) (e : TypedExpr) (p : Progress)
+    (kept : Kept R x scope size p.globals p.locals p.world) (temps between : List Cell)
+    → IsFine host.table functions x scope e
+    → LinesStand x.code x.places (resume_place place)
+    (emit x.layout n depth e ++ Instruction ops.Retn ∷ [])
     → length temps + size ≡ depth → AreHeld temps → x.layout.globals ≡ x.bp
     → R (captured x.script (resume_place place) x.layout.globals depth
     (record { cells = temps ++ (kept.frame ++ (between ++ kept.under)); bp = x.bp }))
@@ -96,8 +109,12 @@ CapturesCarry host R x tables execute functions =
 -- behind that one, where a credit is left for that instruction.
 abbrev pub ExecutesRun : MachineHost → (Saved → Deferred → Type 0) → Site → Executor → ℕ → Type 0
 ExecutesRun host R x execute most =
-    (name : List ℕ) (target : ℕ) (scope : List ℕ) (size next c : ℕ) (p : Progress) (kept : Kept R x scope size p.globals p.locals p.world)
+    (name : List ℕ) (target : ℕ) (scope : List ℕ) (size next c : ℕ) (p : Progress)
+    (kept : Kept R x scope size p.globals p.locals p.world)
     (temps between : List Cell) (calls : List ℕ) (pending : List Saved) (s : Machine)
     → p.left ≤ most → 1 ≤ c → s.world ≡ kept.machine → s.waiting ≡ x.waiting → AreHeld temps
-    → step host s ≡ Some (Goes (executed host name target (spot_at R x next temps between calls pending kept).running s))
-    → Sim host R (HoldsValue R x scope size Void) (value_place R x scope size Void next temps between calls pending) p.left c s (value_credits c) (execute name target p)
+    → step host s ≡ Some (Goes
+    (executed host name target (spot_at R x next temps between calls pending kept).running s))
+    → Sim host R (HoldsValue R x scope size Void)
+    (value_place R x scope size Void next temps between calls pending) p.left c s
+    (value_credits c) (execute name target p)

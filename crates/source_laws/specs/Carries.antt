@@ -92,12 +92,17 @@ pub record Carries (s : Setting) (c : Saved) (d : Deferred) : Type 0 where
   pub listed : Listed
   pub is : slice_get s.scripts d.script ≡ Some listed
   pub label : ℕ
-  pub stands : LinesStand (program (unit_code listed.unit).lines) (place_of_label (unit_code listed.unit).lines) c.place
+  pub stands : LinesStand (program (unit_code listed.unit).lines)
+      (place_of_label (unit_code listed.unit).lines) c.place
       (emit (layout_of listed.unit) label (length c.locals) d.call ++ Instruction ops.Retn ∷ [])
-  pub fine : (self : ℕ) (waiting : List Frame) → IsFine s.table (functions listed.unit.items) (unit_site d.script listed.unit self waiting) d.sight d.call
-  pub locals : (self : ℕ) (waiting : List Frame) → Vars (unit_site d.script listed.unit self waiting) d.sight (reverse c.locals) d.locals
+  pub fine : (self : ℕ) (waiting : List Frame)
+      → IsFine s.table (functions listed.unit.items)
+      (unit_site d.script listed.unit self waiting) d.sight d.call
+  pub locals : (self : ℕ) (waiting : List Frame)
+      → Vars (unit_site d.script listed.unit self waiting) d.sight (reverse c.locals) d.locals
   pub globals : (self : ℕ) (waiting : List Frame)
-      → Vars (unit_site d.script listed.unit self waiting) (map number_of (global_names listed.unit.items)) (reverse c.globals) d.globals
+      → Vars (unit_site d.script listed.unit self waiting)
+      (map number_of (global_names listed.unit.items)) (reverse c.globals) d.globals
   pub size : length c.globals ≡ (layout_of listed.unit).globals
   pub locals_held : AreHeld (reverse c.locals)
   pub globals_held : AreHeld (reverse c.globals)

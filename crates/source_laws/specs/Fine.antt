@@ -54,7 +54,8 @@ abbrev pub parameter_type : TypedParameter → Ty
 parameter_type p = p.ty
 
 -- a call of a function of the script
-pub record CallsFunction (functions : List Function) (t : Ty) (f : ℕ) (es : TypedExprs) (ks : List Const) : Type 0 where
+pub record CallsFunction (functions : List Function) (t : Ty) (f : ℕ) (es : TypedExprs)
+    (ks : List Const) : Type 0 where
   pub function : Function
   pub is : slice_get functions f ≡ Some function
   pub result : function.result ≡ t
@@ -62,7 +63,8 @@ pub record CallsFunction (functions : List Function) (t : Ty) (f : ℕ) (es : Ty
   pub values : AreValues es
 
 -- a call of a routine, which takes one action at most
-pub record CallsRoutine (table : EngineTable) (structs : Structs) (t : Ty) (n : ℕ) (es : TypedExprs) (ks : List Const) : Type 0 where
+pub record CallsRoutine (table : EngineTable) (structs : Structs) (t : Ty) (n : ℕ) (es : TypedExprs)
+    (ks : List Const) : Type 0 where
   pub routine : Routine
   pub is : slice_get table.routines n ≡ Some routine
   pub result : cell_types structs t ≡ result_types routine.result
@@ -71,7 +73,8 @@ pub record CallsRoutine (table : EngineTable) (structs : Structs) (t : Ty) (n : 
   pub arguments : argument_types es ks ≡ map (λ p. p.ty) routine.params
   pub actions : action_count routine.params ≤ 1
 
-abbrev pub IsCall : EngineTable → Structs → List Function → Ty → Callee → TypedExprs → List Const → Type 0
+abbrev pub IsCall : EngineTable → Structs → List Function → Ty → Callee → TypedExprs → List Const
+    → Type 0
 IsCall table structs functions t (InUnit f) es ks = CallsFunction functions t f es ks
 IsCall table structs functions t (Engine n) es ks = CallsRoutine table structs t n es ks
 
@@ -81,15 +84,19 @@ module _ (table : EngineTable) (functions : List Function) (x : Site) (scope : L
     pub IsFine : TypedExpr → Type 0
     IsFine (literal k) = Unit {0}
     IsFine (name t (Local n)) = In n scope × (x.types n ≡ t) × (0 < cells x.layout.structs t)
-    IsFine (name t (Global n)) = In n x.globals × (x.types n ≡ t) × (0 < cells x.layout.structs t) × (x.layout.globals ≡ x.bp)
+    IsFine (name t (Global n)) = In n x.globals × (x.types n ≡ t) × (0 < cells x.layout.structs t)
+        × (x.layout.globals ≡ x.bp)
     IsFine (name t (IsConst k)) = const_type k ≡ t
     IsFine (call t f es ks) = IsCall table x.layout.structs functions t f es ks × AreFine es
-    IsFine (member t e before) = IsFine e × AreParts (cell_types x.layout.structs (type_of e)) before (cell_types x.layout.structs t)
+    IsFine (member t e before) = IsFine e
+        × AreParts (cell_types x.layout.structs (type_of e)) before (cell_types x.layout.structs t)
         × IsMember x.layout.structs x.fields (type_of e) t before
-    IsFine (prefix t o e) = IsFine e × (type_of e ≡ Int) × (t ≡ Int) × (is_step o ≡ true → is_place e ≡ true)
+    IsFine (prefix t o e) = IsFine e × (type_of e ≡ Int) × (t ≡ Int)
+        × (is_step o ≡ true → is_place e ≡ true)
     IsFine (postfix t o e) = IsFine e × (type_of e ≡ Int) × (t ≡ Int) × (is_place e ≡ true)
     IsFine (binary t o d e) = IsFine d × IsFine e × (binary_type o (type_of d) (type_of e) ≡ Some t)
-    IsFine (assign t o d e) = IsFine d × IsFine e × (is_place d ≡ true) × (assigned_type o (type_of d) (type_of e) ≡ Some t)
+    IsFine (assign t o d e) = IsFine d × IsFine e × (is_place d ≡ true)
+        × (assigned_type o (type_of d) (type_of e) ≡ Some t)
 
     pub AreFine : TypedExprs → Type 0
     AreFine no_typed = Unit {0}

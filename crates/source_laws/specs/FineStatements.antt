@@ -54,27 +54,36 @@ module _ (table : EngineTable) (functions : List Function) (x : Site) (result : 
   abbrev pub AreFineNames : ℕ → List ℕ → List TypedName → Type 0
   AreFineNames depth scope [] = Unit {0}
   AreFineNames depth scope (d ∷ ds) =
-      (position x.layout d.name.number ≡ depth) × (x.types d.name.number ≡ d.name.ty) × IsFineValue scope d.name.ty d.value
+      (position x.layout d.name.number ≡ depth) × (x.types d.name.number ≡ d.name.ty)
+      × IsFineValue scope d.name.ty d.value
       × AreFineNames (depth + cells x.layout.structs d.name.ty) (d.name.number ∷ scope) ds
 
   abbrev pub IsFineReturn : List ℕ → Option TypedExpr → Type 0
   IsFineReturn scope None = result ≡ Void
-  IsFineReturn scope (Some e) = IsFine table functions x scope e × (type_of e ≡ result) × (1 ≤ cells x.layout.structs result)
+  IsFineReturn scope (Some e) = IsFine table functions x scope e × (type_of e ≡ result)
+      × (1 ≤ cells x.layout.structs result)
 
   -- and where `break` may stand, and `continue`
   abbrev mutual
     pub IsFineStmt : Bool → Bool → ℕ → List ℕ → TypedStmt → Type 0
-    IsFineStmt breaks continues depth scope (block m xs) = AreFineStmts breaks continues depth scope xs
+    IsFineStmt breaks continues depth scope
+        (block m xs) = AreFineStmts breaks continues depth scope xs
     IsFineStmt breaks continues depth scope (empty m) = Unit {0}
     IsFineStmt breaks continues depth scope (expression m e) = IsFine table functions x scope e
-    IsFineStmt breaks continues depth scope (if_only m e a) = IsFineTest scope (Some e) × IsFineStmt breaks continues depth scope a × DeclaresNothing a
+    IsFineStmt breaks continues depth scope (if_only m e a) = IsFineTest scope (Some e)
+        × IsFineStmt breaks continues depth scope a × DeclaresNothing a
     IsFineStmt breaks continues depth scope (if_else m e a b) =
-        IsFineTest scope (Some e) × IsFineStmt breaks continues depth scope a × IsFineStmt breaks continues depth scope b × DeclaresNothing a × DeclaresNothing b
-    IsFineStmt breaks continues depth scope (while_loop m e a) = IsFineTest scope (Some e) × IsFineStmt true true depth scope a × DeclaresNothing a
-    IsFineStmt breaks continues depth scope (do_loop m a e) = IsFineStmt true true depth scope a × IsFineTest scope (Some e) × DeclaresNothing a
+        IsFineTest scope (Some e) × IsFineStmt breaks continues depth scope a
+        × IsFineStmt breaks continues depth scope b × DeclaresNothing a × DeclaresNothing b
+    IsFineStmt breaks continues depth scope (while_loop m e a) = IsFineTest scope (Some e)
+        × IsFineStmt true true depth scope a × DeclaresNothing a
+    IsFineStmt breaks continues depth scope (do_loop m a e) = IsFineStmt true true depth scope a
+        × IsFineTest scope (Some e) × DeclaresNothing a
     IsFineStmt breaks continues depth scope (for_loop m e y z a) =
-        IsFineMaybe scope e × IsFineTest scope y × IsFineMaybe scope z × IsFineStmt true true depth scope a × DeclaresNothing a
-    IsFineStmt breaks continues depth scope (switch m e xs) = IsFineTest scope (Some e) × AreFineStmts true continues (depth + 1) scope xs × LabelsStandFirst xs
+        IsFineMaybe scope e × IsFineTest scope y × IsFineMaybe scope z
+        × IsFineStmt true true depth scope a × DeclaresNothing a
+    IsFineStmt breaks continues depth scope (switch m e xs) = IsFineTest scope (Some e)
+        × AreFineStmts true continues (depth + 1) scope xs × LabelsStandFirst xs
     IsFineStmt breaks continues depth scope (break_off m) = breaks ≡ true
     IsFineStmt breaks continues depth scope (continue_on m) = continues ≡ true
     IsFineStmt breaks continues depth scope (return_from m e) = IsFineReturn scope e
@@ -85,4 +94,6 @@ module _ (table : EngineTable) (functions : List Function) (x : Site) (result : 
     pub AreFineStmts : Bool → Bool → ℕ → List ℕ → TypedStmts → Type 0
     AreFineStmts breaks continues depth scope no_stmt = Unit {0}
     AreFineStmts breaks continues depth scope (more_stmts s ss) =
-        IsFineStmt breaks continues depth scope s × AreFineStmts breaks continues (depth + declared_cells x.layout.structs s) (after_stmt s scope) ss
+        IsFineStmt breaks continues depth scope s
+        × AreFineStmts breaks continues (depth + declared_cells x.layout.structs s)
+        (after_stmt s scope) ss

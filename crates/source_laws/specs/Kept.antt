@@ -63,7 +63,14 @@ pub record IsListed (host : MachineHost) (x : Site) : Type 0 where
 -- the state in which the script runs at a place
 abbrev pub at : Site → ℕ → List Cell → List ℕ → List Saved → World Saved → Machine
 at x place cells calls pending world = record {
-  running = record { script = x.script; place = place; stack = record { cells = cells; bp = x.bp }; calls = calls; pending = pending; self = x.self };
+  running = record {
+    script = x.script;
+    place = place;
+    stack = record { cells = cells; bp = x.bp };
+    calls = calls;
+    pending = pending;
+    self = x.self;
+  };
   waiting = x.waiting;
   world = world;
 }
@@ -79,17 +86,20 @@ part_types x n = cell_types x.layout.structs (x.types n)
 
 -- Two variables have no cell in common.
 abbrev pub Apart : Site → ℕ → ℕ → Type 0
-Apart x m n = (position x.layout m + length (part_types x m) ≤ position x.layout n) ⊎ (position x.layout n + length (part_types x n) ≤ position x.layout m)
+Apart x m n = (position x.layout m + length (part_types x m) ≤ position x.layout n)
+    ⊎ (position x.layout n + length (part_types x n) ≤ position x.layout m)
 
 -- The variables in sight stand on cells, each at its position.
-pub record Vars (x : Site) (scope : List ℕ) (cells : List Cell) (variables : Variables) : Type 0 where
+pub record Vars (x : Site) (scope : List ℕ) (cells : List Cell)
+    (variables : Variables) : Type 0 where
   pub value : (n : ℕ) → In n scope → Stands cells (position x.layout n) (variables n)
   pub typed : (n : ℕ) → In n scope → value_types (variables n) ≡ part_types x n
   pub apart : (m n : ℕ) → In m scope → In n scope → (m ≡ n → ⊥) → Apart x m n
 
 -- What stands on the stack, and the machine's world, where the variables and the world are these:
 -- the globals at the bottom, and so many cells of the frame.
-pub record Kept (R : Saved → Deferred → Type 0) (x : Site) (scope : List ℕ) (size : ℕ) (globals locals : Variables) (world : World Deferred) : Type 0 where
+pub record Kept (R : Saved → Deferred → Type 0) (x : Site) (scope : List ℕ) (size : ℕ)
+    (globals locals : Variables) (world : World Deferred) : Type 0 where
   pub under : List Cell
   pub frame : List Cell
   pub machine : World Saved
@@ -103,6 +113,9 @@ pub record Kept (R : Saved → Deferred → Type 0) (x : Site) (scope : List ℕ
 
 -- the state at a place: values under way over the frame, and over other cells, which lie over the
 -- globals
-abbrev pub spot_at : (R : Saved → Deferred → Type 0) (x : Site) {scope : List ℕ} {size : ℕ} {globals locals : Variables} {world : World Deferred}
-    → ℕ → List Cell → List Cell → List ℕ → List Saved → Kept R x scope size globals locals world → Machine
-spot_at R x place temps between calls pending kept = at x place (temps ++ (kept.frame ++ (between ++ kept.under))) calls pending kept.machine
+abbrev pub spot_at : (R : Saved → Deferred → Type 0)
+    (x : Site) {scope : List ℕ} {size : ℕ} {globals locals : Variables} {world : World Deferred}
+    → ℕ → List Cell → List Cell → List ℕ → List Saved → Kept R x scope size globals locals world
+    → Machine
+spot_at R x place temps between calls pending kept = at x place
+    (temps ++ (kept.frame ++ (between ++ kept.under))) calls pending kept.machine

@@ -32,7 +32,8 @@ CallsNothing (assign t o d e) = CallsNothing d × CallsNothing e
 -- stand.
 abbrev pub ExpressionsRun : Type 0
 ExpressionsRun =
-    (s : Setting) (host : MachineHost) (x : Site) (tables : CellLookup) (execute : Executor) (fs : List Function) (caller : Caller) (most : ℕ) (e : TypedExpr)
+    (s : Setting) (host : MachineHost) (x : Site) (tables : CellLookup) (execute : Executor)
+    (fs : List Function) (caller : Caller) (most : ℕ) (e : TypedExpr)
     → IsListed host x → CallsNothing e → ExprRuns host (Carries s) x tables execute fs caller most e
 
 -- ---- calls of the engine
@@ -59,17 +60,22 @@ abbrev mutual
 -- scripts that are run do what running them means.
 abbrev pub EngineCallsRun : Type 0
 EngineCallsRun =
-    (s : Setting) (host : MachineHost) (x : Site) (tables : CellLookup) (execute : Executor) (fs : List Function) (caller : Caller) (most : ℕ) (e : TypedExpr)
-    → IsListed host x → EngineRuns host (Carries s) tables → CapturesCarry host (Carries s) x tables execute fs → ExecutesRun host (Carries s) x execute most
+    (s : Setting) (host : MachineHost) (x : Site) (tables : CellLookup) (execute : Executor)
+    (fs : List Function) (caller : Caller) (most : ℕ) (e : TypedExpr)
+    → IsListed host x → EngineRuns host (Carries s) tables
+    → CapturesCarry host (Carries s) x tables execute fs
+    → ExecutesRun host (Carries s) x execute most
     → CallsEngine e → ExprRuns host (Carries s) x tables execute fs caller most e
 
 -- In a listed script the states that are captured carry the calls, with the values that globals and
 -- variables in sight have then.
 abbrev pub CapturesAreCarried : Type 0
 CapturesAreCarried =
-    (s : Setting) (host : MachineHost) (tables : CellLookup) (execute : Executor) (script self : ℕ) (waiting : List Frame) (l : Listed)
+    (s : Setting) (host : MachineHost) (tables : CellLookup) (execute : Executor) (script self : ℕ)
+    (waiting : List Frame) (l : Listed)
     → host.table ≡ s.table → slice_get s.scripts script ≡ Some l
-    → CapturesCarry host (Carries s) (unit_site script l.unit self waiting) tables execute (functions l.unit.items)
+    → CapturesCarry host (Carries s) (unit_site script l.unit self waiting) tables execute
+    (functions l.unit.items)
 
 -- ---- statements
 
@@ -109,12 +115,17 @@ module _ (P : TypedExpr → Type 0) where
 -- `break` and `continue`, and `return`. So where nothing is called.
 abbrev pub StatementsRun : Type 0
 StatementsRun =
-    (s : Setting) (host : MachineHost) (x : Site) (tables : CellLookup) (execute : Executor) (fs : List Function) (caller : Caller) (most : ℕ) (result : Ty) (a : TypedStmt)
-    → IsListed host x → OfEach CallsNothing a → StmtRuns host (Carries s) x tables execute fs caller most result a
+    (s : Setting) (host : MachineHost) (x : Site) (tables : CellLookup) (execute : Executor)
+    (fs : List Function) (caller : Caller) (most : ℕ) (result : Ty) (a : TypedStmt)
+    → IsListed host x → OfEach CallsNothing a
+    → StmtRuns host (Carries s) x tables execute fs caller most result a
 
 -- and where the engine is called
 abbrev pub EngineStatementsRun : Type 0
 EngineStatementsRun =
-    (s : Setting) (host : MachineHost) (x : Site) (tables : CellLookup) (execute : Executor) (fs : List Function) (caller : Caller) (most : ℕ) (result : Ty) (a : TypedStmt)
-    → IsListed host x → EngineRuns host (Carries s) tables → CapturesCarry host (Carries s) x tables execute fs → ExecutesRun host (Carries s) x execute most
+    (s : Setting) (host : MachineHost) (x : Site) (tables : CellLookup) (execute : Executor)
+    (fs : List Function) (caller : Caller) (most : ℕ) (result : Ty) (a : TypedStmt)
+    → IsListed host x → EngineRuns host (Carries s) tables
+    → CapturesCarry host (Carries s) x tables execute fs
+    → ExecutesRun host (Carries s) x execute most
     → OfEach CallsEngine a → StmtRuns host (Carries s) x tables execute fs caller most result a

@@ -36,9 +36,12 @@ pub record Took (host : MachineHost) (n c : ℕ) (s : Machine) (m d : ℕ) (t : 
 -- credits are there. Where it gives a value, the machine comes to the place that goes with it, with
 -- so many credits. Where it divides by zero, the machine does so next, in a script of that object.
 -- Where it is out of steps, the machine has made an instruction for each step and still runs.
-abbrev pub Sim : {A : Type 0} → MachineHost → (Saved → Deferred → Type 0) → (B : A → Progress → Type 0) → ((a : A) (p : Progress) → B a p → Machine)
+abbrev pub Sim : {A : Type 0} → MachineHost → (Saved → Deferred → Type 0)
+    → (B : A → Progress → Type 0) → ((a : A) (p : Progress) → B a p → Machine)
     → ℕ → ℕ → Machine → (A → ℕ) → Outcome A → Type 0
 Sim host R B place n c s d (Gives a p) = (b : B a p) × Took host n c s p.left (d a) (place a p b)
 Sim host R B place n c s d (Divides self p) =
-    (t : Machine) × Took host n c s p.left 1 t × (step host t ≡ Some Divided) × (t.running.self ≡ self) × Alike R t.world p.world
-Sim host R B place n c s d (OutOfSteps p) = (t : Machine) × Took host n c s 0 0 t × Alike R t.world p.world
+    (t : Machine) × Took host n c s p.left 1 t × (step host t ≡ Some Divided)
+    × (t.running.self ≡ self) × Alike R t.world p.world
+Sim host R B place n c s d (OutOfSteps p) = (t : Machine) × Took host n c s 0 0 t
+    × Alike R t.world p.world

@@ -17,11 +17,13 @@ use Rattle.source_laws.specs.Entries.{ResumesDo}
 -- placed: as a script of this number, whatever object it runs as and whatever waits for it.
 abbrev pub UnitIsReady : EngineTable → ℕ → TypedUnit → Type 0
 UnitIsReady table script u = (self : ℕ) (waiting : List Frame)
-    → BeginsWith Main Void table u (unit_site script u self waiting) ⊎ BeginsWith Conditional Int table u (unit_site script u self waiting)
+    → BeginsWith Main Void table u (unit_site script u self waiting)
+    ⊎ BeginsWith Conditional Int table u (unit_site script u self waiting)
 
 -- so each listed script
 abbrev pub AreReady : Setting → Type 0
-AreReady s = (script : ℕ) (l : Listed) → slice_get s.scripts script ≡ Some l → UnitIsReady s.table script l.unit
+AreReady s = (script : ℕ) (l : Listed) → slice_get s.scripts script ≡ Some l
+    → UnitIsReady s.table script l.unit
 
 -- what the listed scripts of a setting do in a machine
 pub record ScriptsDo (s : Setting) (host : MachineHost) : Type 0 where
@@ -31,4 +33,5 @@ pub record ScriptsDo (s : Setting) (host : MachineHost) : Type 0 where
 -- In a machine of the setting, where the engine's answers have the routines' types, ready scripts
 -- do what their starts mean, and captured states what the deferred commands mean that they carry.
 abbrev pub ListedScriptsDo : Type 0
-ListedScriptsDo = (s : Setting) (host : MachineHost) → IsHostOf host s → AnswersAreTyped s.table s.tables → AreReady s → ScriptsDo s host
+ListedScriptsDo = (s : Setting) (host : MachineHost) → IsHostOf host s
+    → AnswersAreTyped s.table s.tables → AreReady s → ScriptsDo s host

@@ -10,9 +10,11 @@ use Rattle.source_meaning.specs.Scripts.{Function, functions}
 -- the code of a function of a unit, from its label on
 pub record FunctionStands (u : TypedUnit) (f : ℕ) (fn : Function) : Type 0 where
   pub label : ℕ
-  pub stands : LinesStand (program (unit_code u).lines) (place_of_label (unit_code u).lines) (place_of_label (unit_code u).lines f)
+  pub stands : LinesStand (program (unit_code u).lines) (place_of_label (unit_code u).lines)
+      (place_of_label (unit_code u).lines f)
       (emit_function (layout_of u) label f fn.parameters fn.body)
 
 -- Each function of a unit stands at the label of its number, in the order of the bodies.
 abbrev pub FunctionsStand : Type 0
-FunctionsStand = (u : TypedUnit) (f : ℕ) (fn : Function) → slice_get (functions u.items) f ≡ Some fn → FunctionStands u f fn
+FunctionsStand = (u : TypedUnit) (f : ℕ) (fn : Function) → slice_get (functions u.items) f ≡ Some fn
+    → FunctionStands u f fn

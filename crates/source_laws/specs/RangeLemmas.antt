@@ -18,9 +18,11 @@ if_cells m h = rw h
 pub count_of : (n : ℕ) → cell_count (bytes_of n) ≡ Some n
 count_of n = if_cells (4 * n) (omega arith) ∙ ap Some (omega arith)
 
-difference_depth : (a b : ℕ) (t : Bool) → ltb a b ≡ t → a ≤ b → depth_of (cond t (negsuc (b - suc a)) (pos (a - b))) ≡ cell_count (b - a)
+difference_depth : (a b : ℕ) (t : Bool) → ltb a b ≡ t → a ≤ b
+    → depth_of (cond t (negsuc (b - suc a)) (pos (a - b))) ≡ cell_count (b - a)
 unfolding depth_of
-difference_depth a b true is h = let less : a < b = grind (arith, nat_tests, is) in let e : suc (b - suc a) ≡ b - a = omega arith in ap cell_count e
+difference_depth a b true is h = let less : a < b = grind (arith, nat_tests, is) in let e : suc
+    (b - suc a) ≡ b - a = omega arith in ap cell_count e
 difference_depth a b false is h =
     let more : b ≤ a = grind (arith, nat_tests, is) in
     let none : a - b ≡ 0 = omega arith in
@@ -30,20 +32,26 @@ difference_depth a b false is h =
 down : (m : ℕ) → depth_of (pos 0 -ℤ pos m) ≡ cell_count m
 unfolding depth_of
 down zero = refl
-down (suc k) = let whole : suc k - 0 ≡ suc k = omega arith in difference_depth 0 (suc k) (ltb 0 (suc k)) refl (omega arith) ∙ ap cell_count whole
+down (suc k) = let whole : suc k - 0
+    ≡ suc k = omega arith in difference_depth 0 (suc k) (ltb 0 (suc k)) refl (omega arith)
+    ∙ ap cell_count whole
 
 pub depth_beneath : (n : ℕ) → depth_of (beneath n) ≡ Some n
 depth_beneath n = down (4 * n) ∙ count_of n
 
-inside : (depth count : ℕ) → 0 < count → count ≤ depth → range_of depth count ≡ Some (record { above = depth - count; count = count })
+inside : (depth count : ℕ) → 0 < count → count ≤ depth
+    → range_of depth count ≡ Some (record { above = depth - count; count = count })
 unfolding range_of
 inside depth count h k = grind (arith, nat_tests)
 
 -- the range of so many cells with so many above them
-pub range_there : (depth above count : ℕ) → 0 < count → above + count ≡ depth → range_at (beneath depth) (bytes_of count) ≡ Some (record { above = above; count = count })
+pub range_there : (depth above count : ℕ) → 0 < count → above + count ≡ depth
+    → range_at (beneath depth) (bytes_of count) ≡ Some (record { above = above; count = count })
 unfolding range_at
 range_there depth above count h e =
-    rw (depth_beneath depth, count_of count) (inside depth count h (omega (arith, e)) ∙ ap (λ (n : ℕ). Some (record { above = n; count = count })) (omega (arith, e)))
+    rw (depth_beneath depth, count_of count)
+    (inside depth count h (omega (arith, e))
+    ∙ ap (λ (n : ℕ). Some (record { above = n; count = count })) (omega (arith, e)))
 
 -- ---- types
 

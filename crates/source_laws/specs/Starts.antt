@@ -29,7 +29,8 @@ making x = record x { globals = []; bp = 0 }
 
 -- A unit that begins with a function of this kind and result. Its globals are fine as declarations
 -- in whose values no function is called, and its functions are placed.
-pub record BeginsWith (begin : ℕ → EntryPoint) (t : Ty) (table : EngineTable) (u : TypedUnit) (x : Site) : Type 0 where
+pub record BeginsWith (begin : ℕ → EntryPoint) (t : Ty) (table : EngineTable) (u : TypedUnit)
+    (x : Site) : Type 0 where
   pub entry : ℕ
   pub begins : u.entry ≡ begin entry
   pub main : Function
@@ -37,7 +38,8 @@ pub record BeginsWith (begin : ℕ → EntryPoint) (t : Ty) (table : EngineTable
   pub parameters : main.parameters ≡ []
   pub result : main.result ≡ t
   pub made : AreFineNames table [] (making x) Void 0 [] (global_names u.items)
-  pub placed : (f : ℕ) (fn : Function) → slice_get (functions u.items) f ≡ Some fn → IsPlaced table (functions u.items) x f fn
+  pub placed : (f : ℕ) (fn : Function) → slice_get (functions u.items) f ≡ Some fn
+      → IsPlaced table (functions u.items) x f fn
 
 -- Where the last RETN of a start without globals stands: behind the call of the entry function, and
 -- for a condition behind that of its result.
@@ -56,7 +58,8 @@ return_place false last = last
 abbrev pub EndsAlike : (Saved → Deferred → Type 0) → List Value → Progress → Type 0
 EndsAlike R v p = (w : World Saved) × Alike R w p.world
 
-abbrev pub end_place : (R : Saved → Deferred → Type 0) → Site → ℕ → (v : List Value) (p : Progress) → EndsAlike R v p → Machine
+abbrev pub end_place : (R : Saved → Deferred → Type 0) → Site → ℕ → (v : List Value) (p : Progress)
+    → EndsAlike R v p → Machine
 end_place R x place v p h = at x place [] [] [] h.0
 
 -- From its first instruction on, with an empty stack, the code of such a script does what its start
@@ -65,13 +68,22 @@ end_place R x place v p h = at x place [] [] [] h.0
 -- unit runs one: ExecuteScript gives no value.
 abbrev pub StartsRun : (ℕ → EntryPoint) → Ty → ℕ → Type 0
 StartsRun begin t last =
-    (s : Setting) (host : MachineHost) (start : Option Starter) (script self : ℕ) (waiting : List Frame) (l : Listed) (p : Progress) (w : World Saved)
-    → host.table ≡ s.table → slice_get s.scripts script ≡ Some l → IsListed host (unit_site script l.unit self waiting)
-    → EngineRuns host (Carries s) s.tables → ((most : ℕ) → ExecutesRun host (Carries s) (unit_site script l.unit self waiting) (executing s start self) most)
-    → ((most : ℕ) → ExecutesRun host (Carries s) (making (unit_site script l.unit self waiting)) (executing s start self) most)
-    → BeginsWith begin t host.table l.unit (unit_site script l.unit self waiting) → Alike (Carries s) w p.world
-    → Sim host (Carries s) (EndsAlike (Carries s)) (end_place (Carries s) (making (unit_site script l.unit self waiting)) (return_place (has_globals l.unit.items) last)) p.left 0
-    (at (making (unit_site script l.unit self waiting)) header_size [] [] [] w) (λ v. 1) (listed_started s (executing s start) script self (Some l) p)
+    (s : Setting) (host : MachineHost) (start : Option Starter) (script self : ℕ)
+    (waiting : List Frame) (l : Listed) (p : Progress) (w : World Saved)
+    → host.table ≡ s.table → slice_get s.scripts script ≡ Some l
+    → IsListed host (unit_site script l.unit self waiting)
+    → EngineRuns host (Carries s) s.tables
+    → ((most : ℕ) → ExecutesRun host (Carries s) (unit_site script l.unit self waiting)
+    (executing s start self) most)
+    → ((most : ℕ) → ExecutesRun host (Carries s) (making (unit_site script l.unit self waiting))
+    (executing s start self) most)
+    → BeginsWith begin t host.table l.unit (unit_site script l.unit self waiting)
+    → Alike (Carries s) w p.world
+    → Sim host (Carries s) (EndsAlike (Carries s))
+    (end_place (Carries s) (making (unit_site script l.unit self waiting))
+    (return_place (has_globals l.unit.items) last)) p.left 0
+    (at (making (unit_site script l.unit self waiting)) header_size [] [] [] w) (λ v. 1)
+    (listed_started s (executing s start) script self (Some l) p)
 
 -- scripts that begin with `void main()`
 abbrev pub MainsRun : Type 0

@@ -91,7 +91,8 @@ defaults_keep m self [] p = given m p []
 defaults_keep m self (k ∷ ks) p =
     let go = λ (values : List (List Value)) (q : Progress). spend q (λ r. Gives ((constant_value self k ∷ []) ∷ values) r) in
     keeps_bind m p.left (defaults self ks p) (defaults self ks (with_more m p)) go go (defaults_keep m self ks p)
-    (λ values q less. keeps_one m q (λ r. Gives ((constant_value self k ∷ []) ∷ values) r) (λ r. Gives ((constant_value self k ∷ []) ∷ values) r) (λ r. given m r ((constant_value self k ∷ []) ∷ values)))
+    (λ values q less. keeps_one m q (λ r. Gives ((constant_value self k ∷ []) ∷ values) r)
+    (λ r. Gives ((constant_value self k ∷ []) ∷ values) r) (λ r. given m r ((constant_value self k ∷ []) ∷ values)))
 
 -- where the value of a part keeps
 module _ (m : ℕ) where
@@ -123,7 +124,8 @@ module _ (m : ℕ) where
       let f = λ (q : Progress). Gives (gives (read_at (OfGlobal n b) 1 q) (change (read_at (OfGlobal n b) 1 q))) (written_at (OfGlobal n b) (change (read_at (OfGlobal n b) 1 q)) q) in
       keeps_one m p f f (λ q. (refl, omega arith))
 
-  operand_keeps : (o : PrefixOperator) (b : Bool) (s : Option Spot) (most : ℕ) (f g : Progress → Outcome (List Value)) → ValueKeeps most f g → ValueKeeps most (before_operand o b s f) (before_operand o b s g)
+  operand_keeps : (o : PrefixOperator) (b : Bool) (s : Option Spot) (most : ℕ) (f g : Progress → Outcome (List Value))
+      → ValueKeeps most f g → ValueKeeps most (before_operand o b s f) (before_operand o b s g)
   operand_keeps o true s most f g h p le = stepped_keeps s (one_int (prefixed o)) (λ old new. new) p
   operand_keeps o false s most f g h p le =
       let go = λ (parts : List Value) (q : Progress). spend q (λ r. Gives (one_int (prefixed o) parts) r) in
@@ -220,7 +222,9 @@ module _ (m : ℕ) (c : Running) (executes : ExecuteKeeps m c.execute) where
 
   engine_called_keeps : (routine : ℕ) (a : Arguments) (p : Progress) → Keeps m p.left (engine_called c routine a p) (engine_called c routine a (with_more m p))
   engine_called_keeps routine a p =
-      keeps_chosen m p.left (runs_script c.table routine) (λ q. executed c (all_parts a.values) q) (λ q. asked c routine a q) (λ q. executed c (all_parts a.values) q) (λ q. asked c routine a q) p (with_more m p)
+      keeps_chosen m p.left (runs_script c.table routine) (λ q. executed c (all_parts a.values) q)
+      (λ q. asked c routine a q) (λ q. executed c (all_parts a.values) q) (λ q. asked c routine a q) p
+      (with_more m p)
       (executed_keeps (all_parts a.values) p) (asked_keeps routine a p)
 
   module _ (most : ℕ) (caller other : Caller) (callers : CallersKeep m most caller other) where
@@ -266,7 +270,8 @@ module _ (m : ℕ) (c : Running) (executes : ExecuteKeeps m c.execute) where
       eval_keeps (prefix t o e) sight p le = operand_keeps m o (is_step o) (spot e) most (λ q. eval c caller sight e q) (λ q. eval c other sight e q) (eval_keeps e sight) p le
       eval_keeps (postfix t o e) sight p le = stepped_keeps m (spot e) (one_int (postfixed o)) (λ old new. old) p
       eval_keeps (binary t o d e) sight p le =
-          combined_keeps m c.self o most (λ q. eval c caller sight d q) (λ q. eval c caller sight e q) (λ q. eval c other sight d q) (λ q. eval c other sight e q) (eval_keeps d sight) (eval_keeps e sight) p le
+          combined_keeps m c.self o most (λ q. eval c caller sight d q) (λ q. eval c caller sight e q)
+          (λ q. eval c other sight d q) (λ q. eval c other sight e q) (eval_keeps d sight) (eval_keeps e sight) p le
       eval_keeps (assign t o d e) sight p le =
           assigned_keeps m c.self (applied o) (spot d) (cells c.structs t) most (λ q. eval c caller sight e q) (λ q. eval c other sight e q) (eval_keeps e sight) p le
 
@@ -294,14 +299,17 @@ module _ (m : ℕ) (c : Running) (executes : ExecuteKeeps m c.execute) where
     body_keeps Continued f g p h = h
     body_keeps (Returned parts) f g p h = given m p (Returned parts)
 
-    turns_keep : (k : ℕ) (test test' third third' : Progress → Outcome (List Value)) (body body' : Progress → Outcome Flow) → ValueKeeps m most test test' → FlowKeeps body body' → ValueKeeps m most third third'
+    turns_keep : (k : ℕ) (test test' third third' : Progress → Outcome (List Value))
+        (body body' : Progress → Outcome Flow) → ValueKeeps m most test test' → FlowKeeps body body'
+        → ValueKeeps m most third third'
         → (p : Progress) → p.left < k → p.left ≤ most → Keeps m p.left (turns k test body third p) (turns (m + k) test' body' third' (with_more m p))
     turns_keep zero test test' third third' body body' tests bodies thirds p few le = absurd (omega (arith, few))
     turns_keep (suc k) test test' third third' body body' tests bodies thirds p few le =
         let one : suc (m + k) ≡ m + suc k = omega arith in
         let turn = λ (j : ℕ) (a third : Progress → Outcome (List Value)) (body : Progress → Outcome Flow) (u : Progress). bind (third u) (λ w x. turns j a body third x) in
         let round = λ (j : ℕ) (a third : Progress → Outcome (List Value)) (body : Progress → Outcome Flow) (s : Progress). bind (body s) (λ f t. on_body f (λ u. turn j a third body u) t) in
-        let after = λ (j : ℕ) (a third : Progress → Outcome (List Value)) (body : Progress → Outcome Flow) (v : List Value) (r : Progress). chosen (is_true v) (λ s. round j a third body s) (λ s. Gives Next s) r in
+        let after = λ (j : ℕ) (a third : Progress → Outcome (List Value)) (body : Progress → Outcome Flow)
+        (v : List Value) (r : Progress). chosen (is_true v) (λ s. round j a third body s) (λ s. Gives Next s) r in
         subst (λ j. Keeps m p.left (turns (suc k) test body third p) (turns j test' body' third' (with_more m p))) one
         (keeps_bind m p.left (test p) (test' (with_more m p)) (λ v q. spend q (after k test third body v)) (λ v q. spend q (after (m + k) test' third' body' v)) (tests p le)
         (λ v q less. keeps_spend m q (after k test third body v) (after (m + k) test' third' body' v)
@@ -314,7 +322,8 @@ module _ (m : ℕ) (c : Running) (executes : ExecuteKeeps m c.execute) where
         (λ w x lower. turns_keep k test test' third third' body body' tests bodies thirds x (omega (arith, lower, below, fewer, less, few)) (omega (arith, lower, below, fewer, less, le))))))
         (given m r Next))))
 
-    looped_keeps : (test test' third third' : Progress → Outcome (List Value)) (body body' : Progress → Outcome Flow) → ValueKeeps m most test test' → FlowKeeps body body' → ValueKeeps m most third third'
+    looped_keeps : (test test' third third' : Progress → Outcome (List Value)) (body body' : Progress → Outcome Flow)
+        → ValueKeeps m most test test' → FlowKeeps body body' → ValueKeeps m most third third'
         → FlowKeeps (looped test body third) (looped test' body' third')
     looped_keeps test test' third third' body body' tests bodies thirds p le =
         let one : m + suc p.left ≡ suc (m + p.left) = omega arith in
@@ -378,7 +387,8 @@ module _ (m : ℕ) (c : Running) (executes : ExecuteKeeps m c.execute) where
           let ends = λ (f : Flow) (r : Progress). Gives (on_switch f) r in
           let go = λ (by : Caller) (v : List Value) (q : Progress). bind (selected c by sight v (λ r. from_default c by sight xs r) xs q) ends in
           keeps_bind m p.left (eval c caller sight e p) (eval c other sight e (with_more m p)) (go caller) (go other) (eval_keeps e sight p le)
-          (λ v q less. keeps_bind m q.left (selected c caller sight v (λ r. from_default c caller sight xs r) xs q) (selected c other sight v (λ r. from_default c other sight xs r) xs (with_more m q)) ends ends
+          (λ v q less. keeps_bind m q.left (selected c caller sight v (λ r. from_default c caller sight xs r) xs q)
+          (selected c other sight v (λ r. from_default c other sight xs r) xs (with_more m q)) ends ends
           (selected_keeps xs sight v (λ r. from_default c caller sight xs r) (λ r. from_default c other sight xs r) (default_keeps xs sight) q (omega (arith, less, le)))
           (λ f r fewer. given m r (on_switch f)))
       exec_keeps (break_off n) sight p le = keeps_one m p (λ q. Gives Broke q) (λ q. Gives Broke q) (λ q. given m q Broke)
@@ -401,10 +411,14 @@ module _ (m : ℕ) (c : Running) (executes : ExecuteKeeps m c.execute) where
       selected_keeps : (ss : TypedStmts) (sight : List ℕ) (v : List Value) (f g : Progress → Outcome Flow) → FlowKeeps f g → FlowKeeps (selected c caller sight v f ss) (selected c other sight v g ss)
       selected_keeps no_stmt sight v f g h p le = h p le
       selected_keeps (more_stmts (case_label n k) ss) sight v f g h p le =
-          let go = λ (by : Caller) (e : Progress → Outcome Flow) (q : Progress). chosen (values_eq v (constant_value c.self k ∷ [])) (λ r. execs c by sight ss r) (λ r. selected c by sight v e ss r) q in
+          let go = λ (by : Caller) (e : Progress → Outcome Flow) (q : Progress). chosen
+          (values_eq v (constant_value c.self k ∷ [])) (λ r. execs c by sight ss r)
+          (λ r. selected c by sight v e ss r) q in
           keeps_spend m p (go caller f) (go other g)
           (λ j less. let q = record p { left = j } in
-          keeps_chosen m j (values_eq v (constant_value c.self k ∷ [])) (λ r. execs c caller sight ss r) (λ r. selected c caller sight v f ss r) (λ r. execs c other sight ss r) (λ r. selected c other sight v g ss r)
+          keeps_chosen m j (values_eq v (constant_value c.self k ∷ [])) (λ r. execs c caller sight ss r)
+          (λ r. selected c caller sight v f ss r) (λ r. execs c other sight ss r)
+          (λ r. selected c other sight v g ss r)
           q (with_more m q) (execs_keep ss sight q (omega (arith, less, le))) (selected_keeps ss sight v f g h q (omega (arith, less, le))))
       selected_keeps (more_stmts s ss) sight v f g h p le = selected_keeps ss (after_stmt s sight) v f g h p le
 
@@ -462,7 +476,9 @@ module _ (m : ℕ) (s : Setting) where
       let c = running s (execute self) script self l.unit in
       let go = λ (q : Progress). bind (unit_started c l.unit q) (λ parts r. Gives [] r) in
       keeps_one m p go go
-      (λ q. keeps_bind m q.left (unit_started c l.unit q) (unit_started c l.unit (with_more m q)) (λ parts r. Gives [] r) (λ parts r. Gives [] r) (unit_keeps m c (keeps self) l.unit q) (λ parts r less. given m r []))
+      (λ q. keeps_bind m q.left (unit_started c l.unit q) (unit_started c l.unit (with_more m q))
+      (λ parts r. Gives [] r) (λ parts r. Gives [] r) (unit_keeps m c (keeps self) l.unit q)
+      (λ parts r less. given m r []))
 
   StartKeeps : Option Starter → Type 0
   StartKeeps None = Unit {0}

@@ -56,6 +56,7 @@ unfoldable pub spend : {A : Type 0} → Progress → (Progress → Outcome A) �
 spend p go = spend_of p.left p go
 
 -- one of two ways on
-abbrev pub chosen : {A : Type 0} → Bool → (Progress → Outcome A) → (Progress → Outcome A) → Progress → Outcome A
+abbrev pub chosen : {A : Type 0} → Bool → (Progress → Outcome A) → (Progress → Outcome A) → Progress
+    → Outcome A
 chosen true go other p = go p
 chosen false go other p = other p

@@ -84,10 +84,12 @@ executed c _ p = spend p (λ q. Gives [] q)
 
 abbrev pub asked : Running → ℕ → Arguments → Progress → Outcome (List Value)
 asked c routine a p = spend p (λ q. answered
-    (engine c.table c.tables routine (record { caller = c.self; values = all_parts a.values; action = a.action }) q.world) q)
+    (engine c.table c.tables routine
+    (record { caller = c.self; values = all_parts a.values; action = a.action }) q.world) q)
 
 abbrev pub engine_called : Running → ℕ → Arguments → Progress → Outcome (List Value)
-engine_called c routine a p = chosen (runs_script c.table routine) (λ q. executed c (all_parts a.values) q) (λ q. asked c routine a q) p
+engine_called c routine a p = chosen (runs_script c.table routine)
+    (λ q. executed c (all_parts a.values) q) (λ q. asked c routine a q) p
 
 -- ---- calls of the unit
 
@@ -99,19 +101,24 @@ made (t ∷ ts) p = spend p (λ q. bind (made ts q) (λ parts r. Gives (start_pa
 -- The call is begun, which is a step; what it gives is its value, and the variables of the caller
 -- are as before.
 abbrev pub unit_called : Caller → ℕ → Arguments → Progress → Outcome (List Value)
-unit_called caller f a p = spend p (λ q. bind (caller f a.values q) (λ parts r. Gives parts (record r { locals = q.locals })))
+unit_called caller f a p = spend p
+    (λ q. bind (caller f a.values q) (λ parts r. Gives parts (record r { locals = q.locals })))
 
 -- ---- nodes, by what their parts mean
 
 -- the defaults that stand in for arguments, the last one first
 abbrev pub defaults : ℕ → List Const → Progress → Outcome (List (List Value))
 defaults self [] p = Gives [] p
-defaults self (k ∷ ks) p = bind (defaults self ks p) (λ values q. spend q (λ r. Gives ((constant_value self k ∷ []) ∷ values) r))
+defaults self (k ∷ ks) p = bind (defaults self ks p)
+    (λ values q. spend q (λ r. Gives ((constant_value self k ∷ []) ∷ values) r))
 
 -- The result is made before the arguments have their values.
-abbrev pub callee_called : Running → Caller → Callee → List Ty → (Progress → Outcome Arguments) → Progress → Outcome (List Value)
-callee_called c caller (InUnit f) result arguments p = bind (made result p) (λ parts q. bind (arguments q) (λ a r. unit_called caller f a r))
-callee_called c caller (Engine routine) result arguments p = bind (arguments p) (λ a q. engine_called c routine a q)
+abbrev pub callee_called : Running → Caller → Callee → List Ty → (Progress → Outcome Arguments)
+    → Progress → Outcome (List Value)
+callee_called c caller (InUnit f) result arguments p = bind (made result p)
+    (λ parts q. bind (arguments q) (λ a r. unit_called caller f a r))
+callee_called c caller (Engine routine) result arguments p = bind (arguments p)
+    (λ a q. engine_called c routine a q)
 
 abbrev pub named : ℕ → Place → Progress → Outcome (List Value)
 named self (Local n) p = spend p (λ q. Gives (q.locals n) q)
@@ -119,38 +126,52 @@ named self (Global n) p = spend p (λ q. Gives (q.globals n) q)
 named self (IsConst k) p = spend p (λ q. Gives (constant_value self k ∷ []) q)
 
 -- a member of a variable is read there, of another value it is taken out
-abbrev pub member_of : Option Spot → ℕ → ℕ → (Progress → Outcome (List Value)) → Progress → Outcome (List Value)
-member_of None before count value p = bind (value p) (λ parts q. spend q (λ r. Gives (parts_of before count parts) r))
-member_of (Some s) before count value p = spend p (λ q. Gives (read_at (further before s) count q) q)
+abbrev pub member_of : Option Spot → ℕ → ℕ → (Progress → Outcome (List Value)) → Progress
+    → Outcome (List Value)
+member_of None before count value p = bind (value p)
+    (λ parts q. spend q (λ r. Gives (parts_of before count parts) r))
+member_of (Some s) before count value p = spend p
+    (λ q. Gives (read_at (further before s) count q) q)
 
 -- the int at a spot is changed; which of the two it gives, the new int or the old one
-abbrev pub stepped : Option Spot → (List Value → List Value) → (List Value → List Value → List Value) → Progress → Outcome (List Value)
+abbrev pub stepped : Option Spot → (List Value → List Value)
+    → (List Value → List Value → List Value) → Progress → Outcome (List Value)
 stepped None change gives p = spend p (λ q. Gives [] q)
-stepped (Some s) change gives p = spend p (λ q. Gives (gives (read_at s 1 q) (change (read_at s 1 q))) (written_at s (change (read_at s 1 q)) q))
+stepped (Some s) change gives p = spend p
+    (λ q. Gives (gives (read_at s 1 q) (change (read_at s 1 q)))
+    (written_at s (change (read_at s 1 q)) q))
 
 abbrev pub is_step : PrefixOperator → Bool
 is_step pre.Increment = true
 is_step pre.Decrement = true
 is_step _ = false
 
-abbrev pub before_operand : PrefixOperator → Bool → Option Spot → (Progress → Outcome (List Value)) → Progress → Outcome (List Value)
+abbrev pub before_operand : PrefixOperator → Bool → Option Spot → (Progress → Outcome (List Value))
+    → Progress → Outcome (List Value)
 before_operand o true s operand p = stepped s (one_int (prefixed o)) (λ old new. new) p
-before_operand o false s operand p = bind (operand p) (λ parts q. spend q (λ r. Gives (one_int (prefixed o) parts) r))
+before_operand o false s operand p = bind (operand p)
+    (λ parts q. spend q (λ r. Gives (one_int (prefixed o) parts) r))
 
 -- a divisor that is 0 is found before the step
-abbrev pub operated : ℕ → BinaryOperator → List Value → List Value → (List Value → Progress → Progress) → Progress → Outcome (List Value)
-operated self o v w write p = chosen (divides_by_zero o w) (λ q. Divides self q) (λ q. spend q (λ r. Gives (operate o v w) (write (operate o v w) r))) p
+abbrev pub operated : ℕ → BinaryOperator → List Value → List Value
+    → (List Value → Progress → Progress) → Progress → Outcome (List Value)
+operated self o v w write p = chosen (divides_by_zero o w) (λ q. Divides self q)
+    (λ q. spend q (λ r. Gives (operate o v w) (write (operate o v w) r))) p
 
 abbrev pub unwritten : List Value → Progress → Progress
 unwritten parts p = p
 
 -- `&&` leaves its right operand out where the left one is 0, and `||` where it isn't.
-abbrev pub combined : ℕ → BinaryOperator → (Progress → Outcome (List Value)) → (Progress → Outcome (List Value)) → Progress → Outcome (List Value)
+abbrev pub combined : ℕ → BinaryOperator → (Progress → Outcome (List Value))
+    → (Progress → Outcome (List Value)) → Progress → Outcome (List Value)
 combined self bin.And left right p = bind (left p) (λ v q. chosen (is_true v)
-    (λ r. bind (right r) (λ w s. operated self bin.And v w unwritten s)) (λ r. spend r (λ s. Gives (test_value false) s)) q)
+    (λ r. bind (right r) (λ w s. operated self bin.And v w unwritten s))
+    (λ r. spend r (λ s. Gives (test_value false) s)) q)
 combined self bin.Or left right p = bind (left p) (λ v q. chosen (is_true v)
-    (λ r. spend r (λ s. Gives (test_value true) s)) (λ r. bind (right r) (λ w s. operated self bin.Or v w unwritten s)) q)
-combined self o left right p = bind (left p) (λ v q. bind (right q) (λ w r. operated self o v w unwritten r))
+    (λ r. spend r (λ s. Gives (test_value true) s))
+    (λ r. bind (right r) (λ w s. operated self bin.Or v w unwritten s)) q)
+combined self o left right p = bind (left p)
+    (λ v q. bind (right q) (λ w r. operated self o v w unwritten r))
 
 abbrev pub write_there : Option Spot → List Value → Progress → Progress
 write_there None parts p = p
@@ -161,17 +182,28 @@ read_there None count p = []
 read_there (Some s) count p = read_at s count p
 
 -- `=` writes its value; every other assignment reads its place first, which is a step
-abbrev pub assigned : ℕ → Option BinaryOperator → Option Spot → ℕ → (Progress → Outcome (List Value)) → Progress → Outcome (List Value)
-assigned self None s count value p = bind (value p) (λ parts q. spend q (λ r. Gives parts (write_there s parts r)))
-assigned self (Some o) s count value p = spend p (λ q. bind (value q) (λ w r. operated self o (read_there s count q) w (write_there s) r))
+abbrev pub assigned : ℕ → Option BinaryOperator → Option Spot → ℕ
+    → (Progress → Outcome (List Value)) → Progress → Outcome (List Value)
+assigned self None s count value p = bind (value p)
+    (λ parts q. spend q (λ r. Gives parts (write_there s parts r)))
+assigned self (Some o) s count value p = spend p
+    (λ q. bind (value q) (λ w r. operated self o (read_there s count q) w (write_there s) r))
 
 -- what is captured of an action: its call, the names in sight, and the variables as they are
 abbrev pub deferred : Running → List ℕ → TypedExpr → Progress → Deferred
-deferred c sight e p = record { script = c.script; call = e; sight = sight; globals = p.globals; locals = p.locals }
+deferred c sight e p = record {
+  script = c.script;
+  call = e;
+  sight = sight;
+  globals = p.globals;
+  locals = p.locals;
+}
 
 -- an argument that is an action is captured, which is a step
-abbrev pub argument : Running → List ℕ → Bool → TypedExpr → (Progress → Outcome (List Value)) → Arguments → Progress → Outcome Arguments
-argument c sight true e value a p = spend p (λ q. Gives (record a { action = Some (deferred c sight e q) }) q)
+abbrev pub argument : Running → List ℕ → Bool → TypedExpr → (Progress → Outcome (List Value))
+    → Arguments → Progress → Outcome Arguments
+argument c sight true e value a p = spend p
+    (λ q. Gives (record a { action = Some (deferred c sight e q) }) q)
 argument c sight false e value a p = bind (value p) (λ parts q. Gives (with_argument parts a) q)
 
 -- ---- expressions
@@ -183,14 +215,17 @@ module _ (c : Running) (caller : Caller) (sight : List ℕ) where
     eval (literal k) p = spend p (λ q. Gives (constant_value c.self k ∷ []) q)
     eval (name t place) p = named c.self place p
     eval (call t f xs ks) p = callee_called c caller f (cell_types c.structs t)
-        (λ q. bind (defaults c.self ks q) (λ values r. evals xs (record { values = values; action = None }) r)) p
+        (λ q. bind (defaults c.self ks q)
+        (λ values r. evals xs (record { values = values; action = None }) r)) p
     eval (member t x before) p = member_of (spot x) before (cells c.structs t) (λ q. eval x q) p
     eval (prefix t o x) p = before_operand o (is_step o) (spot x) (λ q. eval x q) p
     eval (postfix t o x) p = stepped (spot x) (one_int (postfixed o)) (λ old new. old) p
     eval (binary t o x y) p = combined c.self o (λ q. eval x q) (λ q. eval y q) p
-    eval (assign t o x y) p = assigned c.self (applied o) (spot x) (cells c.structs t) (λ q. eval y q) p
+    eval (assign t o x y) p = assigned c.self (applied o) (spot x) (cells c.structs t)
+        (λ q. eval y q) p
 
     -- the arguments in front of these
     pub evals : TypedExprs → Arguments → Progress → Outcome Arguments
     evals no_typed a p = Gives a p
-    evals (more_typed x xs) a p = bind (evals xs a p) (λ b q. argument c sight (is_captured x) x (λ r. eval x r) b q)
+    evals (more_typed x xs) a p = bind (evals xs a p)
+        (λ b q. argument c sight (is_captured x) x (λ r. eval x r) b q)

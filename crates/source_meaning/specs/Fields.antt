@@ -26,7 +26,8 @@ fields_cells structs ts = flat_map (cell_types structs) ts
 
 -- What stands behind so many cells in a value of the first type is one of the fields of its struct,
 -- of the second type: just the cells of the fields in front of it stand before.
-pub record IsMember (structs : Structs) (fields : List (List Ty)) (whole part : Ty) (before : ℕ) : Type 0 where
+pub record IsMember (structs : Structs) (fields : List (List Ty)) (whole part : Ty)
+    (before : ℕ) : Type 0 where
   pub number : ℕ
   pub of : whole ≡ Struct number
   pub front : List Ty

@@ -20,14 +20,17 @@ with_more m p = record p { left = m + p.left }
 -- ends, it ends equally with more steps, and these are left besides.
 pub record SpendsSteps (run : ℕ → Outcome (List Value)) : Type 0 where
   pub none_left : (n : ℕ) (p : Progress) → run n ≡ OutOfSteps p → p.left ≡ 0
-  pub given : (n m : ℕ) (parts : List Value) (p : Progress) → run n ≡ Gives parts p → run (m + n) ≡ Gives parts (with_more m p)
-  pub divided : (n m self : ℕ) (p : Progress) → run n ≡ Divides self p → run (m + n) ≡ Divides self (with_more m p)
+  pub given : (n m : ℕ) (parts : List Value) (p : Progress) → run n ≡ Gives parts p
+      → run (m + n) ≡ Gives parts (with_more m p)
+  pub divided : (n m self : ℕ) (p : Progress) → run n ≡ Divides self p
+      → run (m + n) ≡ Divides self (with_more m p)
 
 -- so every entry, one that starts a script and one that runs a deferred call
 abbrev pub EntriesSpendSteps : Type 0
 EntriesSpendSteps =
     (s : Setting) (self : ℕ) (world : World Deferred)
-    → ((script : ℕ) → SpendsSteps (λ n. run_script s n script self world)) × ((d : Deferred) → SpendsSteps (λ n. run_deferred s n d self world))
+    → ((script : ℕ) → SpendsSteps (λ n. run_script s n script self world))
+    × ((d : Deferred) → SpendsSteps (λ n. run_deferred s n d self world))
 
 -- ---- fields
 
@@ -37,9 +40,11 @@ EntriesSpendSteps =
 abbrev pub FieldsAreParts : Type 0
 FieldsAreParts =
     (front : List (List Value)) (field : List Value) (back : List (List Value))
-    → (parts_of (length (all_parts front)) (length field) (all_parts (front ++ field ∷ back)) ≡ field)
+    → (parts_of (length (all_parts front)) (length field) (all_parts (front ++ field ∷ back))
+    ≡ field)
     × ((new : List Value) → length new ≡ length field
-    → with_parts (length (all_parts front)) new (all_parts (front ++ field ∷ back)) ≡ all_parts (front ++ new ∷ back))
+    → with_parts (length (all_parts front)) new (all_parts (front ++ field ∷ back))
+    ≡ all_parts (front ++ new ∷ back))
 
 -- each value has as many parts as its type has cells
 abbrev pub HaveCells : Structs → List Ty → List (List Value) → Type 0
@@ -52,7 +57,11 @@ HaveCells structs [] (v ∷ vs) = ⊥
 -- the fields' values in a row it reads that field's, and a new one takes that field's place.
 abbrev pub MembersAreFields : Type 0
 MembersAreFields =
-    (structs : Structs) (fields : List (List Ty)) (whole part : Ty) (before : ℕ) (m : IsMember structs fields whole part before)
-    (front : List (List Value)) (field : List Value) (back : List (List Value)) → HaveCells structs m.front front → length field ≡ cells structs part
+    (structs : Structs) (fields : List (List Ty)) (whole part : Ty) (before : ℕ)
+    (m : IsMember structs fields whole part before)
+    (front : List (List Value)) (field : List Value) (back : List (List Value))
+    → HaveCells structs m.front front → length field ≡ cells structs part
     → (parts_of before (cells structs part) (all_parts (front ++ field ∷ back)) ≡ field)
-    × ((new : List Value) → length new ≡ cells structs part → with_parts before new (all_parts (front ++ field ∷ back)) ≡ all_parts (front ++ new ∷ back))
+    × ((new : List Value) → length new ≡ cells structs part
+    → with_parts before new (all_parts (front ++ field ∷ back))
+    ≡ all_parts (front ++ new ∷ back))

@@ -43,7 +43,11 @@ pub record Function : Type 0 where
 -- the functions with bodies, in the order of the bodies
 abbrev pub functions : List TypedItem → List Function
 functions [] = []
-functions (function n t x ps (Some body) ∷ is) = record { result = t; parameters = ps; body = body } ∷ functions is
+functions (function n t x ps (Some body) ∷ is) = record {
+  result = t;
+  parameters = ps;
+  body = body;
+} ∷ functions is
 functions (_ ∷ is) = functions is
 
 -- each parameter has the value of its argument
@@ -62,10 +66,13 @@ result_of types Next = start_parts types
 result_of types Broke = start_parts types
 result_of types Continued = start_parts types
 
-abbrev pub body_run : Running → Caller → Option Function → List (List Value) → Progress → Outcome (List Value)
+abbrev pub body_run : Running → Caller → Option Function → List (List Value) → Progress
+    → Outcome (List Value)
 body_run c caller None values p = Gives [] p
 body_run c caller (Some f) values p =
-    bind (execs c caller (parameter_names f.parameters) f.body (record p { locals = bound f.parameters values })) (λ flow q. Gives (result_of (cell_types c.structs f.result) flow) q)
+    bind (execs c caller (parameter_names f.parameters) f.body
+    (record p { locals = bound f.parameters values }))
+    (λ flow q. Gives (result_of (cell_types c.structs f.result) flow) q)
 
 -- The functions of a unit, where calls may nest so deep.
 abbrev pub calls : Running → List Function → ℕ → Caller
@@ -105,7 +112,8 @@ unit_started c u p = bind (declared c no_functions [] (global_names u.items) (wi
 
 -- ---- scripts that run others
 
-abbrev pub running : Setting → (List ℕ → ℕ → Progress → Outcome (List Value)) → ℕ → ℕ → TypedUnit → Running
+abbrev pub running : Setting → (List ℕ → ℕ → Progress → Outcome (List Value)) → ℕ → ℕ → TypedUnit
+    → Running
 running s execute script self u = record {
   table = s.table;
   tables = s.tables;
@@ -116,10 +124,12 @@ running s execute script self u = record {
 }
 
 -- a script of a number that is started, which is a step; what it gives is dropped
-abbrev pub listed_started : Setting → (ℕ → List ℕ → ℕ → Progress → Outcome (List Value)) → ℕ → ℕ → Option Listed → Progress → Outcome (List Value)
+abbrev pub listed_started : Setting → (ℕ → List ℕ → ℕ → Progress → Outcome (List Value)) → ℕ → ℕ
+    → Option Listed → Progress → Outcome (List Value)
 listed_started s execute script self None p = Gives [] p
 listed_started s execute script self (Some l) p =
-    spend p (λ q. bind (unit_started (running s (execute self) script self l.unit) l.unit q) (λ parts r. Gives [] r))
+    spend p (λ q. bind (unit_started (running s (execute self) script self l.unit) l.unit q)
+    (λ parts r. Gives [] r))
 
 -- the number of the listed script of this name, where letters count without their case
 abbrev pub script_named : List Listed → List ℕ → Option ℕ
@@ -134,9 +144,12 @@ abbrev pub resumed : Progress → Progress → Progress
 resumed p q = record q { globals = p.globals; locals = p.locals }
 
 abbrev pub starter_begun : Option Starter → Option ℕ → List ℕ → ℕ → Progress → Outcome (List Value)
-starter_begun start None name target p = spend p (λ q. Gives [] (record q { world = no_script target name q.world }))
-starter_begun None (Some script) name target p = spend p (λ q. Gives [] (record q { world = too_deep target name q.world }))
-starter_begun (Some start) (Some script) name target p = bind (start script target p) (λ parts q. spend (resumed p q) (λ r. Gives [] r))
+starter_begun start None name target p = spend p
+    (λ q. Gives [] (record q { world = no_script target name q.world }))
+starter_begun None (Some script) name target p = spend p
+    (λ q. Gives [] (record q { world = too_deep target name q.world }))
+starter_begun (Some start) (Some script) name target p = bind (start script target p)
+    (λ parts q. spend (resumed p q) (λ r. Gives [] r))
 
 -- What comes of running the script of a name as a target, in a script of an object: nothing of an
 -- empty name, nor of a target that it may not run a script on; a line where the script isn't
@@ -145,12 +158,16 @@ starter_begun (Some start) (Some script) name target p = bind (start script targ
 abbrev pub executing : Setting → Option Starter → ℕ → List ℕ → ℕ → Progress → Outcome (List Value)
 executing s start self [] target p = spend p (λ q. Gives [] q)
 executing s start self (b ∷ name) target p =
-    chosen (may_run self target p.world) (λ q. starter_begun start (script_named s.scripts (b ∷ name)) (b ∷ name) target q) (λ q. spend q (λ r. Gives [] r)) p
+    chosen (may_run self target p.world)
+    (λ q. starter_begun start (script_named s.scripts (b ∷ name)) (b ∷ name) target q)
+    (λ q. spend q (λ r. Gives [] r)) p
 
 -- a script from its start, as an object, where so many scripts more may wait
 abbrev pub started : Setting → ℕ → Starter
-started s zero script self p = listed_started s (executing s None) script self (slice_get s.scripts script) p
-started s (suc room) script self p = listed_started s (executing s (Some (started s room))) script self (slice_get s.scripts script) p
+started s zero script self p = listed_started s (executing s None) script self
+    (slice_get s.scripts script) p
+started s (suc room) script self p = listed_started s
+    (executing s (Some (started s room))) script self (slice_get s.scripts script) p
 
 -- how many scripts at most wait for one that they execute
 abbrev pub waiting_limit : ℕ
@@ -173,11 +190,17 @@ call_evaluated c d fs p = eval c (calling c fs p) d.sight d.call p
 
 abbrev pub call_resumed : Setting → Deferred → ℕ → Option Listed → Progress → Outcome (List Value)
 call_resumed s d self None p = Gives [] p
-call_resumed s d self (Some l) p = call_evaluated (running s (executing s (first_starter s) self) d.script self l.unit) d (functions l.unit.items)
+call_resumed s d self (Some l) p = call_evaluated
+    (running s (executing s (first_starter s) self) d.script self l.unit) d (functions l.unit.items)
     (record p { globals = d.globals; locals = d.locals })
 
 abbrev pub with_steps : ℕ → World Deferred → Progress
-with_steps n world = record { left = n; globals = no_variables; locals = no_variables; world = world }
+with_steps n world = record {
+  left = n;
+  globals = no_variables;
+  locals = no_variables;
+  world = world;
+}
 
 -- an entry that starts a script, as an object, with at most n steps
 abbrev pub run_script : Setting → ℕ → ℕ → ℕ → World Deferred → Outcome (List Value)
@@ -185,4 +208,5 @@ run_script s n script self world = started s waiting_limit script self (with_ste
 
 -- an entry that runs a deferred call
 abbrev pub run_deferred : Setting → ℕ → Deferred → ℕ → World Deferred → Outcome (List Value)
-run_deferred s n d self world = call_resumed s d self (slice_get s.scripts d.script) (with_steps n world)
+run_deferred s n d self world = call_resumed s d self (slice_get s.scripts d.script)
+    (with_steps n world)

@@ -34,5 +34,11 @@ read_at (OfLocal n before) count p = parts_of before count (p.locals n)
 read_at (OfGlobal n before) count p = parts_of before count (p.globals n)
 
 abbrev pub written_at : Spot → List Value → Progress → Progress
-written_at (OfLocal n before) parts p = record p { locals = with_variable p.locals n (with_parts before parts (p.locals n)) }
-written_at (OfGlobal n before) parts p = record p { globals = with_variable p.globals n (with_parts before parts (p.globals n)) }
+written_at (OfLocal n before) parts p = record p {
+  locals = with_variable p.locals n
+      (with_parts before parts (p.locals n));
+}
+written_at (OfGlobal n before) parts p = record p {
+  globals = with_variable p.globals n
+      (with_parts before parts (p.globals n));
+}

@@ -44,14 +44,17 @@ on_switch (Returned parts) = Returned parts
 
 -- A loop: each test that is made is a step; where it holds, the body follows, then the third part,
 -- and the next turn. At most so many turns are made.
-abbrev pub turns : ℕ → (Progress → Outcome (List Value)) → (Progress → Outcome Flow) → (Progress → Outcome (List Value)) → Progress → Outcome Flow
+abbrev pub turns : ℕ → (Progress → Outcome (List Value)) → (Progress → Outcome Flow)
+    → (Progress → Outcome (List Value)) → Progress → Outcome Flow
 turns zero test body third p = OutOfSteps p
 turns (suc n) test body third p = bind (test p) (λ v q. spend q (λ r. chosen (is_true v)
-    (λ s. bind (body s) (λ f t. on_body f (λ u. bind (third u) (λ w x. turns n test body third x)) t))
+    (λ s. bind (body s) (λ f t. on_body f
+    (λ u. bind (third u) (λ w x. turns n test body third x)) t))
     (λ s. Gives Next s) r))
 
 -- Each turn takes a step, so a loop makes no more turns than steps are left.
-abbrev pub looped : (Progress → Outcome (List Value)) → (Progress → Outcome Flow) → (Progress → Outcome (List Value)) → Progress → Outcome Flow
+abbrev pub looped : (Progress → Outcome (List Value)) → (Progress → Outcome Flow)
+    → (Progress → Outcome (List Value)) → Progress → Outcome Flow
 looped test body third p = turns (suc p.left) test body third p
 
 -- ---- the names in sight: those that are declared in front, in the same block or around it
@@ -86,37 +89,50 @@ module _ (c : Running) (caller : Caller) where
   abbrev pub declared : List ℕ → List TypedName → Progress → Outcome Flow
   declared sight [] p = Gives Next p
   declared sight (x ∷ xs) p = bind (initial sight x.name.ty x.value p)
-      (λ parts q. declared (x.name.number ∷ sight) xs (record q { locals = with_variable q.locals x.name.number parts }))
+      (λ parts q. declared (x.name.number ∷ sight) xs
+      (record q { locals = with_variable q.locals x.name.number parts }))
 
   abbrev mutual
     pub exec : List ℕ → TypedStmt → Progress → Outcome Flow
     exec sight (block m xs) p = execs sight xs p
     exec sight (empty m) p = Gives Next p
     exec sight (expression m x) p = bind (eval c caller sight x p) (λ parts q. Gives Next q)
-    exec sight (if_only m x a) p = bind (eval c caller sight x p) (λ v q. chosen (is_true v) (λ r. exec sight a r) (λ r. Gives Next r) q)
-    exec sight (if_else m x a b) p = bind (eval c caller sight x p) (λ v q. chosen (is_true v) (λ r. exec sight a r) (λ r. exec sight b r) q)
-    exec sight (while_loop m x a) p = looped (λ q. eval c caller sight x q) (λ q. exec sight a q) (λ q. Gives [] q) p
+    exec sight (if_only m x a) p = bind (eval c caller sight x p)
+        (λ v q. chosen (is_true v) (λ r. exec sight a r) (λ r. Gives Next r) q)
+    exec sight (if_else m x a b) p = bind (eval c caller sight x p)
+        (λ v q. chosen (is_true v) (λ r. exec sight a r) (λ r. exec sight b r) q)
+    exec sight (while_loop m x a) p = looped (λ q. eval c caller sight x q) (λ q. exec sight a q)
+        (λ q. Gives [] q) p
     -- the body once, then as `while`
-    exec sight (do_loop m a x) p = bind (exec sight a p) (λ f q. on_body f (λ r. looped (λ s. eval c caller sight x s) (λ s. exec sight a s) (λ s. Gives [] s) r) q)
-    exec sight (for_loop m x y z a) p = bind (maybe sight x p) (λ parts q. looped (λ r. tested sight y r) (λ r. exec sight a r) (λ r. maybe sight z r) q)
-    exec sight (switch m x xs) p = bind (eval c caller sight x p) (λ v q. bind (selected sight v (λ r. from_default sight xs r) xs q) (λ f r. Gives (on_switch f) r))
+    exec sight (do_loop m a x) p = bind (exec sight a p)
+        (λ f q. on_body f (λ r. looped (λ s. eval c caller sight x s) (λ s. exec sight a s)
+        (λ s. Gives [] s) r) q)
+    exec sight (for_loop m x y z a) p = bind (maybe sight x p)
+        (λ parts q. looped (λ r. tested sight y r) (λ r. exec sight a r) (λ r. maybe sight z r) q)
+    exec sight (switch m x xs) p = bind (eval c caller sight x p)
+        (λ v q. bind (selected sight v (λ r. from_default sight xs r) xs q)
+        (λ f r. Gives (on_switch f) r))
     exec sight (break_off m) p = spend p (λ q. Gives Broke q)
     exec sight (continue_on m) p = spend p (λ q. Gives Continued q)
-    exec sight (return_from m x) p = bind (maybe sight x p) (λ parts q. spend q (λ r. Gives (Returned parts) r))
+    exec sight (return_from m x) p = bind (maybe sight x p)
+        (λ parts q. spend q (λ r. Gives (Returned parts) r))
     exec sight (declaration m t xs) p = declared sight xs p
     exec sight (case_label m k) p = Gives Next p
     exec sight (default_label m) p = Gives Next p
 
     pub execs : List ℕ → TypedStmts → Progress → Outcome Flow
     execs sight no_stmt p = Gives Next p
-    execs sight (more_stmts x xs) p = bind (exec sight x p) (λ f q. on_next f (λ r. execs (after_stmt x sight) xs r) q)
+    execs sight (more_stmts x xs) p = bind (exec sight x p)
+        (λ f q. on_next f (λ r. execs (after_stmt x sight) xs r) q)
 
     -- The cases of a switch are tested in order, each a step; the statements from the first one
     -- that fits on are executed. Where none fits, it goes on otherwise.
-    pub selected : List ℕ → List Value → (Progress → Outcome Flow) → TypedStmts → Progress → Outcome Flow
+    pub selected : List ℕ → List Value → (Progress → Outcome Flow) → TypedStmts → Progress
+        → Outcome Flow
     selected sight v otherwise no_stmt p = otherwise p
     selected sight v otherwise (more_stmts (case_label m k) xs) p = spend p (λ q.
-        chosen (values_eq v (constant_value c.self k ∷ [])) (λ r. execs sight xs r) (λ r. selected sight v otherwise xs r) q)
+        chosen (values_eq v (constant_value c.self k ∷ [])) (λ r. execs sight xs r)
+        (λ r. selected sight v otherwise xs r) q)
     selected sight v otherwise (more_stmts x xs) p = selected (after_stmt x sight) v otherwise xs p
 
     -- the statements from `default` on, where there is one

@@ -118,15 +118,22 @@ within_still header code a b facts n p held callee g k r i w =
     window_still : (a b : Heap) (trial : Trial) → HeapGrows a b → TrialIn a trial → window b trial ≡ window a trial
     window_still a b trial g i =
         ap (λ (z : List Slot). let r : Rattle.stack_shape.specs.declared.reach.Reach.Reach = record { cells = length z - trial.unseen.cells; under = length (read b.slots trial.under) - trial.unseen.under } in r) (g.slots.same trial.taken i.taken)
-        ∙ ap (λ (z : List Slot). let r : Rattle.stack_shape.specs.declared.reach.Reach.Reach = record { cells = length (read a.slots trial.taken) - trial.unseen.cells; under = length z - trial.unseen.under } in r) (g.slots.same trial.under i.under)
+        ∙ ap (λ (z : List Slot). let r : Rattle.stack_shape.specs.declared.reach.Reach.Reach = record {
+          cells = length
+              (read a.slots trial.taken) - trial.unseen.cells;
+          under = length z - trial.unseen.under;
+        } in r)
+        (g.slots.same trial.under i.under)
 
 -- what lies behind, in a larger heap
 behind_still : (a b : Heap) (held : Held) (callee : Trial) (given : ℕ) → HeapGrows a b → IsIn a held → TrialIn a callee → given ≤ length a.slots
     → behind b held callee given ≡ behind a held callee given
 behind_still a b held callee given g h i j =
     ap (λ (z : List Slot). take (length z - callee.unseen.cells) z ++ drop (length (read b.slots callee.taken) - callee.unseen.cells) (read b.slots held.cells)) (g.slots.same given j)
-    ∙ ap (λ (z : List Slot). take (length (read a.slots given) - callee.unseen.cells) (read a.slots given) ++ drop (length z - callee.unseen.cells) (read b.slots held.cells)) (g.slots.same callee.taken i.taken)
-    ∙ ap (λ (z : List Slot). take (length (read a.slots given) - callee.unseen.cells) (read a.slots given) ++ drop (length (read a.slots callee.taken) - callee.unseen.cells) z) (g.slots.same held.cells h.cells)
+    ∙ ap (λ (z : List Slot). take (length (read a.slots given) - callee.unseen.cells) (read a.slots given)
+    ++ drop (length z - callee.unseen.cells) (read b.slots held.cells)) (g.slots.same callee.taken i.taken)
+    ∙ ap (λ (z : List Slot). take (length (read a.slots given) - callee.unseen.cells) (read a.slots given)
+    ++ drop (length (read a.slots callee.taken) - callee.unseen.cells) z) (g.slots.same held.cells h.cells)
 
 -- the shape behind a call
 pub behind_shape : (heap : Heap) (held : Held) (callee : Trial) (given rest count : ℕ) (shape : TopShape) → count ≡ length (read heap.slots given) - callee.unseen.cells

@@ -212,7 +212,15 @@ start_keeps header code heap rows a = record {
     rows = λ n p h r. let is = first_row rows n p h a r in subst (λ h. IsIn heap h) (sym is.2) (start_in heap);
     trials = λ n trial h. let is = one_trial n trial h in
         subst (λ t. TrialIn heap t) (sym is.1)
-        (record { taken = omega arith; under = omega arith; given = tt; unseen_cells = omega arith; unseen_under = omega arith; first_cells = (omega arith, omega arith); first_under = (omega arith, omega arith) });
+        (record {
+          taken = omega arith;
+          under = omega arith;
+          given = tt;
+          unseen_cells = omega arith;
+          unseen_under = omega arith;
+          first_cells = (omega arith, omega arith);
+          first_under = (omega arith, omega arith);
+        });
   };
   over = record {
     rows = λ n p h trial r e.

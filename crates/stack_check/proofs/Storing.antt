@@ -51,12 +51,28 @@ counts_of facts site (suc n) e ne = ap number_in (sym e)
 pub ruleset counting = (counts_of)
 
 first_is : (heap : Heap) (held : Held) (site : ℕ) → (held.saved ≡ 0) × (held.pending ≡ 0)
-    → shape_of heap (first_held (record { entry = Stored site; taken = held.cells; under = held.under; given = None; unseen = record { cells = 0; under = 0 }; at_first = record { cells = 0; under = 0 } })) ≡ shape_of heap held
+    → shape_of heap (first_held
+    (record {
+      entry = Stored site;
+      taken = held.cells;
+      under = held.under;
+      given = None;
+      unseen = record { cells = 0; under = 0 };
+      at_first = record { cells = 0; under = 0 };
+    })) ≡ shape_of heap held
 first_is heap held site z = same_shape _ _ _ _ _ _ _ _ refl refl (ap (λ n. map (read heap.slots) (read heap.saved n)) (sym z.0)) (sym z.1)
 
 pub stored_begins : (header : EngineTable) (code : List PlainOp) (heap : Heap) (site : ℕ) (held : Held) → Resumes header code site (shape_of heap held)
     → (held.saved ≡ 0) × (held.pending ≡ 0)
-    → TrialBegins header code heap (record { entry = Stored site; taken = held.cells; under = held.under; given = None; unseen = record { cells = 0; under = 0 }; at_first = record { cells = 0; under = 0 } })
+    → TrialBegins header code heap
+    (record {
+      entry = Stored site;
+      taken = held.cells;
+      under = held.under;
+      given = None;
+      unseen = record { cells = 0; under = 0 };
+      at_first = record { cells = 0; under = 0 };
+    })
 stored_begins header code heap site held r z = record {
   by = λ table meets. record {
     x = [];
@@ -78,7 +94,15 @@ stored_begins header code heap site held r z = record {
 
 pub stored_in : (heap : Heap) (held : Held) (site : ℕ) → IsIn heap held
     → TrialIn heap (record { entry = Stored site; taken = held.cells; under = held.under; given = None; unseen = record { cells = 0; under = 0 }; at_first = record { cells = 0; under = 0 } })
-stored_in heap held site i = record { taken = i.cells; under = i.under; given = tt; unseen_cells = omega arith; unseen_under = omega arith; first_cells = (omega arith, omega arith); first_under = (omega arith, omega arith) }
+stored_in heap held site i = record {
+  taken = i.cells;
+  under = i.under;
+  given = tt;
+  unseen_cells = omega arith;
+  unseen_under = omega arith;
+  first_cells = (omega arith, omega arith);
+  first_under = (omega arith, omega arith);
+}
 
 pub stored_owed : (header : EngineTable) (code : List PlainOp) (heap : Heap) (facts : Facts) (site number : ℕ) (held : Held) → Keeps header code heap facts
     → Resumes header code site (shape_of heap held) → current facts (Stored site) ≡ Some number → Owed header code heap facts number (resume_place site) held

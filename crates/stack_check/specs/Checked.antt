@@ -38,7 +38,8 @@ pub record IsWithinBudget (c : CheckedCode) : Type 0 where
 
 -- what was found of a trial: what its routine gives, and its window
 abbrev pub found_of : Heap → Trial → ℕ
-found_of heap trial = given_found trial.given + (window heap trial).cells + (window heap trial).under
+found_of heap trial = given_found trial.given + (window heap trial).cells +
+    (window heap trial).under
 
 -- the rows, and what was found of each trial
 abbrev pub most_turns : CheckedCode → ℕ
@@ -48,30 +49,36 @@ most_turns c = length c.facts.rows + total (found_of c.heap) c.facts.trials
 
 -- Each shape of a stored state in the one table stands in the other, at the same place.
 pub record StoredStand (table other : ShapeTable) : Type 0 where
-  pub by : (site place : ℕ) (shape : TopShape) → table.at (Stored site) place ≡ Some shape → other.at (Stored site) place ≡ Some shape
+  pub by : (site place : ℕ) (shape : TopShape) → table.at (Stored site) place ≡ Some shape
+      → other.at (Stored site) place ≡ Some shape
 
 -- so a state that fits the one fits the other
 abbrev pub FitsToo : Type 0
-FitsToo = (table other : ShapeTable) (saved : Saved) → StoredStand table other → Fits table saved → Fits other saved
+FitsToo = (table other : ShapeTable) (saved : Saved) → StoredStand table other → Fits table saved
+    → Fits other saved
 
 -- The table meets the rules, and what it says of stored states stands in every table that does.
-pub record IsKeptTable (header : EngineTable) (code : List PlainOp) (table : ShapeTable) : Type 0 where
+pub record IsKeptTable (header : EngineTable) (code : List PlainOp)
+    (table : ShapeTable) : Type 0 where
   pub meets : MeetsRules header code table
   pub stored : (other : ShapeTable) → MeetsRules header code other → StoredStand table other
 
 -- What each script's table says of stored states stands in every table that meets the rules for it.
 -- So it is of scripts that were checked.
 abbrev pub AllStand : EngineTable → List Script → Tables → Type 0
-AllStand header scripts tables = (number : ℕ) (script : Script) (other : ShapeTable) → slice_get scripts number ≡ Some script
+AllStand header scripts tables = (number : ℕ) (script : Script) (other : ShapeTable)
+    → slice_get scripts number ≡ Some script
     → MeetsRules header script.code other → StoredStand (tables number) other
 
 -- The state resumes behind a STORE_STATE of as many bytes as its globals and its locals take.
 pub record StandsBehind (code : List PlainOp) (saved : Saved) : Type 0 where
   pub site : ℕ
   pub place : saved.place ≡ resume_place site
-  pub stores : op_at code site ≡ Some (StoreState (4 * length saved.globals) (4 * length saved.locals))
+  pub stores : op_at code site
+      ≡ Some (StoreState (4 * length saved.globals) (4 * length saved.locals))
 
 -- so does each state that fits such a table
 abbrev pub FittingStandsBehind : Type 0
-FittingStandsBehind = (header : EngineTable) (code : List PlainOp) (table : ShapeTable) (saved : Saved) → IsKeptTable header code table → Fits table saved
+FittingStandsBehind = (header : EngineTable) (code : List PlainOp) (table : ShapeTable)
+    (saved : Saved) → IsKeptTable header code table → Fits table saved
     → StandsBehind code saved

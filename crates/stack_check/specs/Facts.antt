@@ -43,7 +43,11 @@ first_held trial = record { cells = trial.taken; under = trial.under; saved = 0;
 -- what a trial knows of a called routine, with the whole lists of its first call
 abbrev pub callee_of : Heap → Trial → Callee
 callee_of heap trial =
-    record { taken = read heap.slots trial.taken; under = read heap.slots trial.under; given = option_map (read heap.slots) trial.given }
+    record {
+      taken = read heap.slots trial.taken;
+      under = read heap.slots trial.under;
+      given = option_map (read heap.slots) trial.given;
+    }
 
 -- ---- what was looked at
 
@@ -68,7 +72,12 @@ cut_saved x y (u ∷ us) = without (beneath_under x y us) u ∷ cut_saved x y us
 
 -- a shape without what lies beneath it
 abbrev pub cut : List Slot → List Slot → TopShape → TopShape
-cut x y s = record { cells = without x s.cells; under = without (beneath_under x y s.saved) s.under; saved = cut_saved x y s.saved; pending = s.pending }
+cut x y s = record {
+  cells = without x s.cells;
+  under = without (beneath_under x y s.saved) s.under;
+  saved = cut_saved x y s.saved;
+  pending = s.pending;
+}
 
 abbrev pub cut_for : Heap → Trial → TopShape → TopShape
 cut_for heap trial s = cut (unseen_cells heap trial) (unseen_under heap trial) s
@@ -78,19 +87,22 @@ abbrev pub kept_callee : Heap → Trial → Callee
 kept_callee heap trial = record {
   taken = without (unseen_cells heap trial) (read heap.slots trial.taken);
   under = without (unseen_under heap trial) (read heap.slots trial.under);
-  given = option_map (λ given. without (unseen_cells heap trial) (read heap.slots given)) trial.given;
+  given = option_map (λ given. without (unseen_cells heap trial)
+      (read heap.slots given)) trial.given;
 }
 
 -- ---- the table
 
 -- the shape at a place of an entry, as it was found
 abbrev pub whole_at : Heap → Facts → Entry → ℕ → Option TopShape
-whole_at heap facts entry place = option_map (shape_of heap) (option_and_then (λ trial. row_in facts.rows trial place) (current facts entry))
+whole_at heap facts entry place = option_map (shape_of heap)
+    (option_and_then (λ trial. row_in facts.rows trial place) (current facts entry))
 
 -- and without what the trial hasn't looked at
 abbrev pub cut_at : Heap → Facts → Entry → ℕ → Option TopShape
 cut_at heap facts entry place = option_and_then (λ number. option_and_then (λ trial.
-    option_map (λ held. cut_for heap trial (shape_of heap held)) (row_in facts.rows number place)) (slice_get facts.trials number)) (current facts entry)
+    option_map (λ held. cut_for heap trial (shape_of heap held)) (row_in facts.rows number place))
+    (slice_get facts.trials number)) (current facts entry)
 
 -- A script's start and a stored state have looked at all that they have.
 abbrev pub shape_at : Heap → Facts → Entry → ℕ → Option TopShape
@@ -99,7 +111,8 @@ shape_at heap facts (Called target) place = cut_at heap facts (Called target) pl
 shape_at heap facts (Stored site) place = whole_at heap facts (Stored site) place
 
 abbrev pub callee_at : Heap → Facts → ℕ → Option Callee
-callee_at heap facts target = option_map (kept_callee heap) (option_and_then (slice_get facts.trials) (current facts (Called target)))
+callee_at heap facts target = option_map (kept_callee heap)
+    (option_and_then (slice_get facts.trials) (current facts (Called target)))
 
 -- the table of the trials, each without what it didn't look at
 abbrev pub trial_table : Heap → Facts → ShapeTable
@@ -130,7 +143,8 @@ given_found None = 0
 given_found (Some given) = 1
 
 abbrev pub seen_of : Trial → ℕ
-seen_of trial = given_found trial.given + (trial.at_first.cells - trial.unseen.cells) + (trial.at_first.under - trial.unseen.under)
+seen_of trial = given_found trial.given + (trial.at_first.cells - trial.unseen.cells) +
+    (trial.at_first.under - trial.unseen.under)
 
 -- rows, given lists, and slots that were looked at
 unfoldable pub found : Facts → ℕ
@@ -142,4 +156,7 @@ pub record FindsMore (before after : Facts) : Type 0 where
 
 -- a trial that has looked at more
 abbrev pub with_unseen : Facts → ℕ → Trial → Unseen → Facts
-with_unseen facts n trial unseen = record facts { trials = slice_set facts.trials n (record trial { unseen = unseen }) }
+with_unseen facts n trial unseen = record facts {
+  trials = slice_set facts.trials n
+      (record trial { unseen = unseen });
+}

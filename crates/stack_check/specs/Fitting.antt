@@ -49,7 +49,8 @@ pub record Resumes (shape : TopShape) (saved : Saved) : Type 0 where
 
 -- what was found at a place, of what the STORE_STATE at a site stores
 abbrev pub stored_at : Facts → ℕ → ℕ → Option Held
-stored_at facts site place = option_and_then (λ trial. row_in facts.rows trial place) (current facts (Stored site))
+stored_at facts site place = option_and_then (λ trial. row_in facts.rows trial place)
+    (current facts (Stored site))
 
 -- This was found at a place, of the state that resumes there.
 pub record IsResumedAt (facts : Facts) (place : ℕ) (found : Option Held) : Type 0 where

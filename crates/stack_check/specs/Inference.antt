@@ -48,15 +48,19 @@ IsWhole (Stored site) unseen = (unseen.cells ≡ 0) × (unseen.under ≡ 0)
 
 pub record Formed (facts : Facts) : Type 0 where
   -- what counts for an entry is a trial of it
-  pub currents : (entry : Entry) (number : ℕ) → current facts entry ≡ Some number → IsTrialOf facts number entry
+  pub currents : (entry : Entry) (number : ℕ) → current facts entry ≡ Some number
+      → IsTrialOf facts number entry
   -- each trial has its first shape
   pub firsts : (number : ℕ) (trial : Trial) → slice_get facts.trials number ≡ Some trial
       → row_in facts.rows number (first_place trial.entry) ≡ Some (first_held trial)
   -- each row is of a trial
-  pub owned : (number place : ℕ) (held : Held) → row_in facts.rows number place ≡ Some held → number < length facts.trials
+  pub owned : (number place : ℕ) (held : Held) → row_in facts.rows number place ≡ Some held
+      → number < length facts.trials
   -- a script starts with nothing
-  pub start : (number : ℕ) (trial : Trial) → slice_get facts.trials number ≡ Some trial → trial.entry ≡ Start → (trial.taken ≡ 0) × (trial.under ≡ 0)
-  pub whole : (number : ℕ) (trial : Trial) → slice_get facts.trials number ≡ Some trial → IsWhole trial.entry trial.unseen
+  pub start : (number : ℕ) (trial : Trial) → slice_get facts.trials number ≡ Some trial
+      → trial.entry ≡ Start → (trial.taken ≡ 0) × (trial.under ≡ 0)
+  pub whole : (number : ℕ) (trial : Trial) → slice_get facts.trials number ≡ Some trial
+      → IsWhole trial.entry trial.unseen
 
 -- a trial's lists are there, with what was not looked at of them
 pub record TrialIn (heap : Heap) (trial : Trial) : Type 0 where
@@ -65,12 +69,16 @@ pub record TrialIn (heap : Heap) (trial : Trial) : Type 0 where
   pub given : IfSome trial.given (λ given. given ≤ length heap.slots)
   pub unseen_cells : trial.unseen.cells ≤ length (read heap.slots trial.taken)
   pub unseen_under : trial.unseen.under ≤ length (read heap.slots trial.under)
-  pub first_cells : (trial.unseen.cells ≤ trial.at_first.cells) × (trial.at_first.cells ≤ length (read heap.slots trial.taken))
-  pub first_under : (trial.unseen.under ≤ trial.at_first.under) × (trial.at_first.under ≤ length (read heap.slots trial.under))
+  pub first_cells : (trial.unseen.cells ≤ trial.at_first.cells)
+      × (trial.at_first.cells ≤ length (read heap.slots trial.taken))
+  pub first_under : (trial.unseen.under ≤ trial.at_first.under)
+      × (trial.at_first.under ≤ length (read heap.slots trial.under))
 
 pub record AllIn (heap : Heap) (facts : Facts) : Type 0 where
-  pub rows : (number place : ℕ) (held : Held) → row_in facts.rows number place ≡ Some held → IsIn heap held
-  pub trials : (number : ℕ) (trial : Trial) → slice_get facts.trials number ≡ Some trial → TrialIn heap trial
+  pub rows : (number place : ℕ) (held : Held) → row_in facts.rows number place ≡ Some held
+      → IsIn heap held
+  pub trials : (number : ℕ) (trial : Trial) → slice_get facts.trials number ≡ Some trial
+      → TrialIn heap trial
 
 -- ---- what was not looked at lies beneath
 
@@ -81,12 +89,15 @@ pub record IsOver (heap : Heap) (trial : Trial) (shape : TopShape) : Type 0 wher
 
 abbrev pub GivenOver : Heap → Trial → Option ℕ → Type 0
 GivenOver heap trial None = Unit {0}
-GivenOver heap trial (Some given) = (own : List Slot) × (read heap.slots given ≡ own ++ unseen_cells heap trial)
+GivenOver heap trial (Some given) = (own : List Slot)
+    × (read heap.slots given ≡ own ++ unseen_cells heap trial)
 
 pub record AllOver (heap : Heap) (facts : Facts) : Type 0 where
-  pub rows : (number place : ℕ) (held : Held) (trial : Trial) → row_in facts.rows number place ≡ Some held → slice_get facts.trials number ≡ Some trial
+  pub rows : (number place : ℕ) (held : Held) (trial : Trial)
+      → row_in facts.rows number place ≡ Some held → slice_get facts.trials number ≡ Some trial
       → IsOver heap trial (shape_of heap held)
-  pub givens : (number : ℕ) (trial : Trial) → slice_get facts.trials number ≡ Some trial → GivenOver heap trial trial.given
+  pub givens : (number : ℕ) (trial : Trial) → slice_get facts.trials number ≡ Some trial
+      → GivenOver heap trial trial.given
 
 -- ---- comparison with a table
 
@@ -97,7 +108,8 @@ GivenFits (Some given) None x = ⊥
 GivenFits (Some given) (Some own) x = given ≡ own ++ x
 
 -- The table knows the routine, which takes no more than what is assumed.
-pub record IsLonger (table : ShapeTable) (target : ℕ) (callee : Callee) (x y : List Slot) : Type 0 where
+pub record IsLonger (table : ShapeTable) (target : ℕ) (callee : Callee)
+    (x y : List Slot) : Type 0 where
   pub own : Callee
   pub known : table.called target ≡ Some own
   pub taken : callee.taken ≡ own.taken ++ x
@@ -111,26 +123,31 @@ Beyond table Start callee x y = (x ≡ []) × (y ≡ [])
 Beyond table (Called target) callee x y = IsLonger table target callee x y
 Beyond table (Stored site) callee x y = (x ≡ []) × (y ≡ [])
 
-pub record RowFits (table : ShapeTable) (entry : Entry) (place : ℕ) (shape : TopShape) (x y : List Slot) : Type 0 where
+pub record RowFits (table : ShapeTable) (entry : Entry) (place : ℕ) (shape : TopShape)
+    (x y : List Slot) : Type 0 where
   pub own : TopShape
   pub known : table.at entry place ≡ Some own
   pub is : shape ≡ deeper x y own
 
-pub record TrialFits (table : ShapeTable) (heap : Heap) (facts : Facts) (number : ℕ) (trial : Trial) : Type 0 where
+pub record TrialFits (table : ShapeTable) (heap : Heap) (facts : Facts) (number : ℕ)
+    (trial : Trial) : Type 0 where
   pub x : List Slot
   pub y : List Slot
   pub beyond : Beyond table trial.entry (callee_of heap trial) x y
-  pub rows : (place : ℕ) (held : Held) → row_in facts.rows number place ≡ Some held → RowFits table trial.entry place (shape_of heap held) x y
+  pub rows : (place : ℕ) (held : Held) → row_in facts.rows number place ≡ Some held
+      → RowFits table trial.entry place (shape_of heap held) x y
   -- the table's routine takes all that was looked at
   pub cells : length x ≤ trial.unseen.cells
   pub under : length y ≤ trial.unseen.under
 
 pub record Compares (table : ShapeTable) (heap : Heap) (facts : Facts) : Type 0 where
-  pub by : (number : ℕ) (trial : Trial) → slice_get facts.trials number ≡ Some trial → TrialFits table heap facts number trial
+  pub by : (number : ℕ) (trial : Trial) → slice_get facts.trials number ≡ Some trial
+      → TrialFits table heap facts number trial
 
 -- ---- what is kept
 
-pub record Keeps (header : EngineTable) (code : List PlainOp) (heap : Heap) (facts : Facts) : Type 0 where
+pub record Keeps (header : EngineTable) (code : List PlainOp) (heap : Heap)
+    (facts : Facts) : Type 0 where
   pub formed : Formed facts
   pub inside : AllIn heap facts
   pub over : AllOver heap facts
@@ -176,10 +193,12 @@ pub record IsKept (w : Worklist) (target : ℕ) (spot : Spot) : Type 0 where
 -- ---- one shape
 
 -- Every table has the shape there, in the trial.
-pub record Owed (header : EngineTable) (code : List PlainOp) (heap : Heap) (facts : Facts) (number place : ℕ) (held : Held) : Type 0 where
+pub record Owed (header : EngineTable) (code : List PlainOp) (heap : Heap) (facts : Facts)
+    (number place : ℕ) (held : Held) : Type 0 where
   pub trial : Trial
   pub has : slice_get facts.trials number ≡ Some trial
-  pub by : (table : ShapeTable) → MeetsRules header code table → (fits : TrialFits table heap facts number trial)
+  pub by : (table : ShapeTable) → MeetsRules header code table
+      → (fits : TrialFits table heap facts number trial)
       → RowFits table trial.entry place (shape_of heap held) fits.x fits.y
   pub over : IsOver heap trial (shape_of heap held)
 
@@ -190,34 +209,42 @@ pub record RowIs (heap : Heap) (facts : Facts) (number place : ℕ) (shape : Top
   pub is : shape_of heap held ≡ shape
 
 abbrev pub Reached : Heap → Facts → Facts → ℕ → ℕ → Held → Seen → Type 0
-Reached heap before after number place held Quiet = (after ≡ before) × RowIs heap before number place (shape_of heap held)
+Reached heap before after number place held Quiet = (after ≡ before)
+    × RowIs heap before number place (shape_of heap held)
 Reached heap before after number place held Changed =
-    RowAdded before.rows after.rows number place held × (after ≡ record before { rows = after.rows })
+    RowAdded before.rows after.rows number place held
+    × (after ≡ record before { rows = after.rows })
 Reached heap before after number place held Bad =
-    (RowIs heap before number place (shape_of heap held) → ⊥) × ((h : Held) × (row_in before.rows number place ≡ Some h)) × (after ≡ before)
+    (RowIs heap before number place (shape_of heap held) → ⊥)
+    × ((h : Held) × (row_in before.rows number place ≡ Some h)) × (after ≡ before)
 
 -- ---- a new trial
 
 pub record TrialAdded (before after : Facts) (trial : Trial) : Type 0 where
   pub trials : after.trials ≡ before.trials ++ trial ∷ []
   pub kept : (t p : ℕ) (h : Held) → row_in before.rows t p ≡ Some h → row_in after.rows t p ≡ Some h
-  pub here : row_in after.rows (length before.trials) (first_place trial.entry) ≡ Some (first_held trial)
+  pub here : row_in after.rows (length before.trials) (first_place trial.entry)
+      ≡ Some (first_held trial)
   pub only : (t p : ℕ) (h : Held) → row_in after.rows t p ≡ Some h
-      → (row_in before.rows t p ≡ Some h) ⊎ ((t ≡ length before.trials) × (p ≡ first_place trial.entry) × (h ≡ first_held trial))
+      → (row_in before.rows t p ≡ Some h)
+      ⊎ ((t ≡ length before.trials) × (p ≡ first_place trial.entry) × (h ≡ first_held trial))
   pub more : length after.rows ≡ length before.rows + 1
   pub room : length before.rows < 2 ^ 25
-  pub currents : (entry : Entry) (n : ℕ) → current after entry ≡ Some n → (current before entry ≡ Some n) ⊎ ((entry ≡ trial.entry) × (n ≡ length before.trials))
+  pub currents : (entry : Entry) (n : ℕ) → current after entry ≡ Some n
+      → (current before entry ≡ Some n) ⊎ ((entry ≡ trial.entry) × (n ≡ length before.trials))
 
 -- how a trial that begins compares with a table
 pub record FirstFits (table : ShapeTable) (heap : Heap) (trial : Trial) : Type 0 where
   pub x : List Slot
   pub y : List Slot
   pub beyond : Beyond table trial.entry (callee_of heap trial) x y
-  pub first : RowFits table trial.entry (first_place trial.entry) (shape_of heap (first_held trial)) x y
+  pub first : RowFits table trial.entry (first_place trial.entry)
+      (shape_of heap (first_held trial)) x y
   pub cells : length x ≤ trial.unseen.cells
   pub under : length y ≤ trial.unseen.under
 
-pub record TrialBegins (header : EngineTable) (code : List PlainOp) (heap : Heap) (trial : Trial) : Type 0 where
+pub record TrialBegins (header : EngineTable) (code : List PlainOp) (heap : Heap)
+    (trial : Trial) : Type 0 where
   pub by : (table : ShapeTable) → MeetsRules header code table → FirstFits table heap trial
   pub over : IsOver heap trial (shape_of heap (first_held trial))
   pub whole : IsWhole trial.entry trial.unseen
@@ -237,7 +264,8 @@ IsLed (One target) place = place ≡ target
 IsLed (Two first second) place = (place ≡ first) ⊎ (place ≡ second)
 
 -- The trial has the shape wherever the instruction leads.
-pub record AllLed (heap : Heap) (facts : Facts) (number : ℕ) (lead : Lead) (shape : TopShape) : Type 0 where
+pub record AllLed (heap : Heap) (facts : Facts) (number : ℕ) (lead : Lead)
+    (shape : TopShape) : Type 0 where
   pub by : (place : ℕ) → IsLed lead place → RowIs heap facts number place shape
 
 -- rows are only added, and the trials stay
@@ -253,7 +281,8 @@ pub record IsOverIn (heap : Heap) (facts : Facts) (number : ℕ) (shape : TopSha
 
 -- The shape at a place of a trial, on which the instruction there has a rule, and the shape after
 -- it.
-pub record IsStep (header : EngineTable) (code : List PlainOp) (heap : Heap) (facts : Facts) (number place : ℕ) (held : Held) (op : PlainOp) (after : Held) : Type 0 where
+pub record IsStep (header : EngineTable) (code : List PlainOp) (heap : Heap) (facts : Facts)
+    (number place : ℕ) (held : Held) (op : PlainOp) (after : Held) : Type 0 where
   pub row : row_in facts.rows number place ≡ Some held
   pub stands : op_at code place ≡ Some op
   pub one : IsOneStep op
@@ -263,23 +292,30 @@ pub record IsStep (header : EngineTable) (code : List PlainOp) (heap : Heap) (fa
 
 -- The instruction at the place obeys the rules there, on the shape without what the trial hasn't
 -- looked at.
-pub record Sound (header : EngineTable) (code : List PlainOp) (heap : Heap) (facts : Facts) (number place : ℕ) (held : Held) : Type 0 where
-  pub by : (entry : Entry) → current facts entry ≡ Some number → (trial : Trial) → slice_get facts.trials number ≡ Some trial
-      → (over : IsOver heap trial (shape_of heap held)) → IsSound header code (trial_table heap facts) entry place over.own
+pub record Sound (header : EngineTable) (code : List PlainOp) (heap : Heap) (facts : Facts)
+    (number place : ℕ) (held : Held) : Type 0 where
+  pub by : (entry : Entry) → current facts entry ≡ Some number → (trial : Trial)
+      → slice_get facts.trials number ≡ Some trial
+      → (over : IsOver heap trial (shape_of heap held))
+      → IsSound header code (trial_table heap facts) entry place over.own
 
 -- What a visit of a place leaves.
-pub record Sees (header : EngineTable) (code : List PlainOp) (heap heap' : Heap) (facts facts' : Facts) (number place : ℕ) (held : Held) (seen : Seen) : Type 0 where
+pub record Sees (header : EngineTable) (code : List PlainOp) (heap heap' : Heap)
+    (facts facts' : Facts) (number place : ℕ) (held : Held) (seen : Seen) : Type 0 where
   pub grows : HeapGrows heap heap'
   pub keeps : Visited header code heap' facts' seen
   pub quiet : WhereQuiet seen ((facts' ≡ facts) × Sound header code heap facts number place held)
   pub takes : Takes facts facts' seen
 
 -- every table says that the routine gives this, with fewer slots beneath
-pub record GivenOwed (header : EngineTable) (code : List PlainOp) (heap : Heap) (facts : Facts) (number given : ℕ) : Type 0 where
+pub record GivenOwed (header : EngineTable) (code : List PlainOp) (heap : Heap) (facts : Facts)
+    (number given : ℕ) : Type 0 where
   pub trial : Trial
   pub has : slice_get facts.trials number ≡ Some trial
-  pub by : (table : ShapeTable) → MeetsRules header code table → (fits : TrialFits table heap facts number trial)
-      → Beyond table trial.entry (callee_of heap (record trial { given = Some given })) fits.x fits.y
+  pub by : (table : ShapeTable) → MeetsRules header code table
+      → (fits : TrialFits table heap facts number trial)
+      → Beyond table trial.entry
+      (callee_of heap (record trial { given = Some given })) fits.x fits.y
   pub over : GivenOver heap trial (Some given)
   pub new : trial.given ≡ None
 
@@ -293,7 +329,8 @@ after_change Quiet = Changed
 pub record CurrentSet (before after : Facts) (entry : Entry) (number : ℕ) : Type 0 where
   pub trials : after.trials ≡ before.trials
   pub rows : after.rows ≡ before.rows
-  pub only : (e : Entry) (n : ℕ) → current after e ≡ Some n → (current before e ≡ Some n) ⊎ ((e ≡ entry) × (n ≡ number))
+  pub only : (e : Entry) (n : ℕ) → current after e ≡ Some n
+      → (current before e ≡ Some n) ⊎ ((e ≡ entry) × (n ≡ number))
 
 -- ---- calls
 
@@ -318,8 +355,10 @@ window heap trial = record {
 
 -- The shape begins with what a trial has looked at.
 pub record BeginsAlike (heap : Heap) (held : Held) (callee : Trial) : Type 0 where
-  pub cells : take (window heap callee).cells (read heap.slots held.cells) ≡ take (window heap callee).cells (read heap.slots callee.taken)
-  pub under : take (window heap callee).under (read heap.slots held.under) ≡ take (window heap callee).under (read heap.slots callee.under)
+  pub cells : take (window heap callee).cells (read heap.slots held.cells)
+      ≡ take (window heap callee).cells (read heap.slots callee.taken)
+  pub under : take (window heap callee).under (read heap.slots held.under)
+      ≡ take (window heap callee).under (read heap.slots callee.under)
 
 -- ---- looking
 
@@ -331,15 +370,22 @@ pub record IsThere (s : TopShape) (reach : Reach) : Type 0 where
 -- what is not looked at, where all is that lies above so many slots of the cells and of the list
 -- beneath BP
 abbrev pub narrowed : Unseen → Bool → ℕ → ℕ → Unseen
-narrowed unseen true cells under = record { cells = min unseen.cells cells; under = min unseen.under under }
-narrowed unseen false cells under = record { cells = min (min unseen.cells cells) under; under = unseen.under }
+narrowed unseen true cells under = record {
+  cells = min unseen.cells cells;
+  under = min unseen.under under;
+}
+narrowed unseen false cells under = record {
+  cells = min (min unseen.cells cells) under;
+  under = unseen.under;
+}
 
 abbrev pub is_nil : List (List Slot) → Bool
 is_nil [] = true
 is_nil (u ∷ us) = false
 
 abbrev pub unseen_after : Unseen → TopShape → Reach → Unseen
-unseen_after unseen s reach = narrowed unseen (is_nil s.saved) (length s.cells - reach.cells) (length s.under - reach.under)
+unseen_after unseen s reach = narrowed unseen (is_nil s.saved) (length s.cells - reach.cells)
+    (length s.under - reach.under)
 
 -- less is unseen than before
 pub record SeesMore (before after : Unseen) : Type 0 where
@@ -348,17 +394,22 @@ pub record SeesMore (before after : Unseen) : Type 0 where
   pub less : after.cells + after.under < before.cells + before.under
 
 -- In each table so many slots are there in its own shape at the place.
-pub record LooksOwed (header : EngineTable) (code : List PlainOp) (heap : Heap) (facts : Facts) (number place : ℕ) (reach : Reach) : Type 0 where
-  pub by : (table : ShapeTable) → MeetsRules header code table → (trial : Trial) → slice_get facts.trials number ≡ Some trial → (own : TopShape)
+pub record LooksOwed (header : EngineTable) (code : List PlainOp) (heap : Heap) (facts : Facts)
+    (number place : ℕ) (reach : Reach) : Type 0 where
+  pub by : (table : ShapeTable) → MeetsRules header code table → (trial : Trial)
+      → slice_get facts.trials number ≡ Some trial → (own : TopShape)
       → table.at trial.entry place ≡ Some own → IsThere own reach
 
 -- Each table's routine takes all but what is unseen then.
-pub record UnseenOwed (header : EngineTable) (code : List PlainOp) (heap : Heap) (facts : Facts) (number : ℕ) (trial : Trial) (unseen : Unseen) : Type 0 where
-  pub by : (table : ShapeTable) → MeetsRules header code table → (fits : TrialFits table heap facts number trial)
+pub record UnseenOwed (header : EngineTable) (code : List PlainOp) (heap : Heap) (facts : Facts)
+    (number : ℕ) (trial : Trial) (unseen : Unseen) : Type 0 where
+  pub by : (table : ShapeTable) → MeetsRules header code table
+      → (fits : TrialFits table heap facts number trial)
       → (length fits.x ≤ unseen.cells) × (length fits.y ≤ unseen.under)
 
 -- So many slots are there above what the trial of this number hasn't looked at.
-pub record Within (heap : Heap) (facts : Facts) (number : ℕ) (shape : TopShape) (reach : Reach) : Type 0 where
+pub record Within (heap : Heap) (facts : Facts) (number : ℕ) (shape : TopShape)
+    (reach : Reach) : Type 0 where
   pub trial : Trial
   pub has : slice_get facts.trials number ≡ Some trial
   pub own : TopShape
@@ -372,16 +423,21 @@ IsPlain op = Unit {0}
 
 -- what an instruction asks of the table besides, of the trial's own shape
 abbrev pub AsksFurtherOf : EngineTable → Heap → Facts → ℕ → ℕ → PlainOp → Held → Type 0
-AsksFurtherOf header heap facts number place op held = (trial : Trial) → slice_get facts.trials number ≡ Some trial
-    → (over : IsOver heap trial (shape_of heap held)) → (after : TopShape) → rule header op over.own ≡ Some after
+AsksFurtherOf header heap facts number place op held = (trial : Trial)
+    → slice_get facts.trials number ≡ Some trial
+    → (over : IsOver heap trial (shape_of heap held)) → (after : TopShape)
+    → rule header op over.own ≡ Some after
     → AsksFurther (trial_table heap facts) place op over.own
 
 -- What the visit of an instruction with a rule of one shape leaves, but for what it stores.
-pub record SeesStep (header : EngineTable) (code : List PlainOp) (heap heap' : Heap) (facts facts' : Facts) (number place : ℕ) (held : Held) (op : PlainOp) (seen : Seen) : Type 0 where
+pub record SeesStep (header : EngineTable) (code : List PlainOp) (heap heap' : Heap)
+    (facts facts' : Facts) (number place : ℕ) (held : Held) (op : PlainOp)
+    (seen : Seen) : Type 0 where
   pub grows : HeapGrows heap heap'
   pub keeps : Visited header code heap' facts' seen
   pub quiet : WhereQuiet seen ((facts' ≡ facts)
-      × (AsksFurtherOf header heap facts number place op held → Sound header code heap facts number place held))
+      × (AsksFurtherOf header heap facts number place op held
+      → Sound header code heap facts number place held))
   pub takes : Takes facts facts' seen
 
 -- the calls of a called routine are to be looked at again
@@ -393,8 +449,10 @@ CallsAgain before after (Stored site) = after ≡ before
 -- ---- stored states
 
 -- every table has this shape where a state resumes that is stored at this place
-pub record Resumes (header : EngineTable) (code : List PlainOp) (site : ℕ) (shape : TopShape) : Type 0 where
-  pub by : (table : ShapeTable) → MeetsRules header code table → table.at (Stored site) (resume_place site) ≡ Some shape
+pub record Resumes (header : EngineTable) (code : List PlainOp) (site : ℕ)
+    (shape : TopShape) : Type 0 where
+  pub by : (table : ShapeTable) → MeetsRules header code table
+      → table.at (Stored site) (resume_place site) ≡ Some shape
 
 -- the trial that counts for what is stored there has it
 pub record IsStored (heap : Heap) (facts : Facts) (site : ℕ) (shape : TopShape) : Type 0 where
@@ -424,36 +482,43 @@ kind_of place op = Step
 -- ---- all rows
 
 -- Whatever shape the trial has there obeys the rules.
-pub record RowSound (header : EngineTable) (code : List PlainOp) (heap : Heap) (facts : Facts) (number place : ℕ) : Type 0 where
-  pub by : (held : Held) → row_in facts.rows number place ≡ Some held → Sound header code heap facts number place held
+pub record RowSound (header : EngineTable) (code : List PlainOp) (heap : Heap) (facts : Facts)
+    (number place : ℕ) : Type 0 where
+  pub by : (held : Held) → row_in facts.rows number place ≡ Some held
+      → Sound header code heap facts number place held
 
-pub record SeesRow (header : EngineTable) (code : List PlainOp) (heap heap' : Heap) (facts facts' : Facts) (number place : ℕ) (seen : Seen) : Type 0 where
+pub record SeesRow (header : EngineTable) (code : List PlainOp) (heap heap' : Heap)
+    (facts facts' : Facts) (number place : ℕ) (seen : Seen) : Type 0 where
   pub grows : HeapGrows heap heap'
   pub keeps : Visited header code heap' facts' seen
   pub quiet : WhereQuiet seen ((facts' ≡ facts) × RowSound header code heap facts number place)
   pub takes : Takes facts facts' seen
 
 -- and all of them
-pub record SeesAll (header : EngineTable) (code : List PlainOp) (heap heap' : Heap) (facts facts' : Facts) (seen : Seen) : Type 0 where
+pub record SeesAll (header : EngineTable) (code : List PlainOp) (heap heap' : Heap)
+    (facts facts' : Facts) (seen : Seen) : Type 0 where
   pub grows : HeapGrows heap heap'
   pub keeps : Visited header code heap' facts' seen
   pub quiet : WhereQuiet seen ((facts' ≡ facts) × MeetsRules header code (trial_table heap facts))
   pub takes : Takes facts facts' seen
 
 -- what is left where all that was handed in was looked at
-pub record SeesDrained (header : EngineTable) (code : List PlainOp) (heap heap' : Heap) (facts facts' : Facts) (seen : Seen) : Type 0 where
+pub record SeesDrained (header : EngineTable) (code : List PlainOp) (heap heap' : Heap)
+    (facts facts' : Facts) (seen : Seen) : Type 0 where
   pub grows : HeapGrows heap heap'
   pub keeps : Visited header code heap' facts' seen
   pub same : WhereQuiet seen (facts' ≡ facts)
   pub takes : Takes facts facts' seen
 
 -- what one turn of the inference leaves
-pub record SeesTurn (header : EngineTable) (code : List PlainOp) (heap : Heap) (before facts : Facts) (seen : Seen) : Type 0 where
+pub record SeesTurn (header : EngineTable) (code : List PlainOp) (heap : Heap)
+    (before facts : Facts) (seen : Seen) : Type 0 where
   pub keeps : Visited header code heap facts seen
   pub quiet : WhereQuiet seen ((facts ≡ before) × MeetsRules header code (trial_table heap facts))
   pub takes : Takes before facts seen
 
 -- A table was found, and compares with every other.
-pub record IsFound (header : EngineTable) (code : List PlainOp) (heap : Heap) (facts : Facts) : Type 0 where
+pub record IsFound (header : EngineTable) (code : List PlainOp) (heap : Heap)
+    (facts : Facts) : Type 0 where
   pub keeps : Keeps header code heap facts
   pub meets : MeetsRules header code (trial_table heap facts)

@@ -41,12 +41,14 @@ LiesOn heap held Cells Under = read heap.saved held.saved ≡ [] → ⊥
 LiesOn heap held Under Cells = ⊥
 LiesOn heap held Under Under = read heap.saved held.saved ≡ []
 
-pub record IsEdge (heap : Heap) (held : Held) (callee : Trial) (side : Side) (edge : Edge) : Type 0 where
+pub record IsEdge (heap : Heap) (held : Held) (callee : Trial) (side : Side)
+    (edge : Edge) : Type 0 where
   pub of : edge.side ≡ side
   pub up : edge.up ≡ held_length heap held side
   pub down : edge.down ≡ first_length heap callee side
 
-pub record IsEdgeFrom (heap : Heap) (held : Held) (callee : Trial) (side : Side) (edge : Edge) : Type 0 where
+pub record IsEdgeFrom (heap : Heap) (held : Held) (callee : Trial) (side : Side)
+    (edge : Edge) : Type 0 where
   pub lies : LiesOn heap held side edge.side
   pub is : IsEdge heap held callee edge.side edge
 
@@ -58,10 +60,13 @@ pub record IsCalledAt (code : List PlainOp) (facts : Facts) (place number : ℕ)
 
 -- In every table the slots beneath the one list's own and so many more are no more than those
 -- beneath the other's and so many more.
-pub record IsWay (header : EngineTable) (code : List PlainOp) (heap : Heap) (facts : Facts) (way : Way) : Type 0 where
+pub record IsWay (header : EngineTable) (code : List PlainOp) (heap : Heap) (facts : Facts)
+    (way : Way) : Type 0 where
   pub first : Trial
   pub has_first : slice_get facts.trials way.from.trial ≡ Some first
   pub last : Trial
   pub has_last : slice_get facts.trials way.to.trial ≡ Some last
-  pub by : (table : ShapeTable) → MeetsRules header code table → (f : TrialFits table heap facts way.from.trial first)
-      → (g : TrialFits table heap facts way.to.trial last) → beneath f.x f.y way.from.side + way.down ≤ way.up + beneath g.x g.y way.to.side
+  pub by : (table : ShapeTable) → MeetsRules header code table
+      → (f : TrialFits table heap facts way.from.trial first)
+      → (g : TrialFits table heap facts way.to.trial last)
+      → beneath f.x f.y way.from.side + way.down ≤ way.up + beneath g.x g.y way.to.side

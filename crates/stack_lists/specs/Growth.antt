@@ -25,10 +25,12 @@ grows_then a b c g h = record {
 }
 
 -- the same lists, read where there are more nodes
-pub map_same : (before after : List (Node Slot)) (ns : List ℕ) → Grows before after → AllAtMost (length before) ns → map (read after) ns ≡ map (read before) ns
+pub map_same : (before after : List (Node Slot)) (ns : List ℕ) → Grows before after
+    → AllAtMost (length before) ns → map (read after) ns ≡ map (read before) ns
 map_same before after [] g all = refl
 map_same before after (n ∷ ns) g all =
-    ap (λ xs. xs ∷ map (read after) ns) (g.same n all.0) ∙ ap (λ rest. read before n ∷ rest) (map_same before after ns g all.1)
+    ap (λ xs. xs ∷ map (read after) ns) (g.same n all.0)
+    ∙ ap (λ rest. read before n ∷ rest) (map_same before after ns g all.1)
 
 pub all_more : (a b : ℕ) (ns : List ℕ) → a ≤ b → AllAtMost a ns → AllAtMost b ns
 all_more a b [] h all = tt
@@ -40,7 +42,10 @@ pub heap_same : (h : Heap) → HeapGrows h h
 heap_same h = record { slots = grows_none h.slots; saved = grows_none h.saved }
 
 pub heap_then : (a b c : Heap) → HeapGrows a b → HeapGrows b c → HeapGrows a c
-heap_then a b c g h = record { slots = grows_then a.slots b.slots c.slots g.slots h.slots; saved = grows_then a.saved b.saved c.saved g.saved h.saved }
+heap_then a b c g h = record {
+  slots = grows_then a.slots b.slots c.slots g.slots h.slots;
+  saved = grows_then a.saved b.saved c.saved g.saved h.saved;
+}
 
 pub still_in : (a b : Heap) (held : Held) → HeapGrows a b → IsIn a held → IsIn b held
 still_in a b held g h = record {
@@ -52,9 +57,15 @@ still_in a b held g h = record {
 }
 
 -- equal parts make equal shapes
-pub same_shape : (cells under : List Slot) (saved : List (List Slot)) (pending : ℕ) (cells' under' : List Slot) (saved' : List (List Slot)) (pending' : ℕ)
+pub same_shape : (cells under : List Slot) (saved : List (List Slot)) (pending : ℕ)
+    (cells' under' : List Slot) (saved' : List (List Slot)) (pending' : ℕ)
     → cells ≡ cells' → under ≡ under' → saved ≡ saved' → pending ≡ pending'
-    → (let a : TopShape = record { cells = cells; under = under; saved = saved; pending = pending } in a)
+    → (let a : TopShape = record {
+      cells = cells;
+      under = under;
+      saved = saved;
+      pending = pending;
+    } in a)
     ≡ record { cells = cells'; under = under'; saved = saved'; pending = pending' }
 same_shape cells under saved pending cells' under' saved' pending' c u s p =
     ap (λ c. record { cells = c; under = under; saved = saved; pending = pending }) c
@@ -62,7 +73,9 @@ same_shape cells under saved pending cells' under' saved' pending' c u s p =
     ∙ ap (λ s. record { cells = cells'; under = under'; saved = s; pending = pending }) s
     ∙ ap (λ p. record { cells = cells'; under = under'; saved = saved'; pending = p }) p
 
-pub still_shape : (a b : Heap) (held : Held) → HeapGrows a b → IsIn a held → shape_of b held ≡ shape_of a held
+pub still_shape : (a b : Heap) (held : Held) → HeapGrows a b → IsIn a held
+    → shape_of b held ≡ shape_of a held
 still_shape a b held g h =
     same_shape _ _ _ _ _ _ _ _ (g.slots.same held.cells h.cells) (g.slots.same held.under h.under)
-    (ap (map (read b.slots)) (g.saved.same held.saved h.saved) ∙ map_same a.slots b.slots (read a.saved held.saved) g.slots h.each) refl
+    (ap (map (read b.slots)) (g.saved.same held.saved h.saved)
+    ∙ map_same a.slots b.slots (read a.saved held.saved) g.slots h.each) refl

@@ -37,7 +37,8 @@ pub record HeapGrows (before after : Heap) : Type 0 where
 -- The shape after a step, where there is one.
 abbrev pub AfterStep : Heap → Heap → Option Held → Option TopShape → Type 0
 AfterStep before after None shape = HeapGrows before after × (shape ≡ None)
-AfterStep before after (Some held) shape = HeapGrows before after × IsIn after held × (shape ≡ Some (shape_of after held))
+AfterStep before after (Some held) shape = HeapGrows before after × IsIn after held
+    × (shape ≡ Some (shape_of after held))
 
 -- an instruction that leaves each shape as it is
 unfoldable pub is_still : PlainOp → Bool

@@ -7,7 +7,8 @@ use Rattle.stack_lists.specs.declared.rows.ShapeRow.{ShapeRow}
 
 unfoldable pub row_in : List ShapeRow → ℕ → ℕ → Option Held
 row_in [] trial place = None
-row_in (row ∷ rows) trial place = if (row.trial == trial) && (row.place == place) then Some row.held else row_in rows trial place
+row_in (row ∷ rows) trial place = if (row.trial == trial)
+    && (row.place == place) then Some row.held else row_in rows trial place
 
 -- another number for each trial and place
 abbrev pub row_key : ℕ → ℕ → ℕ
@@ -16,12 +17,15 @@ row_key trial place = place * 4294967296 + trial
 -- what a row holds, if it is there and of this trial and place
 abbrev pub held_in : Option ShapeRow → ℕ → ℕ → Option Held
 held_in None trial place = None
-held_in (Some row) trial place = if (row.trial == trial) && (row.place == place) then Some row.held else None
+held_in (Some row) trial place = if (row.trial == trial)
+    && (row.place == place) then Some row.held else None
 
 -- The shape at a place of a trial is held by a row that has a number.
 abbrev pub RowsAreNumbered : Type 0
-RowsAreNumbered = (rows : List ShapeRow) (trial place : ℕ) (held : Held) → row_in rows trial place ≡ Some held
-    → (number : ℕ) × (row : ShapeRow) × (slice_get rows number ≡ Some row) × (row.trial ≡ trial) × (row.place ≡ place)
+RowsAreNumbered = (rows : List ShapeRow) (trial place : ℕ) (held : Held)
+    → row_in rows trial place ≡ Some held
+    → (number : ℕ) × (row : ShapeRow) × (slice_get rows number ≡ Some row) × (row.trial ≡ trial)
+    × (row.place ≡ place)
 
 -- ---- where rows are found
 
@@ -32,18 +36,23 @@ IsKept firsts index number trial place = (get_or firsts (place / 2) 0 ≡ suc nu
     ⊎ ((get_or firsts (place / 2) 0 ≢ 0) × (get nat_cmp index (row_key trial place) ≡ Some number))
 
 -- What was found of other trials and places is found still.
-pub record StillKept (firsts : List ℕ) (index : BTreeMap ℕ ℕ) (firsts' : List ℕ) (index' : BTreeMap ℕ ℕ) (trial place : ℕ) : Type 0 where
-  pub by : (number t p : ℕ) → t < 2 ^ 32 → ((t ≡ trial) × (p ≡ place) → ⊥) → IsKept firsts index number t p → IsKept firsts' index' number t p
+pub record StillKept (firsts : List ℕ) (index : BTreeMap ℕ ℕ) (firsts' : List ℕ)
+    (index' : BTreeMap ℕ ℕ) (trial place : ℕ) : Type 0 where
+  pub by : (number t p : ℕ) → t < 2 ^ 32 → ((t ≡ trial) × (p ≡ place) → ⊥)
+      → IsKept firsts index number t p → IsKept firsts' index' number t p
 
-pub record IsIndexed (firsts : List ℕ) (index : BTreeMap ℕ ℕ) (number : ℕ) (row : ShapeRow) : Type 0 where
+pub record IsIndexed (firsts : List ℕ) (index : BTreeMap ℕ ℕ) (number : ℕ)
+    (row : ShapeRow) : Type 0 where
   pub kept : IsKept firsts index number row.trial row.place
   pub trial : row.trial < 2 ^ 32
   pub place : row.place < 2 ^ 32
 
 pub record AreIndexed (rows : List ShapeRow) (firsts : List ℕ) (index : BTreeMap ℕ ℕ) : Type 0 where
-  pub by : (number : ℕ) (row : ShapeRow) → slice_get rows number ≡ Some row → IsIndexed firsts index number row
+  pub by : (number : ℕ) (row : ShapeRow) → slice_get rows number ≡ Some row
+      → IsIndexed firsts index number row
   -- each is of a trial and a place of its own
-  pub one : (m n : ℕ) (a b : ShapeRow) → slice_get rows m ≡ Some a → slice_get rows n ≡ Some b → a.trial ≡ b.trial → a.place ≡ b.place → m ≡ n
+  pub one : (m n : ℕ) (a b : ShapeRow) → slice_get rows m ≡ Some a → slice_get rows n ≡ Some b
+      → a.trial ≡ b.trial → a.place ≡ b.place → m ≡ n
   pub few : length rows ≤ 2 ^ 25
 
 -- One row is added, where there was none, and there was room for it.

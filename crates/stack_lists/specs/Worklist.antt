@@ -42,8 +42,10 @@ growths w Under = w.under
 -- added where it was.
 pub record CallKept (before after : Worklist) (target : ℕ) (spot : Spot) : Type 0 where
   pub here : (calls_of after target ≡ spot ∷ calls_of before target)
-      ⊎ ((calls_of after target ≡ calls_of before target) × ((rest : List Spot) × (calls_of before target ≡ spot ∷ rest)))
-  pub once : (rest : List Spot) → calls_of before target ≡ spot ∷ rest → calls_of after target ≡ calls_of before target
+      ⊎ ((calls_of after target ≡ calls_of before target)
+      × ((rest : List Spot) × (calls_of before target ≡ spot ∷ rest)))
+  pub once : (rest : List Spot) → calls_of before target ≡ spot ∷ rest
+      → calls_of after target ≡ calls_of before target
   pub others : (t : ℕ) → t ≢ target → calls_of after t ≡ calls_of before t
 
 -- The calls of a routine are to be looked at, after all that is looked at first, and are no more

@@ -15,7 +15,8 @@ use Rattle.stack_reasons.specs.declared.reason.Trouble.TheVariants.{NothingThere
 use Rattle.stack_reasons.specs.declared.reason.Reason.{Reason}
 
 -- the instruction at the place has no rule on the shape
-pub record HasNoRule (header : EngineTable) (code : List PlainOp) (place : ℕ) (shape : TopShape) : Type 0 where
+pub record HasNoRule (header : EngineTable) (code : List PlainOp) (place : ℕ)
+    (shape : TopShape) : Type 0 where
   pub op : PlainOp
   pub stands : op_at code place ≡ Some op
   pub one : IsOneStep op
@@ -32,30 +33,37 @@ pub record IsReturn (code : List PlainOp) (entry : Entry) (place : ℕ) : Type 0
   pub stands : op_at code place ≡ Some ops.Retn
 
 -- with a base that no RESTOREBP has ended, or a state that no engine call has taken
-pub record IsLeft (code : List PlainOp) (entry : Entry) (place : ℕ) (shape : TopShape) : Type 0 where
+pub record IsLeft (code : List PlainOp) (entry : Entry) (place : ℕ)
+    (shape : TopShape) : Type 0 where
   pub return : IsReturn code entry place
   pub left : IsEnded shape → ⊥
 
 -- the same run of the routine comes there with another shape too
-pub record ComesOtherwise (header : EngineTable) (code : List PlainOp) (entry : Entry) (first : TopShape) (place : ℕ) (shape other : TopShape) : Type 0 where
+pub record ComesOtherwise (header : EngineTable) (code : List PlainOp) (entry : Entry)
+    (first : TopShape) (place : ℕ) (shape other : TopShape) : Type 0 where
   pub way : Way header code entry first place other
   pub differ : shape ≢ other
 
 -- The same run of the routine comes to two RETNs, at the place and at another, and leaves other
 -- cells there.
-pub record LeavesOtherwise (header : EngineTable) (code : List PlainOp) (entry : Entry) (first : TopShape) (place : ℕ) (shape : TopShape) (second : ℕ) (other : TopShape) : Type 0 where
+pub record LeavesOtherwise (header : EngineTable) (code : List PlainOp) (entry : Entry)
+    (first : TopShape) (place : ℕ) (shape : TopShape) (second : ℕ) (other : TopShape) : Type 0 where
   pub return : IsReturn code entry place
   pub second_return : IsReturn code entry second
   pub way : Way header code entry first second other
   pub differ : shape.cells ≢ other.cells
 
 -- what is wrong at a place to which a run comes
-abbrev pub IsTrouble : EngineTable → List PlainOp → Entry → TopShape → ℕ → TopShape → Trouble → Type 0
+abbrev pub IsTrouble : EngineTable → List PlainOp → Entry → TopShape → ℕ → TopShape → Trouble
+    → Type 0
 IsTrouble header code entry first place shape NothingThere = op_at code place ≡ None
 IsTrouble header code entry first place shape NoRule = HasNoRule header code place shape
 IsTrouble header code entry first place shape NotEnded = IsLeft code entry place shape
-IsTrouble header code entry first place shape (OtherCells other) = ComesOtherwise header code entry first place shape (top_first other)
-IsTrouble header code entry first place shape (OtherResult second other) = LeavesOtherwise header code entry first place shape second (top_first other)
+IsTrouble header code entry first place shape
+    (OtherCells other) = ComesOtherwise header code entry first place shape (top_first other)
+IsTrouble header code entry first place shape
+    (OtherResult second other) = LeavesOtherwise header code entry first place shape second
+    (top_first other)
 
 -- A run of the script comes to the routine, which comes to the place with these cells, and there
 -- this is wrong.
@@ -63,8 +71,10 @@ pub record IsReason (header : EngineTable) (code : List PlainOp) (reason : Reaso
   pub first : TopShape
   pub comes : Comes header code reason.entry reason.called_at first
   pub way : Way header code reason.entry first reason.place (top_first reason.shape)
-  pub trouble : IsTrouble header code reason.entry first reason.place (top_first reason.shape) reason.trouble
+  pub trouble : IsTrouble header code reason.entry first reason.place
+      (top_first reason.shape) reason.trouble
 
 -- where there is a reason, no table meets the rules
 abbrev pub ReasonsRefute : Type 0
-ReasonsRefute = (header : EngineTable) (code : List PlainOp) (reason : Reason) → IsReason header code reason → WellStacked header code → ⊥
+ReasonsRefute = (header : EngineTable) (code : List PlainOp) (reason : Reason)
+    → IsReason header code reason → WellStacked header code → ⊥

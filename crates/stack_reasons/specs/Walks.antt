@@ -48,18 +48,22 @@ pub record IsHome (header : EngineTable) (code : List PlainOp) (home : Home) : T
   pub at : home.at ≡ first_place home.entry
 
 -- and in it to the place
-pub record IsThere (header : EngineTable) (code : List PlainOp) (home : Home) (spot : Spot) : Type 0 where
+pub record IsThere (header : EngineTable) (code : List PlainOp) (home : Home)
+    (spot : Spot) : Type 0 where
   pub way : Way header code home.entry (top_first home.first) spot.place (top_first spot.shape)
 
 abbrev pub AllThere : EngineTable → List PlainOp → Home → List Spot → Type 0
 AllThere header code home [] = Unit {0}
-AllThere header code home (spot ∷ spots) = IsThere header code home spot × AllThere header code home spots
+AllThere header code home (spot ∷ spots) = IsThere header code home spot
+    × AllThere header code home spots
 
-pub record AreThere (header : EngineTable) (code : List PlainOp) (home : Home) (spots : List Spot) : Type 0 where
+pub record AreThere (header : EngineTable) (code : List PlainOp) (home : Home)
+    (spots : List Spot) : Type 0 where
   pub all : AllThere header code home spots
 
 -- the routine ends there, and its caller goes on
-pub record IsLast (header : EngineTable) (code : List PlainOp) (home : Home) (spot : Spot) : Type 0 where
+pub record IsLast (header : EngineTable) (code : List PlainOp) (home : Home)
+    (spot : Spot) : Type 0 where
   pub there : IsThere header code home spot
   pub return : IsReturn code home.entry spot.place
   pub ended : IsEnded (top_first spot.shape)
@@ -88,7 +92,8 @@ pub record Enters (code : List PlainOp) (spot : Spot) (callee : Home) (next : �
 -- ---- one place
 
 abbrev pub IsWrong : EngineTable → List PlainOp → Home → Spot → Trouble → Type 0
-IsWrong header code home spot trouble = IsTrouble header code home.entry (top_first home.first) spot.place (top_first spot.shape) trouble
+IsWrong header code home spot trouble = IsTrouble header code home.entry
+    (top_first home.first) spot.place (top_first spot.shape) trouble
 
 -- what one place of the routine came to
 abbrev pub IsVisited : EngineTable → List PlainOp → Home → Spot → Visited → Type 0
@@ -96,12 +101,14 @@ IsVisited header code home spot visited.Nothing = Unit {0}
 IsVisited header code home spot (visited.Wrong trouble) = IsWrong header code home spot trouble
 IsVisited header code home spot (visited.Found reason) = IsReason header code reason
 IsVisited header code home spot (visited.One next) = IsThere header code home next
-IsVisited header code home spot (visited.Two first second) = IsThere header code home first × IsThere header code home second
+IsVisited header code home spot (visited.Two first second) = IsThere header code home first
+    × IsThere header code home second
 IsVisited header code home spot visited.Returned = IsLast header code home spot
 
 -- ---- a routine
 
-pub record TrailFits (header : EngineTable) (code : List PlainOp) (home : Home) (trail : Trail) : Type 0 where
+pub record TrailFits (header : EngineTable) (code : List PlainOp) (home : Home)
+    (trail : Trail) : Type 0 where
   pub work : AreThere header code home trail.work.items
   pub seen : AreThere header code home trail.seen.items
   pub last : IsLastOf header code home trail.last

@@ -138,7 +138,17 @@ store_passes = (
         stands = refl;
         obeys = record { after = one_pending; has_rule = refl; leads = refl; further = record { types = record { globals = []; locals = [] }; found = refl; resumes = refl } };
       },
-      (record { op = ops.Jmp (pos 8); stands = refl; obeys = record { after = one_pending; has_rule = refl; leads = refl; further = tt } }, (record { op = ops.Retn; stands = refl; obeys = tt }, (record { op = ops.Retn; stands = refl; obeys = tt }, tt))),
+      (
+        record {
+          op = ops.Jmp (pos 8);
+          stands = refl;
+          obeys = record { after = one_pending; has_rule = refl; leads = refl; further = tt };
+        },
+        (
+          record { op = ops.Retn; stands = refl; obeys = tt },
+          (record { op = ops.Retn; stands = refl; obeys = tt }, tt),
+        ),
+      ),
     );
   },
 )

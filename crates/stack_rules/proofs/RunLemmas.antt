@@ -27,7 +27,8 @@ first_listed (s ∷ scripts) p number h = let q = position-Some p (s ∷ scripts
 named_listed : (scripts : List Script) (name : List ℕ) (number : ℕ) → script_named scripts name ≡ Some number → IsListed scripts number
 named_listed scripts name number h = first_listed scripts (λ s. bytes_eq (map to_ascii_lowercase name) s.name) number h
 
-begins_safely : {W : Type 0} (host : Host W) (tables : Tables) (first : W) (s : State W) → StartsSafely → IsWellStackedHost host tables first → IsSafe host.scripts tables (IsReached host tables first) s
+begins_safely : {W : Type 0} (host : Host W) (tables : Tables) (first : W) (s : State W) → StartsSafely
+    → IsWellStackedHost host tables first → IsSafe host.scripts tables (IsReached host tables first) s
     → (number : Option ℕ) (name : List ℕ) (target : ℕ) (f : Frame) → ((n : ℕ) → number ≡ Some n → IsListed host.scripts n) → IsSafeFrame host.scripts tables f
     → IsSafe host.scripts tables (IsReached host tables first) (script_begun host number name target f s)
 begins_safely host tables first s starts well safe None name target f listed here =
@@ -42,7 +43,8 @@ begins_safely {W} host tables first s starts well safe (Some number) name target
     })
     on false e = rw e (record { running = here; waiting = safe.waiting; world = ByDepth target name s.world safe.world })
 
-executes_safely : {W : Type 0} (host : Host W) (tables : Tables) (first : W) (s : State W) → StartsSafely → IsWellStackedHost host tables first → IsSafe host.scripts tables (IsReached host tables first) s
+executes_safely : {W : Type 0} (host : Host W) (tables : Tables) (first : W) (s : State W) → StartsSafely
+    → IsWellStackedHost host tables first → IsSafe host.scripts tables (IsReached host tables first) s
     → (name : List ℕ) (target : ℕ) (f : Frame) → IsSafeFrame host.scripts tables f → IsSafe host.scripts tables (IsReached host tables first) (executed host name target f s)
 executes_safely host tables first s starts well safe [] target f here = record { running = here; waiting = safe.waiting; world = safe.world }
 executes_safely {W} host tables first s starts well safe (b ∷ name) target f here = on (host.may_run f.self target s.world) refl
@@ -59,7 +61,8 @@ over_safely : {W : Type 0} (scripts : List Script) (tables : Tables) (P : W → 
 over_safely scripts tables P s [] h world = tt
 over_safely scripts tables P s (f ∷ waiting) h world = record { running = h.0; waiting = h.1; world = world }
 
-follows_safely : {W : Type 0} (host : Host W) (tables : Tables) (first : W) (s : State W) → StartsSafely → IsWellStackedHost host tables first → IsSafe host.scripts tables (IsReached host tables first) s
+follows_safely : {W : Type 0} (host : Host W) (tables : Tables) (first : W) (s : State W) → StartsSafely
+    → IsWellStackedHost host tables first → IsSafe host.scripts tables (IsReached host tables first) s
     → (o : Option Act) → ActsSafely host.table host.scripts tables o → GoesSafely host.scripts tables (IsReached host tables first) (option_map (followed host s) o)
 follows_safely host tables first s starts well safe None h = absurd h
 follows_safely host tables first s starts well safe (Some (Moves f)) h = record { running = h; waiting = safe.waiting; world = safe.world }

@@ -17,13 +17,16 @@ use Rattle.stack_rules.specs.Tables.{Callee, ShapeTable, empty_shape, first_shap
 
 -- Behind a call the shape is as before, with what the routine gives in the place of what it takes.
 -- A routine that never returns needs no shape there.
-abbrev pub GoesOnBehindCall : ShapeTable → Entry → ℕ → TopShape → List Slot → Option (List Slot) → Type 0
+abbrev pub GoesOnBehindCall : ShapeTable → Entry → ℕ → TopShape → List Slot → Option (List Slot)
+    → Type 0
 GoesOnBehindCall table entry next shape rest None = Unit {0}
-GoesOnBehindCall table entry next shape rest (Some given) = table.at entry next ≡ Some (record shape { cells = given ++ rest })
+GoesOnBehindCall table entry next shape rest (Some given) = table.at entry next
+    ≡ Some (record shape { cells = given ++ rest })
 
 -- JSR: the table knows the routine, whose cells are on top, and whose slots beneath BP are the
 -- upper ones there.
-pub record MayCall (table : ShapeTable) (entry : Entry) (target next : ℕ) (shape : TopShape) : Type 0 where
+pub record MayCall (table : ShapeTable) (entry : Entry) (target next : ℕ)
+    (shape : TopShape) : Type 0 where
   pub callee : Callee
   pub known : table.called target ≡ Some callee
   pub rest : List Slot
@@ -51,11 +54,14 @@ Returns table (Stored site) shape = Unit {0}
 
 -- where an instruction leads within its routine, with the shape after it
 abbrev pub Leads : ShapeTable → Entry → ℕ → PlainOp → TopShape → Type 0
-Leads table entry place (ops.Jmp offset) after = table.at entry (jump_place place offset) ≡ Some after
+Leads table entry place (ops.Jmp offset) after = table.at entry (jump_place place offset)
+    ≡ Some after
 Leads table entry place (ops.Jz offset) after =
-    (table.at entry (jump_place place offset) ≡ Some after) × (table.at entry (next_place place (ops.Jz offset)) ≡ Some after)
+    (table.at entry (jump_place place offset) ≡ Some after)
+    × (table.at entry (next_place place (ops.Jz offset)) ≡ Some after)
 Leads table entry place (ops.Jnz offset) after =
-    (table.at entry (jump_place place offset) ≡ Some after) × (table.at entry (next_place place (ops.Jnz offset)) ≡ Some after)
+    (table.at entry (jump_place place offset) ≡ Some after)
+    × (table.at entry (next_place place (ops.Jnz offset)) ≡ Some after)
 Leads table entry place op after = table.at entry (next_place place op) ≡ Some after
 
 -- STORE_STATE: what is stored resumes with the types that are found here.
@@ -70,7 +76,8 @@ AsksFurther table site (ops.StoreState globals locals) shape = MayStore table si
 AsksFurther table site op shape = Unit {0}
 
 -- an instruction with a rule of one shape
-pub record Follows (header : EngineTable) (table : ShapeTable) (entry : Entry) (place : ℕ) (op : PlainOp) (shape : TopShape) : Type 0 where
+pub record Follows (header : EngineTable) (table : ShapeTable) (entry : Entry) (place : ℕ)
+    (op : PlainOp) (shape : TopShape) : Type 0 where
   pub after : TopShape
   pub has_rule : rule header op shape ≡ Some after
   pub leads : Leads table entry place op after
@@ -78,24 +85,29 @@ pub record Follows (header : EngineTable) (table : ShapeTable) (entry : Entry) (
 
 -- what an instruction at a place owes to the table
 abbrev pub Obeys : EngineTable → ShapeTable → Entry → ℕ → PlainOp → TopShape → Type 0
-Obeys header table entry place (ops.Jsr offset) shape = MayCall table entry (jump_place place offset) (next_place place (ops.Jsr offset)) shape
+Obeys header table entry place (ops.Jsr offset) shape = MayCall table entry
+    (jump_place place offset) (next_place place (ops.Jsr offset)) shape
 Obeys header table entry place ops.Retn shape = Returns table entry shape
 Obeys header table entry place op shape = Follows header table entry place op shape
 
 -- ---- tables
 
 -- an instruction begins at the place, and obeys the rules
-pub record IsSound (header : EngineTable) (code : List PlainOp) (table : ShapeTable) (entry : Entry) (place : ℕ) (shape : TopShape) : Type 0 where
+pub record IsSound (header : EngineTable) (code : List PlainOp) (table : ShapeTable) (entry : Entry)
+    (place : ℕ) (shape : TopShape) : Type 0 where
   pub op : PlainOp
   pub stands : op_at code place ≡ Some op
   pub obeys : Obeys header table entry place op shape
 
-pub record MeetsRules (header : EngineTable) (code : List PlainOp) (table : ShapeTable) : Type 0 where
+pub record MeetsRules (header : EngineTable) (code : List PlainOp)
+    (table : ShapeTable) : Type 0 where
   -- a script starts with nothing on its stack
   pub start : table.at Start header_size ≡ Some empty_shape
   -- a called routine begins with what it takes
-  pub entered : (target : ℕ) (callee : Callee) → table.called target ≡ Some callee → table.at (Called target) target ≡ Some (first_shape callee)
-  pub each : (entry : Entry) (place : ℕ) (shape : TopShape) → table.at entry place ≡ Some shape → IsSound header code table entry place shape
+  pub entered : (target : ℕ) (callee : Callee) → table.called target ≡ Some callee
+      → table.at (Called target) target ≡ Some (first_shape callee)
+  pub each : (entry : Entry) (place : ℕ) (shape : TopShape) → table.at entry place ≡ Some shape
+      → IsSound header code table entry place shape
 
 -- some table meets the rules
 abbrev pub WellStacked : EngineTable → List PlainOp → Type 0

@@ -44,11 +44,13 @@ abbrev pub AreSaved : List (List Slot) → List Outline → ℕ → List Outline
 AreSaved [] bases bp floor found_bp = (bases ≡ floor) × (bp ≡ found_bp)
 AreSaved (under ∷ saved) [] bp floor found_bp = ⊥
 AreSaved (under ∷ saved) (Typed t ∷ os) bp floor found_bp = ⊥
-AreSaved (under ∷ saved) (Keeps kept ∷ os) bp floor found_bp = IsUnder (from_base os) kept under × AreSaved saved (from_base os) kept floor found_bp
+AreSaved (under ∷ saved) (Keeps kept ∷ os) bp floor found_bp = IsUnder (from_base os) kept under
+    × AreSaved saved (from_base os) kept floor found_bp
 
 -- A shape on a stack with these slots, and with these outlines from the topmost base on: beneath
 -- the shape's cells lie those that the routine can't reach.
-pub record ShapeLiesOn (shape : TopShape) (on_stack : List Slot) (bases : List Outline) (bp : ℕ) (below : List Slot) (floor : List Outline) (found_bp : ℕ) : Type 0 where
+pub record ShapeLiesOn (shape : TopShape) (on_stack : List Slot) (bases : List Outline) (bp : ℕ)
+    (below : List Slot) (floor : List Outline) (found_bp : ℕ) : Type 0 where
   pub cells : on_stack ≡ shape.cells ++ below
   pub under : IsUnder bases bp shape.under
   pub saved : AreSaved shape.saved bases bp floor found_bp
@@ -58,7 +60,8 @@ pub record ShapeLiesOn (shape : TopShape) (on_stack : List Slot) (bases : List O
 -- The routine that waits at a place for a called one: once the cells are those that the called one
 -- gives, on what that one found, the stack carries the shape at the place. So many states are
 -- pending, its own and those of its callers.
-pub record Waits (table : ShapeTable) (Callers : Entry → List Slot → List Outline → ℕ → ℕ → Type 0) (place : ℕ) (given below : List Slot)
+pub record Waits (table : ShapeTable) (Callers : Entry → List Slot → List Outline → ℕ → ℕ → Type 0)
+    (place : ℕ) (given below : List Slot)
     (floor : List Outline) (found_bp count : ℕ) : Type 0 where
   pub entry : Entry
   pub shape : TopShape
@@ -79,7 +82,8 @@ AreWaiting table [] (Called target) below floor found_bp count = ⊥
 AreWaiting table [] (Stored site) below floor found_bp count = Unit {0}
 AreWaiting table (place ∷ calls) Start below floor found_bp count = ⊥
 AreWaiting table (place ∷ calls) (Called target) below floor found_bp count =
-    (callee : Callee) (given : List Slot) → table.called target ≡ Some callee → callee.given ≡ Some given
+    (callee : Callee) (given : List Slot) → table.called target ≡ Some callee
+    → callee.given ≡ Some given
     → Waits table (AreWaiting table calls) place given below floor found_bp count
 AreWaiting table (place ∷ calls) (Stored site) below floor found_bp count = ⊥
 
@@ -100,23 +104,27 @@ pub record IsSafeFrame (scripts : List Script) (tables : Tables) (f : Frame) : T
   pub floor : List Outline
   pub found_bp : ℕ
   pub others : ℕ
-  pub carries : ShapeLiesOn shape (outline_slots (outlines f.stack.cells)) (from_base (outlines f.stack.cells)) f.stack.bp below floor found_bp
+  pub carries : ShapeLiesOn shape (outline_slots (outlines f.stack.cells))
+      (from_base (outlines f.stack.cells)) f.stack.bp below floor found_bp
   pub count : length f.pending ≡ shape.pending + others
   pub callers : AreWaiting (tables f.script) f.calls entry below floor found_bp others
   pub fit : AllFit scripts tables f.pending
 
 abbrev pub AreSafeFrames : List Script → Tables → List Frame → Type 0
 AreSafeFrames scripts tables [] = Unit {0}
-AreSafeFrames scripts tables (f ∷ fs) = IsSafeFrame scripts tables f × AreSafeFrames scripts tables fs
+AreSafeFrames scripts tables (f ∷ fs) = IsSafeFrame scripts tables f
+    × AreSafeFrames scripts tables fs
 
 -- every frame is safe, and the world is one of these
-pub record IsSafe {W : Type 0} (scripts : List Script) (tables : Tables) (Reached : W → Type 0) (s : State W) : Type 0 where
+pub record IsSafe {W : Type 0} (scripts : List Script) (tables : Tables) (Reached : W → Type 0)
+    (s : State W) : Type 0 where
   pub running : IsSafeFrame scripts tables s.running
   pub waiting : AreSafeFrames scripts tables s.waiting
   pub world : Reached s.world
 
 -- a step that was taken, to a safe state if the entry goes on
-abbrev pub GoesSafely : {W : Type 0} → List Script → Tables → (W → Type 0) → Option (Next W) → Type 0
+abbrev pub GoesSafely : {W : Type 0} → List Script → Tables → (W → Type 0) → Option (Next W)
+    → Type 0
 GoesSafely scripts tables Reached None = ⊥
 GoesSafely scripts tables Reached (Some (Goes s)) = IsSafe scripts tables Reached s
 GoesSafely scripts tables Reached (Some Ends) = Unit {0}

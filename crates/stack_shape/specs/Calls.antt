@@ -44,9 +44,11 @@ result_types t = t ∷ []
 
 -- whether a call with this count fits the routine and the number of pending states
 unfoldable pub fits_call : Routine → ℕ → ℕ → Bool
-fits_call r count pending = is_callable r && (count == length r.params) && nat_le (action_count r.params) pending
+fits_call r count pending = is_callable r && (count == length r.params)
+    && nat_le (action_count r.params) pending
 
 -- the stack effect of a call with this count, where so many states are pending
 unfoldable pub call_effect : Routine → ℕ → ℕ → List Slot → Option StackEffect
 call_effect r count pending cells =
-    if fits_call r count pending then exchange (argument_types r.params) (result_types r.result) cells else None
+    if fits_call r count pending then exchange (argument_types r.params)
+    (result_types r.result) cells else None

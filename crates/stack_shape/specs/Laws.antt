@@ -32,7 +32,8 @@ DepthOfOffset = (depth : ℕ) → depth_of (offset_to depth) ≡ Some depth
 -- depth counts
 abbrev pub RangeOfNumbers : Type 0
 RangeOfNumbers = (depth count : ℕ) → 0 < count → count ≤ depth
-    → range_at (offset_to depth) (4 * count) ≡ Some (record { above = depth - count; count = count })
+    → range_at (offset_to depth) (4 * count)
+    ≡ Some (record { above = depth - count; count = count })
 
 -- nothing else is a range
 abbrev pub NumbersOfRange : Type 0
@@ -46,15 +47,18 @@ abbrev pub AreValues : ℕ → List Slot → Type 0
 AreValues n cells = (types : List Ty) × (types_on n cells ≡ Some types)
 
 abbrev pub EffectsPopValues : Type 0
-EffectsPopValues = (op : PlainOp) (under cells : List Slot) (e : StackEffect) → stack_effect op under cells ≡ Some e → AreValues e.pops cells
+EffectsPopValues = (op : PlainOp) (under cells : List Slot) (e : StackEffect)
+    → stack_effect op under cells ≡ Some e → AreValues e.pops cells
 
 abbrev pub CallsPopValues : Type 0
-CallsPopValues = (r : Routine) (count pending : ℕ) (cells : List Slot) (e : StackEffect) → call_effect r count pending cells ≡ Some e
+CallsPopValues = (r : Routine) (count pending : ℕ) (cells : List Slot) (e : StackEffect)
+    → call_effect r count pending cells ≡ Some e
     → AreValues e.pops cells
 
 -- as many types as slots, so the slots are there
 abbrev pub ValuesAreThere : Type 0
-ValuesAreThere = (n : ℕ) (cells : List Slot) (types : List Ty) → types_on n cells ≡ Some types → (length types ≡ n) × (n ≤ length cells)
+ValuesAreThere = (n : ℕ) (cells : List Slot) (types : List Ty) → types_on n cells ≡ Some types
+    → (length types ≡ n) × (n ≤ length cells)
 
 -- ---- the rule looks from the top
 
@@ -71,22 +75,31 @@ deeper_saved x y (u ∷ us) = (u ++ beneath_under x y us) ∷ deeper_saved x y u
 -- The same shape where more is known: the cells go on with x, and what was beneath BP as the
 -- routine began goes on with y.
 abbrev pub deeper : List Slot → List Slot → TopShape → TopShape
-deeper x y s = record { cells = s.cells ++ x; under = s.under ++ beneath_under x y s.saved; saved = deeper_saved x y s.saved; pending = s.pending }
+deeper x y s = record {
+  cells = s.cells ++ x;
+  under = s.under ++ beneath_under x y s.saved;
+  saved = deeper_saved x y s.saved;
+  pending = s.pending;
+}
 
 abbrev pub EffectsLookFromTop : Type 0
-EffectsLookFromTop = (op : PlainOp) (under cells x y : List Slot) (e : StackEffect) → stack_effect op under cells ≡ Some e
+EffectsLookFromTop = (op : PlainOp) (under cells x y : List Slot) (e : StackEffect)
+    → stack_effect op under cells ≡ Some e
     → stack_effect op (under ++ y) (cells ++ x) ≡ Some e
 
 abbrev pub CallsLookFromTop : Type 0
-CallsLookFromTop = (r : Routine) (count pending : ℕ) (cells x : List Slot) (e : StackEffect) → call_effect r count pending cells ≡ Some e
+CallsLookFromTop = (r : Routine) (count pending : ℕ) (cells x : List Slot) (e : StackEffect)
+    → call_effect r count pending cells ≡ Some e
     → call_effect r count pending (cells ++ x) ≡ Some e
 
 abbrev pub StoresLookFromTop : Type 0
-StoresLookFromTop = (globals locals : ℕ) (under cells x y : List Slot) (t : StoredTypes) → stored_types globals locals under cells ≡ Some t
+StoresLookFromTop = (globals locals : ℕ) (under cells x y : List Slot) (t : StoredTypes)
+    → stored_types globals locals under cells ≡ Some t
     → stored_types globals locals (under ++ y) (cells ++ x) ≡ Some t
 
 abbrev pub RuleLooksFromTop : Type 0
-RuleLooksFromTop = (table : EngineTable) (op : PlainOp) (before after : TopShape) (x y : List Slot) → rule table op before ≡ Some after
+RuleLooksFromTop = (table : EngineTable) (op : PlainOp) (before after : TopShape) (x y : List Slot)
+    → rule table op before ≡ Some after
     → rule table op (deeper x y before) ≡ Some (deeper x y after)
 
 -- ---- how deep the rule looks
@@ -97,9 +110,11 @@ pub record Reaches (table : EngineTable) (op : PlainOp) (s : TopShape) : Type 0 
   pub under : (reach table op).under ≤ length s.under
 
 abbrev pub RuleReaches : Type 0
-RuleReaches = (table : EngineTable) (op : PlainOp) (before after : TopShape) → rule table op before ≡ Some after → Reaches table op before
+RuleReaches = (table : EngineTable) (op : PlainOp) (before after : TopShape)
+    → rule table op before ≡ Some after → Reaches table op before
 
 -- where they are and there is no rule, there is none with further cells beneath
 abbrev pub RuleLooksNoDeeper : Type 0
-RuleLooksNoDeeper = (table : EngineTable) (op : PlainOp) (s : TopShape) (x y : List Slot) → Reaches table op s → rule table op s ≡ None
+RuleLooksNoDeeper = (table : EngineTable) (op : PlainOp) (s : TopShape) (x y : List Slot)
+    → Reaches table op s → rule table op s ≡ None
     → rule table op (deeper x y s) ≡ None

@@ -14,8 +14,10 @@ depth_of offset = if int_lt (pos 0) offset then None else cell_count (unsigned_a
 -- so many cells that begin at a depth: there is at least one, and the last lies at or below the end
 unfoldable pub range_of : ℕ → ℕ → Option CellRange
 range_of depth count =
-    if nat_lt 0 count && nat_le count depth then Some (record { above = depth - count; count = count }) else None
+    if nat_lt 0 count && nat_le count depth then Some
+    (record { above = depth - count; count = count }) else None
 
 -- the cells that begin at an offset and take so many bytes
 unfoldable pub range_at : ℤ → ℕ → Option CellRange
-range_at offset size = option_and_then (λ depth. option_and_then (range_of depth) (cell_count size)) (depth_of offset)
+range_at offset size = option_and_then (λ depth. option_and_then (range_of depth) (cell_count size))
+    (depth_of offset)

@@ -38,7 +38,8 @@ call_reach (Some r) = in_cells (length (argument_types r.params))
 
 -- two values, or two runs of so many cells
 abbrev pub compared_reach : ℕ → ℕ → Reach
-compared_reach kind size = if kind == 0x24 then in_cells (counted_cells (cell_count size) + counted_cells (cell_count size)) else in_cells 2
+compared_reach kind size = if kind == 0x24 then in_cells
+    (counted_cells (cell_count size) + counted_cells (cell_count size)) else in_cells 2
 
 -- how deep an instruction with a rule of one shape looks
 unfoldable pub reach : EngineTable → PlainOp → Reach
@@ -59,13 +60,17 @@ reach table ops.Not = in_cells 1
 reach table (ops.DecISp offset) = in_cells (range_end (range_at offset 4))
 reach table (ops.IncISp offset) = in_cells (range_end (range_at offset 4))
 reach table (ops.Jnz offset) = in_cells 1
-reach table (ops.CpDownBp offset size) = beneath_bp (range_count (range_at offset size)) (range_at offset size)
+reach table (ops.CpDownBp offset size) = beneath_bp (range_count (range_at offset size))
+    (range_at offset size)
 reach table (ops.CpTopBp offset size) = beneath_bp 0 (range_at offset size)
 reach table (ops.DecIBp offset) = beneath_bp 0 (range_at offset 4)
 reach table (ops.IncIBp offset) = beneath_bp 0 (range_at offset 4)
 reach table ops.SaveBp = in_cells 0
 reach table ops.RestoreBp = in_cells 1
-reach table (ops.StoreState globals locals) = record { cells = counted_cells (cell_count locals); under = counted_cells (cell_count globals) }
+reach table (ops.StoreState globals locals) = record {
+  cells = counted_cells (cell_count locals);
+  under = counted_cells (cell_count globals);
+}
 reach table ops.Nop = in_cells 0
 reach table (ops.Jsr offset) = in_cells 0
 reach table ops.Retn = in_cells 0

@@ -15,7 +15,12 @@ use Rattle.stack_shape.specs.Stored.{TopShape, stored_types}
 
 -- a shape from its top
 abbrev pub top_first : Shape → TopShape
-top_first shape = record { cells = reverse shape.cells; under = reverse shape.under; saved = map reverse (reverse shape.saved); pending = shape.pending }
+top_first shape = record {
+  cells = reverse shape.cells;
+  under = reverse shape.under;
+  saved = map reverse (reverse shape.saved);
+  pending = shape.pending;
+}
 
 -- the shape after an effect on its cells, where there is one
 abbrev pub affected : Option StackEffect → TopShape → Option TopShape
@@ -23,23 +28,31 @@ affected effect s = option_map (λ e. record s { cells = after_effect e s.cells 
 
 -- SAVEBP: what was beneath BP is put aside, and BP stands beneath the new base.
 abbrev pub based : TopShape → TopShape
-based s = record { cells = Base ∷ s.cells; under = s.cells; saved = s.under ∷ s.saved; pending = s.pending }
+based s = record {
+  cells = Base ∷ s.cells;
+  under = s.cells;
+  saved = s.under ∷ s.saved;
+  pending = s.pending;
+}
 
 -- RESTOREBP: a base is on top, and what was put aside last is beneath BP again.
 abbrev pub restored : List Slot → List (List Slot) → ℕ → Option TopShape
-restored (Base ∷ cells) (under ∷ saved) pending = Some (record { cells = cells; under = under; saved = saved; pending = pending })
+restored (Base ∷ cells) (under ∷ saved) pending = Some
+    (record { cells = cells; under = under; saved = saved; pending = pending })
 restored (Base ∷ cells) [] pending = None
 restored (Of t ∷ cells) saved pending = None
 restored [] saved pending = None
 
 -- STORE_STATE: one more state is pending, where its cells are there.
 abbrev pub stored : ℕ → ℕ → TopShape → Option TopShape
-stored globals locals s = option_map (λ _. record s { pending = s.pending + 1 }) (stored_types globals locals s.under s.cells)
+stored globals locals s = option_map (λ _. record s { pending = s.pending + 1 })
+    (stored_types globals locals s.under s.cells)
 
 -- ACTION: the arguments and the pending states go, and the result is pushed.
 abbrev pub called_with : Routine → ℕ → TopShape → Option TopShape
 called_with r count s =
-    affected (call_effect r count s.pending s.cells) (record s { pending = s.pending - action_count r.params })
+    affected (call_effect r count s.pending s.cells)
+    (record s { pending = s.pending - action_count r.params })
 
 abbrev pub called_shape : Option Routine → ℕ → TopShape → Option TopShape
 called_shape routine count s = option_and_then (λ r. called_with r count s) routine

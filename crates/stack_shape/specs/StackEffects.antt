@@ -32,7 +32,8 @@ where_alike None b e = None
 -- top.
 unfoldable pub exchange : List Ty → List Ty → List Slot → Option StackEffect
 exchange pops pushes cells =
-    where_alike (types_on (length pops) cells) (Some pops) (record { pops = length pops; pushes = pushes })
+    where_alike (types_on (length pops) cells) (Some pops)
+    (record { pops = length pops; pushes = pushes })
 
 -- a value of this type is pushed
 abbrev pub pushed : Option Ty → Option StackEffect
@@ -40,35 +41,45 @@ pushed type = option_map (λ t. record { pops = 0; pushes = t ∷ [] }) type
 
 -- the cells of a range are pushed
 abbrev pub copied : Option CellRange → List Slot → Option StackEffect
-copied range slots = option_and_then (λ r. option_map (λ types. record { pops = 0; pushes = types }) (types_at r slots)) range
+copied range slots = option_and_then
+    (λ r. option_map (λ types. record { pops = 0; pushes = types }) (types_at r slots)) range
 
 -- the top cells are written onto a range of cells, which have equal types
 abbrev pub written : Option CellRange → List Slot → List Slot → Option StackEffect
-written range cells slots = option_and_then (λ r. where_alike (types_on r.count cells) (types_at r slots) no_effect) range
+written range cells slots = option_and_then
+    (λ r. where_alike (types_on r.count cells) (types_at r slots) no_effect) range
 
 -- the int at a range of one cell changes
 abbrev pub range_int_changed : Option CellRange → List Slot → Option StackEffect
-range_int_changed range slots = option_and_then (λ r. where_alike (types_at r slots) (Some (Int ∷ [])) no_effect) range
+range_int_changed range slots = option_and_then
+    (λ r. where_alike (types_at r slots) (Some (Int ∷ [])) no_effect) range
 
 -- so many cells are popped
 abbrev pub removed : Option ℕ → List Slot → Option StackEffect
-removed count cells = option_and_then (λ n. option_map (λ _. record { pops = n; pushes = [] }) (types_on n cells)) count
+removed count cells = option_and_then
+    (λ n. option_map (λ _. record { pops = n; pushes = [] }) (types_on n cells)) count
 
 -- Of the top cells those are kept that begin so many cells above the lowest of them.
 abbrev pub kept_of : ℕ → ℕ → ℕ → List Slot → Option StackEffect
 kept_of total offset count cells =
     if nat_le (offset + count) total
-    then option_map (λ types. record { pops = total; pushes = take count (drop (total - (offset + count)) types) }) (types_on total cells)
+    then option_map (λ types. record {
+      pops = total;
+      pushes = take count (drop (total - (offset + count)) types);
+    }) (types_on total cells)
     else None
 
 unfoldable pub kept : ℕ → ℕ → ℕ → List Slot → Option StackEffect
 kept total offset size cells =
-    option_and_then (λ t. option_and_then (λ o. option_and_then (λ n. kept_of t o n cells) (cell_count size)) (cell_count offset)) (cell_count total)
+    option_and_then (λ t. option_and_then
+    (λ o. option_and_then (λ n. kept_of t o n cells) (cell_count size)) (cell_count offset))
+    (cell_count total)
 
 -- two runs of so many cells with equal types are compared
 abbrev pub runs : Option ℕ → List Slot → Option StackEffect
 runs count cells =
-    option_and_then (λ n. where_alike (types_on n cells) (types_on n (drop n cells)) (record { pops = n + n; pushes = Int ∷ [] })) count
+    option_and_then (λ n. where_alike (types_on n cells) (types_on n (drop n cells))
+    (record { pops = n + n; pushes = Int ∷ [] })) count
 
 abbrev pub one_int : List Slot → Option StackEffect
 one_int cells = exchange (Int ∷ []) (Int ∷ []) cells
@@ -107,7 +118,8 @@ type_of_lit (ops.Text bytes) = Some Text
 type_of_lit (ops.Object n) = Some Object
 
 unfoldable pub compared : ℕ → ℕ → List Slot → Option StackEffect
-compared kind size cells = if kind == 0x24 then runs (cell_count size) cells else two_alike (type_of_both kind) cells
+compared kind size cells = if kind == 0x24 then runs (cell_count size) cells else two_alike
+    (type_of_both kind) cells
 
 unfoldable pub added : ℕ → List Slot → Option StackEffect
 added kind cells =

@@ -18,14 +18,21 @@ pub record TopShape : Type 0 where
 -- or is a base.
 abbrev pub found_types : ℕ → ℕ → List Slot → List Slot → Option StoredTypes
 found_types globals locals under cells =
-    option_and_then (λ g. option_map (λ l. record { globals = g; locals = l }) (types_on locals cells)) (types_on globals under)
+    option_and_then (λ g. option_map (λ l. record { globals = g; locals = l })
+    (types_on locals cells)) (types_on globals under)
 
 -- the same for numbers of bytes, as STORE_STATE has them
 unfoldable pub stored_types : ℕ → ℕ → List Slot → List Slot → Option StoredTypes
 stored_types globals locals under cells =
-    option_and_then (λ g. option_and_then (λ l. found_types g l under cells) (cell_count locals)) (cell_count globals)
+    option_and_then (λ g. option_and_then (λ l. found_types g l under cells) (cell_count locals))
+    (cell_count globals)
 
 -- the shape with which the stored state resumes: its locals over a base over its globals, which lie
 -- beneath BP
 abbrev pub stored_shape : StoredTypes → TopShape
-stored_shape t = record { cells = map Of t.locals ++ Base ∷ map Of t.globals; under = map Of t.globals; saved = []; pending = 0 }
+stored_shape t = record {
+  cells = map Of t.locals ++ Base ∷ map Of t.globals;
+  under = map Of t.globals;
+  saved = [];
+  pending = 0;
+}

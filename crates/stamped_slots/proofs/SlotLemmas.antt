@@ -234,7 +234,9 @@ pub seen_filter : {T : Type 0} (slots : List (Slot T)) → seen (filter is_full 
 seen_filter [] = refl
 seen_filter (s ∷ slots) = by s.item refl (seen_filter slots)
   where
-    by : (item : Option _) → s.item ≡ item → seen (filter is_full slots) ≡ seen slots → seen (if is_some item then s ∷ filter is_full slots else filter is_full slots) ≡ seen_before s.stamp item (seen slots)
+    by : (item : Option _) → s.item ≡ item → seen (filter is_full slots) ≡ seen slots
+        → seen (if is_some item then s ∷ filter is_full slots else filter is_full slots)
+        ≡ seen_before s.stamp item (seen slots)
     by None is more = more
     by (Some x) is more = ap (λ o. seen_before s.stamp o (seen (filter is_full slots))) is ∙ ap (λ t. (s.stamp, x) ∷ t) more
 
@@ -250,7 +252,9 @@ pub long_filter : {T : Type 0} (slots : List (Slot T)) → length (filter is_ful
 long_filter [] = refl
 long_filter (s ∷ slots) = by s.item (long_filter slots)
   where
-    by : (item : Option _) → length (filter is_full slots) ≡ length (seen slots) → length (if is_some item then s ∷ filter is_full slots else filter is_full slots) ≡ length (seen_before s.stamp item (seen slots))
+    by : (item : Option _) → length (filter is_full slots) ≡ length (seen slots)
+        → length (if is_some item then s ∷ filter is_full slots else filter is_full slots)
+        ≡ length (seen_before s.stamp item (seen slots))
     by None more = more
     by (Some x) more = ap suc more
 
@@ -299,21 +303,25 @@ item_is i [] s lt is = absurd (omega (arith, lt))
 item_is zero (t ∷ slots) s lt is = ap (λ r. r.item) is
 item_is (suc i) (t ∷ slots) s lt is = item_is i slots s (omega (arith, lt)) is
 
-pub set_written : {T : Type 0} (i : ℕ) (slots : List (Slot T)) (s : Slot T) (item : Option T) → i < length slots → s ≡ get_or slots i s → slice_set slots i (record s { item = item }) ≡ written i item slots
+pub set_written : {T : Type 0} (i : ℕ) (slots : List (Slot T)) (s : Slot T) (item : Option T) → i < length slots
+    → s ≡ get_or slots i s → slice_set slots i (record s { item = item }) ≡ written i item slots
 set_written i [] s item lt is = absurd (omega (arith, lt))
 set_written zero (t ∷ slots) s item lt is = ap (λ (r : Slot _). record r { item = item } ∷ slots) is
 set_written (suc i) (t ∷ slots) s item lt is = ap (λ r. t ∷ r) (set_written i slots s item (omega (arith, lt)) is)
 
 -- ---- what is kept
 
-pub kept_whole : {T : Type 0} (live : ℕ) (slots : List (Slot T)) (room : ℕ) → Ascend 0 slots → live ≡ length (seen slots) → front_is_empty slots ≡ false → length slots ≤ 2 * live → (live ≡ 0 → room ≡ 0) → IsKept live slots room
+pub kept_whole : {T : Type 0} (live : ℕ) (slots : List (Slot T)) (room : ℕ) → Ascend 0 slots
+    → live ≡ length (seen slots) → front_is_empty slots ≡ false → length slots ≤ 2 * live → (live ≡ 0 → room ≡ 0)
+    → IsKept live slots room
 kept_whole live slots room up counted first few gone = record { ascend = up; counted = counted; first = first; few = few; gone = gone }
 
 pub no_slots : {T : Type 0} (slots : List (Slot T)) → length slots ≡ 0 → slots ≡ []
 no_slots [] none = refl
 no_slots (s ∷ slots) none = absurd (omega (arith, none))
 
-pub kept_compact : {T : Type 0} (live : ℕ) (before slots now : List (Slot T)) (room : ℕ) → live ≡ length (seen before) → seen slots ≡ seen before → Ascend 0 slots → now ≡ filter is_full slots → (now ≡ [] → room ≡ 0)
+pub kept_compact : {T : Type 0} (live : ℕ) (before slots now : List (Slot T)) (room : ℕ) → live ≡ length (seen before)
+    → seen slots ≡ seen before → Ascend 0 slots → now ≡ filter is_full slots → (now ≡ [] → room ≡ 0)
     → (seen now ≡ seen before) × IsKept live now room
 kept_compact live before slots now room counted same up is gone =
     let seen_is : seen now ≡ seen before = ap seen is ∙ seen_filter slots ∙ same in
@@ -399,7 +407,8 @@ written_same zero (s ∷ slots) is = ap (λ o. record s { item = o } ∷ slots) 
 written_same (suc i) (s ∷ slots) is = ap (λ t. s ∷ t) (written_same i slots is)
 
 -- nothing stood there
-pub kept_empty : {T : Type 0} (live room now_room i : ℕ) (slots now : List (Slot T)) → IsKept live slots room → now ≡ written i None slots → None ≡ item_at i slots → now_room ≡ room → IsKept live now now_room
+pub kept_empty : {T : Type 0} (live room now_room i : ℕ) (slots now : List (Slot T)) → IsKept live slots room
+    → now ≡ written i None slots → None ≡ item_at i slots → now_room ≡ room → IsKept live now now_room
 kept_empty live room now_room i slots now kept now_is none room_is =
     let same : now ≡ slots = now_is ∙ written_same i slots none in
     subst (λ r. IsKept live now r) (sym room_is) (subst (λ t. IsKept live t room) (sym same) kept)
@@ -407,7 +416,8 @@ kept_empty live room now_room i slots now kept now_is none room_is =
 pub lacks_at : {T : Type 0} (live stamp room i : ℕ) (slots : List (Slot T)) → IsKept live slots room → i ≡ below stamp slots → false ≡ has_stamp stamp i slots → at stamp (seen slots) ≡ None
 lacks_at live stamp room i slots kept place is = lacks 0 stamp slots kept.ascend (sym (is ∙ ap (λ k. has_stamp stamp k slots) place))
 
-pub one_less : {T : Type 0} (live stamp room : ℕ) (x : T) (slots now : List (Slot T)) → IsKept live slots room → seen now ≡ without stamp (seen slots) → Some x ≡ at stamp (seen slots) → length (seen now) + 1 ≡ live
+pub one_less : {T : Type 0} (live stamp room : ℕ) (x : T) (slots now : List (Slot T)) → IsKept live slots room
+    → seen now ≡ without stamp (seen slots) → Some x ≡ at stamp (seen slots) → length (seen now) + 1 ≡ live
 one_less live stamp room x slots now kept is there =
     let long = long_without stamp x (seen slots) (sym there) in
     let as_long = ap length is in
@@ -425,7 +435,9 @@ kept_same live room now_room slots now kept is some =
       gone = λ empty. absurd (omega (arith, there, kept.counted, empty));
     }
 
-pub kept_one : {T : Type 0} (stamp room : ℕ) (x : T) (slots now : List (Slot T)) → slots ≡ [] → now ≡ slots ++ record { stamp = stamp; item = Some x } ∷ [] → (seen now ≡ put stamp x (seen slots)) × IsKept 1 now room
+pub kept_one : {T : Type 0} (stamp room : ℕ) (x : T) (slots now : List (Slot T)) → slots ≡ []
+    → now ≡ slots ++ record { stamp = stamp; item = Some x } ∷ []
+    → (seen now ≡ put stamp x (seen slots)) × IsKept 1 now room
 kept_one stamp room x slots now none is =
     let alone : now ≡ record { stamp = stamp; item = Some x } ∷ [] = is ∙ ap (λ t. t ++ record { stamp = stamp; item = Some x } ∷ []) none in (
       ap seen alone ∙ sym (ap (λ t. put stamp x (seen t)) none),

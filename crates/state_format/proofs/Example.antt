@@ -26,7 +26,12 @@ small = record {
   done = 9;
   next = 2;
   random = 7 ∷ [];
-  objects = record { busy = true; variables = variable.Int (110 ∷ []) (negsuc 0) ∷ []; effects = record { number = Some 1; effect = record { routine = 3; ints = [] } } ∷ []; items = item.Wait (pos 500) ∷ [] } ∷ [];
+  objects = record {
+    busy = true;
+    variables = variable.Int (110 ∷ []) (negsuc 0) ∷ [];
+    effects = record { number = Some 1; effect = record { routine = 3; ints = [] } } ∷ [];
+    items = item.Wait (pos 500) ∷ [];
+  } ∷ [];
   agenda = record { due = 1000; number = 0; kind = kind.Stored 1 (record { script = 0; place = 21; globals = []; locals = cell.Object 1 ∷ [] }) } ∷ [];
 }
 

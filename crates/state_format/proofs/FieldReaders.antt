@@ -60,13 +60,16 @@ number-again n xs h long =
     let x : ℕ = little_from 0 n xs in
     let back : little_from 0 n (bytes_low_first 0 n x ++ []) ≡ x = little_number-reads_back n x [] (little_from-lt 0 n xs (byte-below xs h)) in
     let left : little_from 0 n (bytes_low_first 0 n x) ≡ x = ap (little_from 0 n) (sym (append-nil (bytes_low_first 0 n x))) ∙ back in
-    one-number n (bytes_low_first 0 n x) (take n xs) (length-bytes_low_first 0 n x) (front-length n xs long) (low-bytes 0 n x) (take-bytes n xs h) (left ∙ sym (little_from-take 0 n n xs (omega arith)))
+    one-number n (bytes_low_first 0 n x) (take n xs) (length-bytes_low_first 0 n x) (front-length n xs long)
+    (low-bytes 0 n x) (take-bytes n xs h) (left ∙ sym (little_from-take 0 n n xs (omega arith)))
 
 pub number-stops : (size : ℕ) (bytes : List ℕ) (left : ℕ) → number_at size bytes ≡ Err left → left ≡ length bytes
 unfolding number_at
 number-stops size bytes left e = elim (tested (ltb (length bytes) size)) [
   | inl t ↦ sym (err_is (ℕ × List ℕ) _ _ (chosen_true (ltb (length bytes) size) (Err (length bytes)) (done (little_number size bytes, drop size bytes)) (Err left) t e))
-  | inr t ↦ let no : done (little_number size bytes, drop size bytes) ≡ Err left = chosen_false (ltb (length bytes) size) (Err (length bytes)) (done (little_number size bytes, drop size bytes)) (Err left) t e in absurd cc
+  | inr t ↦ let no : done (little_number size bytes, drop size bytes)
+      ≡ Err left = chosen_false (ltb (length bytes) size) (Err (length bytes))
+      (done (little_number size bytes, drop size bytes)) (Err left) t e in absurd cc
 ]
 
 pub number-reader : (size : ℕ) → IsReader (IsNumber size) (number_fields size) (number_at size)
@@ -78,8 +81,12 @@ number-reader size = single (IsNumber size) (number size) (number_at size) sound
       | inl t ↦ let no : Err (length bytes) ≡ done x = chosen_true (ltb (length bytes) size) (Err (length bytes)) (done (little_number size bytes, drop size bytes)) (done x) t e in absurd cc
       | inr t ↦
           let long : size ≤ length bytes = ltb-false _ _ t in
-          let same : (little_number size bytes, drop size bytes) ≡ x = ok_is _ _ (chosen_false (ltb (length bytes) size) (Err (length bytes)) (done (little_number size bytes, drop size bytes)) (done x) t e) in
-          let parts : bytes ≡ number size (little_number size bytes) ++ drop size bytes = sym (take-append-drop size bytes) ∙ ap (λ (l : List ℕ). l ++ drop size bytes) (sym (number-again size bytes h long)) in
+          let same : (little_number size bytes, drop size bytes)
+          ≡ x = ok_is _ _ (chosen_false (ltb (length bytes) size) (Err (length bytes))
+          (done (little_number size bytes, drop size bytes)) (done x) t e) in
+          let parts : bytes ≡ number size (little_number size bytes)
+          ++ drop size bytes = sym (take-append-drop size bytes)
+          ∙ ap (λ (l : List ℕ). l ++ drop size bytes) (sym (number-again size bytes h long)) in
           subst (λ (z : ℕ × List ℕ). IsNumber size z.0 × (bytes ≡ number size z.0 ++ z.1)) same (little_from-lt 0 size bytes (byte-below bytes h), parts)
     ]
 
@@ -90,7 +97,8 @@ number-reader size = single (IsNumber size) (number size) (number_at size) sound
         let long : size ≤ length (number size n ++ rest) = omega (arith, len, all) in
         let first : little_number size (number size n ++ rest) ≡ n = little_number-reads_back size n rest h in
         let behind : drop size (number size n ++ rest) ≡ rest = drop_at (number size n) rest size len in
-        takes_false (ltb (length (number size n ++ rest)) size) (Err (length (number size n ++ rest))) (done (little_number size (number size n ++ rest), drop size (number size n ++ rest))) (le-ltb _ _ long)
+        takes_false (ltb (length (number size n ++ rest)) size) (Err (length (number size n ++ rest)))
+        (done (little_number size (number size n ++ rest), drop size (number size n ++ rest))) (le-ltb _ _ long)
         ∙ ap (λ (z : ℕ). done (z, drop size (number size n ++ rest))) first ∙ ap (λ (l : List ℕ). done (n, l)) behind
 
 -- ---- signed numbers
@@ -151,7 +159,9 @@ blob-reader = single IsBlob blob blob_at sound again stops [] (lit< tt, tt)
           sym (ap (λ (r : Result (ℕ × List ℕ) ℕ). r >>= λ n. (if ltb (length n.1) n.0 then Err (length bytes) else done (take n.0 n.1, drop n.0 n.1))) y.1) ∙ e in
           elim (tested (ltb (length n.1) n.0)) [
             | inl t ↦ sym (err_is (List ℕ × List ℕ) _ _ (chosen_true (ltb (length n.1) n.0) (Err (length bytes)) (done (take n.0 n.1, drop n.0 n.1)) (Err left) t there))
-            | inr t ↦ let no : done (take n.0 n.1, drop n.0 n.1) ≡ Err left = chosen_false (ltb (length n.1) n.0) (Err (length bytes)) (done (take n.0 n.1, drop n.0 n.1)) (Err left) t there in absurd cc
+            | inr t ↦ let no : done (take n.0 n.1, drop n.0 n.1)
+                ≡ Err left = chosen_false (ltb (length n.1) n.0) (Err (length bytes))
+                (done (take n.0 n.1, drop n.0 n.1)) (Err left) t there in absurd cc
           ]
       | inr y ↦
           let there : Err y.0 ≡ Err left = sym (ap (λ (r : Result (ℕ × List ℕ) ℕ). r >>= λ n. (if ltb (length n.1) n.0 then Err (length bytes) else done (take n.0 n.1, drop n.0 n.1))) y.1) ∙ e in
@@ -198,7 +208,9 @@ magic-reader = single (λ (x : Unit {0}). Unit {0}) (λ x. magic) magic_at sound
 pub list-reader : {A : Type 0} (Has : A → Type 0) (f : A → Fields) (p : Reader A) → IsReader Has f p → IsReader (IsList Has) (list_of f) (list_at p)
 unfolding list_at
 list-reader {A = A} Has f p r =
-    via-reader (λ (x : ℕ × List A). IsNumber 4 x.0 × ((length x.1 ≡ x.0) × AllByRecursion Has x.1)) (λ x. number_fields 4 x.0 ++ flat_map f x.1) (IsList Has) (list_of f) (λ x. x.1) (followed (number_at 4) (λ n. many n p))
+    via-reader (λ (x : ℕ × List A). IsNumber 4 x.0 × ((length x.1 ≡ x.0) × AllByRecursion Has x.1))
+    (λ x. number_fields 4 x.0 ++ flat_map f x.1) (IsList Has) (list_of f) (λ x. x.1)
+    (followed (number_at 4) (λ n. many n p))
     (followed-reader (IsNumber 4) (λ n l. (length l ≡ n) × AllByRecursion Has l) (number_fields 4) (λ n. flat_map f) (number_at 4) (λ n. many n p) (number-reader 4) (λ n h. many-reader Has f p n r))
     (λ x h. ((subst (IsNumber 4) (sym h.1.0) h.0, h.1.1), ap (λ (n : ℕ). number 4 n ∷ flat_map f x.1) h.1.0))
     (λ l h. ((length l, l), ((h.0, (refl, h.1)), refl)))

@@ -13,7 +13,9 @@ pub front_start : {A : Type 0} (read : Result (List A × List ℕ) ℕ) → with
 front_start (Ok x) = refl
 front_start (Err left) = refl
 
-one_more : {A : Type 0} (front : List A) (x : A) (read : Result (List A × List ℕ) ℕ) → with_front front (mapped (λ (z : A × List A). z.0 ∷ z.1) (mapped (λ y. (x, y)) read)) ≡ with_front (front ++ x ∷ []) read
+one_more : {A : Type 0} (front : List A) (x : A) (read : Result (List A × List ℕ) ℕ)
+    → with_front front (mapped (λ (z : A × List A). z.0 ∷ z.1) (mapped (λ y. (x, y)) read))
+    ≡ with_front (front ++ x ∷ []) read
 one_more {A = A} front x (Ok y) = ap (λ l. Ok (l, y.1)) (sym (append_assoc front (x ∷ []) y.0))
 one_more {A = A} front x (Err left) = refl
 

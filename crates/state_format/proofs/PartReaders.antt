@@ -34,7 +34,8 @@ pub effect-reader : IsReader IsEffect effect_fields effect_at
 unfolding effect_at
 effect-reader =
     via-reader _ _ IsEffect effect_fields effect_of (both (number_at 2) (list_at signed_at))
-    (both-reader (IsNumber 2) (IsList IsSigned) (number_fields 2) (list_of signed_fields) (number_at 2) (list_at signed_at) (number-reader 2) (list-reader IsSigned signed_fields signed_at signed-reader))
+    (both-reader (IsNumber 2) (IsList IsSigned) (number_fields 2) (list_of signed_fields) (number_at 2)
+    (list_at signed_at) (number-reader 2) (list-reader IsSigned signed_fields signed_at signed-reader))
     (λ x h. (h, refl))
     (λ e h. ((e.routine, e.ints), (h, refl)))
 
@@ -54,7 +55,11 @@ cell-reader =
     makes onto
   where
     makes : (x : ℤ ⊎ (List ℕ ⊎ (ℕ ⊎ (Effect ⊎ ℤ)))) → Either IsSigned (Either IsBlob (Either (IsNumber 4) (Either IsEffect IsSigned))) x
-        → IsCell (cell_of x) × (cell_fields (cell_of x) ≡ either_fields (λ a. tag 0x03 ∷ signed_fields a) (either_fields (λ a. tag 0x05 ∷ blob_fields a) (either_fields (λ a. tag 0x06 ∷ number_fields 4 a) (either_fields (λ a. tag 0x10 ∷ effect_fields a) (λ a. tag 0x11 ∷ signed_fields a)))) x)
+        → IsCell (cell_of x) × (cell_fields (cell_of x)
+        ≡ either_fields (λ a. tag 0x03 ∷ signed_fields a)
+        (either_fields (λ a. tag 0x05 ∷ blob_fields a)
+        (either_fields (λ a. tag 0x06 ∷ number_fields 4 a)
+        (either_fields (λ a. tag 0x10 ∷ effect_fields a) (λ a. tag 0x11 ∷ signed_fields a)))) x)
     makes (inl n) h = (h, refl)
     makes (inr (inl text)) h = (h, refl)
     makes (inr (inr (inl o))) h = (h, refl)
@@ -91,11 +96,17 @@ variable-reader =
     makes onto
   where
     makes : (x : (List ℕ × ℤ) ⊎ (List ℕ × List ℕ)) → Either (λ (x : List ℕ × ℤ). IsBlob x.0 × IsSigned x.1) (λ (x : List ℕ × List ℕ). IsBlob x.0 × IsBlob x.1) x
-        → IsVariable (variable_of x) × (variable_fields (variable_of x) ≡ either_fields (λ (x : List ℕ × ℤ). tag 1 ∷ (blob_fields x.0 ++ signed_fields x.1)) (λ (x : List ℕ × List ℕ). tag 3 ∷ (blob_fields x.0 ++ blob_fields x.1)) x)
+        → IsVariable (variable_of x)
+        × (variable_fields (variable_of x)
+        ≡ either_fields (λ (x : List ℕ × ℤ). tag 1 ∷ (blob_fields x.0 ++ signed_fields x.1))
+        (λ (x : List ℕ × List ℕ). tag 3 ∷ (blob_fields x.0 ++ blob_fields x.1)) x)
     makes (inl x) h = (h, refl)
     makes (inr x) h = (h, refl)
 
-    onto : (v : Variable) → IsVariable v → (x : (List ℕ × ℤ) ⊎ (List ℕ × List ℕ)) × (Either (λ (x : List ℕ × ℤ). IsBlob x.0 × IsSigned x.1) (λ (x : List ℕ × List ℕ). IsBlob x.0 × IsBlob x.1) x × (variable_of x ≡ v))
+    onto : (v : Variable) → IsVariable v
+        → (x : (List ℕ × ℤ) ⊎ (List ℕ × List ℕ))
+        × (Either (λ (x : List ℕ × ℤ). IsBlob x.0 × IsSigned x.1) (λ (x : List ℕ × List ℕ). IsBlob x.0 × IsBlob x.1) x
+        × (variable_of x ≡ v))
     onto (variable.Int name n) h = (inl (name, n), (h, refl))
     onto (variable.Text name text) h = (inr (name, text), (h, refl))
 
@@ -106,7 +117,9 @@ maybe-reader {A = A} Has f p r =
     (choose-reader _ _ _ _ 0 nothing_at (only 1 p) nothing-reader (only-reader Has f 1 p r) (others-only f 0 1 (omega arith)))
     makes onto
   where
-    makes : (x : Unit {0} ⊎ A) → Either (λ (u : Unit {0}). Unit {0}) Has x → IsMaybe Has (maybe_of x) × (maybe_fields f (maybe_of x) ≡ either_fields (λ (u : Unit {0}). tag 0 ∷ []) (λ a. tag 1 ∷ f a) x)
+    makes : (x : Unit {0} ⊎ A) → Either (λ (u : Unit {0}). Unit {0}) Has x
+        → IsMaybe Has (maybe_of x)
+        × (maybe_fields f (maybe_of x) ≡ either_fields (λ (u : Unit {0}). tag 0 ∷ []) (λ a. tag 1 ∷ f a) x)
     makes (inl u) h = (tt, refl)
     makes (inr a) h = (h, refl)
 
@@ -188,14 +201,20 @@ kind-reader =
   where
     makes : (x : (ℕ × (List ℕ × ℤ)) ⊎ ((ℕ × Captured) ⊎ (ℕ ⊎ ℕ)))
         → Either (λ (x : ℕ × (List ℕ × ℤ)). IsNumber 4 x.0 × (IsBlob x.1.0 × IsSigned x.1.1)) (Either (λ (x : ℕ × Captured). IsNumber 4 x.0 × IsCaptured x.1) (Either (IsNumber 4) (IsNumber 4))) x
-        → IsKind (kind_of x) × (kind_fields (kind_of x) ≡ either_fields (λ (x : ℕ × (List ℕ × ℤ)). tag 0 ∷ (number_fields 4 x.0 ++ (blob_fields x.1.0 ++ signed_fields x.1.1))) (either_fields (λ (x : ℕ × Captured). tag 1 ∷ (number_fields 4 x.0 ++ captured_fields x.1)) (either_fields (λ o. tag 2 ∷ number_fields 4 o) (λ o. tag 3 ∷ number_fields 4 o))) x)
+        → IsKind (kind_of x) × (kind_fields (kind_of x)
+        ≡ either_fields (λ (x : ℕ × (List ℕ × ℤ)). tag 0 ∷
+        (number_fields 4 x.0 ++ (blob_fields x.1.0 ++ signed_fields x.1.1)))
+        (either_fields (λ (x : ℕ × Captured). tag 1 ∷ (number_fields 4 x.0 ++ captured_fields x.1))
+        (either_fields (λ o. tag 2 ∷ number_fields 4 o) (λ o. tag 3 ∷ number_fields 4 o))) x)
     makes (inl x) h = (h, refl)
     makes (inr (inl x)) h = (h, refl)
     makes (inr (inr (inl o))) h = (h, refl)
     makes (inr (inr (inr o))) h = (h, refl)
 
     onto : (k : KindPart) → IsKind k → (x : (ℕ × (List ℕ × ℤ)) ⊎ ((ℕ × Captured) ⊎ (ℕ ⊎ ℕ)))
-        × (Either (λ (x : ℕ × (List ℕ × ℤ)). IsNumber 4 x.0 × (IsBlob x.1.0 × IsSigned x.1.1)) (Either (λ (x : ℕ × Captured). IsNumber 4 x.0 × IsCaptured x.1) (Either (IsNumber 4) (IsNumber 4))) x × (kind_of x ≡ k))
+        × (Either (λ (x : ℕ × (List ℕ × ℤ)). IsNumber 4 x.0 × (IsBlob x.1.0 × IsSigned x.1.1))
+        (Either (λ (x : ℕ × Captured). IsNumber 4 x.0 × IsCaptured x.1) (Either (IsNumber 4) (IsNumber 4))) x
+        × (kind_of x ≡ k))
     onto (kind.Event o script user) h = (inl (o, (script, user)), (h, refl))
     onto (kind.Stored o s) h = (inr (inl (o, s)), (h, refl))
     onto (kind.Turn o) h = (inr (inr (inl o)), (h, refl))
@@ -232,7 +251,10 @@ counted_fields c =
 counts-reader : IsReader IsCounts counted_fields counts_at
 unfolding counts_at
 counts-reader =
-    via-reader _ _ IsCounts counted_fields counts_of (both (number_at 1) (both (number_at 8) (both (number_at 8) (both (number_at 8) (both (number_at 8) (both (number_at 8) (both (number_at 8) (number_at 8))))))))
+    via-reader _ _ IsCounts counted_fields counts_of
+    (both (number_at 1) (both (number_at 8)
+    (both (number_at 8) (both (number_at 8)
+    (both (number_at 8) (both (number_at 8) (both (number_at 8) (number_at 8))))))))
     (both-reader _ _ _ _ (number_at 1) _ (number-reader 1)
     (both-reader _ _ _ _ (number_at 8) _ (number-reader 8)
     (both-reader _ _ _ _ (number_at 8) _ (number-reader 8)
@@ -245,7 +267,11 @@ counts-reader =
 
 -- the same fields, one part after the other
 in_a_row : (s : Parts) → first_fields s ++ last_fields s
-    ≡ magic ∷ (maybe_fields blob_fields s.header ++ (list_of script_fields s.scripts ++ (blob_fields s.area ++ (count_fields s ++ (list_of (number_fields 4) s.random ++ (list_of object_fields s.objects ++ list_of entry_fields s.agenda))))))
+    ≡ magic ∷ (maybe_fields blob_fields s.header
+    ++ (list_of script_fields s.scripts
+    ++ (blob_fields s.area ++
+    (count_fields s ++ (list_of (number_fields 4) s.random
+    ++ (list_of object_fields s.objects ++ list_of entry_fields s.agenda))))))
 in_a_row s =
     ap (λ (l : Fields). magic ∷ l) (append_assoc (maybe_fields blob_fields s.header) (list_of script_fields s.scripts ++ (blob_fields s.area ++ count_fields s)) (last_fields s)
     ∙ ap (λ (l : Fields). maybe_fields blob_fields s.header ++ l) (append_assoc (list_of script_fields s.scripts) (blob_fields s.area ++ count_fields s) (last_fields s)))
@@ -253,7 +279,10 @@ in_a_row s =
 pub parts-reader : IsReader HasForm parts_fields parts_at
 unfolding parts_at parts_fields
 parts-reader =
-    via-reader _ _ HasForm parts_fields parts_of (both magic_at (both (maybe_at blob_at) (both (list_at script_at) (both blob_at (both counts_at (both (list_at (number_at 4)) (both (list_at object_at) (list_at entry_at))))))))
+    via-reader _ _ HasForm parts_fields parts_of
+    (both magic_at (both (maybe_at blob_at)
+    (both (list_at script_at)
+    (both blob_at (both counts_at (both (list_at (number_at 4)) (both (list_at object_at) (list_at entry_at))))))))
     (both-reader _ _ _ _ magic_at _ magic-reader
     (both-reader _ _ _ _ (maybe_at blob_at) _ (maybe-reader IsBlob blob_fields blob_at blob-reader)
     (both-reader _ _ _ _ (list_at script_at) _ (list-reader IsScript script_fields script_at script-reader)
@@ -281,6 +310,57 @@ parts-reader =
       in_a_row (parts_of x),
     ))
     (λ s h. (
-      (tt, (s.header, (s.scripts, (s.area, (record { version = s.version; limit = s.limit; entries = s.entries; until = s.until; clock = s.clock; taken = s.taken; done = s.done; next = s.next }, (s.random, (s.objects, s.agenda))))))),
-      ((tt, (h.header, (h.scripts, (h.area, (record { version = h.version; limit = h.limit; entries = h.entries; until = h.until; clock = h.clock; taken = h.taken; done = h.done; next = h.next }, (h.random, (h.objects, h.agenda))))))), refl),
+      (
+        tt,
+        (
+          s.header,
+          (
+            s.scripts,
+            (
+              s.area,
+              (
+                record {
+                  version = s.version;
+                  limit = s.limit;
+                  entries = s.entries;
+                  until = s.until;
+                  clock = s.clock;
+                  taken = s.taken;
+                  done = s.done;
+                  next = s.next;
+                },
+                (s.random, (s.objects, s.agenda)),
+              ),
+            ),
+          ),
+        ),
+      ),
+      (
+        (
+          tt,
+          (
+            h.header,
+            (
+              h.scripts,
+              (
+                h.area,
+                (
+                  record {
+                    version = h.version;
+                    limit = h.limit;
+                    entries = h.entries;
+                    until = h.until;
+                    clock = h.clock;
+                    taken = h.taken;
+                    done = h.done;
+                    next = h.next;
+                  },
+                  (h.random, (h.objects, h.agenda)),
+                ),
+              ),
+            ),
+          ),
+        ),
+        refl,
+      ),
     ))

@@ -227,7 +227,10 @@ followed-reader {A = A} {B = B} Has HasB f g p q rp rq = record { sound = sound;
           let same : joined front ++ rest ≡ joined (f x.0) ++ (joined j.middle ++ rest) = ap (λ (l : Fields). joined l ++ rest) j.whole ∙ joined-before (f x.0) j.middle rest in
           let hb : AreStateBytes (joined j.middle ++ rest) = bytes-behind (joined (f x.0)) (joined j.middle ++ rest) (subst AreStateBytes same b) in
           let second = (rq x.0 h.0).front x.1 j.middle back rest h.1 j.after hb in
-          let whole : left_of (followed p q (joined front ++ rest)) ≡ left_of (q x.0 (joined j.middle ++ rest)) = ap (λ (l : List ℕ). left_of (followed p q l)) same ∙ ap left_of (read _ (x.0, joined j.middle ++ rest) _ (rp.again x.0 (joined j.middle ++ rest) h.0) refl) ∙ left_mapped (λ v. (x.0, v)) (q x.0 (joined j.middle ++ rest)) in
+          let whole : left_of (followed p q (joined front ++ rest))
+          ≡ left_of (q x.0 (joined j.middle ++ rest)) = ap (λ (l : List ℕ). left_of (followed p q l)) same
+          ∙ ap left_of (read _ (x.0, joined j.middle ++ rest) _ (rp.again x.0 (joined j.middle ++ rest) h.0) refl)
+          ∙ left_mapped (λ v. (x.0, v)) (q x.0 (joined j.middle ++ rest)) in
           omega (arith, second, whole)
     ]
 
@@ -382,7 +385,9 @@ only-reader {A = A} Has f byte p r = record { sound = sound; again = again; fron
             begins = ap (λ (z : ℕ). z ∷ rest) (eqb-true b byte t) ∙ ap (λ (l : List ℕ). byte ∷ l) s.begins;
             ends = s.ends;
           }
-      | inr t ↦ subst (Reaches Has (λ a. tag byte ∷ f a) (b ∷ rest)) (err_is (A × List ℕ) _ left (chosen_false (b == byte) (p rest) (Err (suc (length rest))) (Err left) t e)) (nothing (b ∷ rest) (some r))
+      | inr t ↦ subst (Reaches Has (λ a. tag byte ∷ f a) (b ∷ rest))
+          (err_is (A × List ℕ) _ left (chosen_false (b == byte) (p rest) (Err (suc (length rest))) (Err left) t e))
+          (nothing (b ∷ rest) (some r))
     ]
 
 -- by the first byte a value is of the one kind or of the other
@@ -410,7 +415,9 @@ choose-reader {A = A} {B = B} HasA HasB f g byte p q rp rq others = record { sou
       | inl t ↦
           let m = mapped_ok inl (p rest) x (chosen_true (b == byte) (mapped inl (p rest)) (mapped inr (q (b ∷ rest))) (done x) t e) in
           let s = rp.sound rest m.0 h.1 m.1.0 in
-          subst (λ (z : (A ⊎ B) × List ℕ). Either HasA HasB z.0 × (b ∷ rest ≡ joined (either_fields (λ a. tag byte ∷ f a) g z.0) ++ z.1)) m.1.1 (s.0, ap (λ (z : ℕ). z ∷ rest) (eqb-true b byte t) ∙ ap (λ (l : List ℕ). byte ∷ l) s.1)
+          subst (λ (z : (A ⊎ B) × List ℕ). Either HasA HasB z.0
+          × (b ∷ rest ≡ joined (either_fields (λ a. tag byte ∷ f a) g z.0) ++ z.1)) m.1.1
+          (s.0, ap (λ (z : ℕ). z ∷ rest) (eqb-true b byte t) ∙ ap (λ (l : List ℕ). byte ∷ l) s.1)
       | inr t ↦
           let m = mapped_ok inr (q (b ∷ rest)) x (chosen_false (b == byte) (mapped inl (p rest)) (mapped inr (q (b ∷ rest))) (done x) t e) in
           let s = rq.sound (b ∷ rest) m.0 h m.1.0 in
@@ -443,11 +450,16 @@ choose-reader {A = A} {B = B} HasA HasB f g byte p q rp rq others = record { sou
           omega (arith, less, whole)
       | inr t ↦
           let less = within rq (b ∷ rest) h in
-          let whole : left_of (choose byte p q (b ∷ rest)) ≡ left_of (q (b ∷ rest)) = ap left_of (takes_false (b == byte) (mapped inl (p rest)) (mapped inr (q (b ∷ rest))) t) ∙ left_mapped inr (q (b ∷ rest)) in
+          let whole : left_of (choose byte p q (b ∷ rest))
+          ≡ left_of (q (b ∷ rest)) = ap left_of
+          (takes_false (b == byte) (mapped inl (p rest)) (mapped inr (q (b ∷ rest))) t)
+          ∙ left_mapped inr (q (b ∷ rest)) in
           omega (arith, less, whole)
     ]
 
-    fronts : (x : A ⊎ B) (front back : Fields) (rest : List ℕ) → Either HasA HasB x → either_fields (λ a. tag byte ∷ f a) g x ≡ front ++ back → AreStateBytes (joined front ++ rest) → left_of (choose byte p q (joined front ++ rest)) ≤ length rest
+    fronts : (x : A ⊎ B) (front back : Fields) (rest : List ℕ) → Either HasA HasB x
+        → either_fields (λ a. tag byte ∷ f a) g x ≡ front ++ back → AreStateBytes (joined front ++ rest)
+        → left_of (choose byte p q (joined front ++ rest)) ≤ length rest
     fronts x [] back rest h e b = ended rest b
     fronts (inl a) (v ∷ vs) back rest h e b =
         let head : v ≡ tag byte = cc in
@@ -455,20 +467,36 @@ choose-reader {A = A} {B = B} HasA HasB f g byte p q rp rq others = record { sou
         let same : (v ++ joined vs) ++ rest ≡ byte ∷ (joined vs ++ rest) = ap (λ (l : List ℕ). (l ++ joined vs) ++ rest) head in
         let bytes : AreStateBytes (byte ∷ (joined vs ++ rest)) = subst AreStateBytes same b in
         let less = rp.front a vs back rest h tail bytes.1 in
-        let whole : left_of (choose byte p q ((v ++ joined vs) ++ rest)) ≡ left_of (p (joined vs ++ rest)) = ap (λ (l : List ℕ). left_of (choose byte p q l)) same ∙ ap left_of (reads_first (joined vs ++ rest)) ∙ left_mapped inl (p (joined vs ++ rest)) in
+        let whole : left_of (choose byte p q ((v ++ joined vs) ++ rest))
+        ≡ left_of (p (joined vs ++ rest)) = ap (λ (l : List ℕ). left_of (choose byte p q l)) same
+        ∙ ap left_of (reads_first (joined vs ++ rest)) ∙ left_mapped inl (p (joined vs ++ rest)) in
         omega (arith, less, whole)
     fronts (inr x) (v ∷ vs) back rest h e b =
         let o = subst (StartsOther byte) e (others x) in
         let same : (v ++ joined vs) ++ rest ≡ o.0 ∷ (joined vs ++ rest) = ap (λ (l : List ℕ). (l ++ joined vs) ++ rest) o.1.0 in
         let less = rq.front x (v ∷ vs) back rest h e b in
         let there : left_of (q ((v ++ joined vs) ++ rest)) ≡ left_of (q (o.0 ∷ (joined vs ++ rest))) = ap (λ (l : List ℕ). left_of (q l)) same in
-        let whole : left_of (choose byte p q ((v ++ joined vs) ++ rest)) ≡ left_of (q (o.0 ∷ (joined vs ++ rest))) = ap (λ (l : List ℕ). left_of (choose byte p q l)) same ∙ ap left_of (reads_other o.0 (joined vs ++ rest) o.1.1) ∙ left_mapped inr (q (o.0 ∷ (joined vs ++ rest))) in
+        let whole : left_of (choose byte p q ((v ++ joined vs) ++ rest))
+        ≡ left_of (q (o.0 ∷ (joined vs ++ rest))) = ap (λ (l : List ℕ). left_of (choose byte p q l)) same
+        ∙ ap left_of (reads_other o.0 (joined vs ++ rest) o.1.1)
+        ∙ left_mapped inr (q (o.0 ∷ (joined vs ++ rest))) in
         omega (arith, less, there, whole)
 
     reach : (bytes : List ℕ) (left : ℕ) → AreStateBytes bytes → choose byte p q bytes ≡ Err left → Reaches (Either HasA HasB) (either_fields (λ a. tag byte ∷ f a) g) bytes left
     reach [] left h e =
         let s = some rp in
-        subst (Reaches (Either HasA HasB) (either_fields (λ a. tag byte ∷ f a) g) []) (err_is ((A ⊎ B) × List ℕ) 0 left e) (record { value = inl s.0; has = s.1; front = []; back = tag byte ∷ f s.0; rest = []; fields = refl; begins = refl; ends = refl })
+        subst (Reaches (Either HasA HasB) (either_fields (λ a. tag byte ∷ f a) g) [])
+        (err_is ((A ⊎ B) × List ℕ) 0 left e)
+        (record {
+          value = inl s.0;
+          has = s.1;
+          front = [];
+          back = tag byte ∷ f s.0;
+          rest = [];
+          fields = refl;
+          begins = refl;
+          ends = refl;
+        })
     reach (b ∷ rest) left h e = elim (tested (b == byte)) [
       | inl t ↦
           let s = rp.reach rest left h.1 (mapped_err inl (p rest) left (chosen_true (b == byte) (mapped inl (p rest)) (mapped inr (q (b ∷ rest))) (Err left) t e)) in
@@ -507,7 +535,9 @@ many-reader {A = A} Has f p zero r = record { sound = sound; again = again; fron
     fronts [] (v ∷ vs) back rest h e b = absurd cc
     fronts (a ∷ l) front back rest h e b = absurd cc
 many-reader {A = A} Has f p (suc n) r =
-    via-reader (λ (x : A × List A). Has x.0 × ((length x.1 ≡ n) × AllByRecursion Has x.1)) (λ x. f x.0 ++ flat_map f x.1) (λ (l : List A). (length l ≡ suc n) × AllByRecursion Has l) (flat_map f) (λ x. x.0 ∷ x.1) (both p (many n p))
+    via-reader (λ (x : A × List A). Has x.0 × ((length x.1 ≡ n) × AllByRecursion Has x.1))
+    (λ x. f x.0 ++ flat_map f x.1) (λ (l : List A). (length l ≡ suc n) × AllByRecursion Has l) (flat_map f)
+    (λ x. x.0 ∷ x.1) (both p (many n p))
     (followed-reader Has (λ a l. (length l ≡ n) × AllByRecursion Has l) f (λ a. flat_map f) p (λ a. many n p) r (λ a h. many-reader Has f p n r))
     (λ x h. ((ap suc h.1.0, (h.0, h.1.1)), refl))
     onto

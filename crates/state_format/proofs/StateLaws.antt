@@ -63,7 +63,16 @@ state_stops bytes left h e = elim (answered (parts_at bytes)) [
       let behind : length y.0.1 ≡ left = whole_err y.0 left there in
       record {
         none = none;
-        begins = record { state = y.0.0; form = sound.0; front = parts_fields y.0.0; back = []; rest = y.0.1; fields = sym (append-nil (parts_fields y.0.0)); begins = sound.1; ends = ends_at bytes _ y.0.1 left sound.1 behind };
+        begins = record {
+          state = y.0.0;
+          form = sound.0;
+          front = parts_fields y.0.0;
+          back = [];
+          rest = y.0.1;
+          fields = sym (append-nil (parts_fields y.0.0));
+          begins = sound.1;
+          ends = ends_at bytes _ y.0.1 left sound.1 behind;
+        };
         farthest = farthest_is bytes left h (ap left_of y.1 ∙ behind);
       }
   | inr y ↦

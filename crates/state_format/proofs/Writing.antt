@@ -15,7 +15,8 @@ taken_more f (y ∷ ys) (suc i) x h e =
     ∙ sym (append_assoc (joined (f y)) (joined (flat_map f (take i ys))) (joined (f x)))
     ∙ ap (λ (l : List ℕ). l ++ joined (f x)) (sym (joined_append (f y) (flat_map f (take i ys))))
 
-pub put_more : {A : Type 0} (f : A → Fields) (first old new : List ℕ) (xs : List A) (i : ℕ) (x : A) → old ≡ first ++ joined (flat_map f (take i xs)) → new ≡ old ++ joined (f x) → i < length xs → x ≡ get_or xs i x
+pub put_more : {A : Type 0} (f : A → Fields) (first old new : List ℕ) (xs : List A) (i : ℕ) (x : A)
+    → old ≡ first ++ joined (flat_map f (take i xs)) → new ≡ old ++ joined (f x) → i < length xs → x ≡ get_or xs i x
     → new ≡ first ++ joined (flat_map f (take (i + 1) xs))
 put_more f first old new xs i x before grown h e =
     grown ∙ ap (λ (l : List ℕ). l ++ joined (f x)) before ∙ append_assoc first _ _

@@ -74,7 +74,8 @@ cell_fields (cell.Effect e) = tag 0x10 ∷ effect_fields e
 cell_fields (cell.Event n) = tag 0x11 ∷ signed n ∷ []
 
 abbrev pub captured_fields : Captured → Fields
-captured_fields s = number 4 s.script ∷ number 4 s.place ∷ (list_of cell_fields s.globals ++ list_of cell_fields s.locals)
+captured_fields s = number 4 s.script ∷ number 4 s.place ∷
+    (list_of cell_fields s.globals ++ list_of cell_fields s.locals)
 
 abbrev pub variable_fields : Variable → Fields
 variable_fields (variable.Int name n) = tag 1 ∷ blob name ∷ signed n ∷ []
@@ -99,7 +100,8 @@ busy_fields true = tag 1 ∷ []
 
 abbrev pub object_fields : Object → Fields
 object_fields o =
-    busy_fields o.busy ++ (list_of variable_fields o.variables ++ (list_of standing_fields o.effects ++ list_of item_fields o.items))
+    busy_fields o.busy ++ (list_of variable_fields o.variables
+    ++ (list_of standing_fields o.effects ++ list_of item_fields o.items))
 
 abbrev pub kind_fields : KindPart → Fields
 kind_fields (kind.Event object script user) = tag 0 ∷ number 4 object ∷ blob script ∷ signed user ∷ []
@@ -126,10 +128,12 @@ count_fields s =
 
 -- what stands in front of the random numbers, and the rest
 abbrev pub first_fields : Parts → Fields
-first_fields s = magic ∷ (maybe_fields blob_fields s.header ++ (list_of script_fields s.scripts ++ (blob_fields s.area ++ count_fields s)))
+first_fields s = magic ∷ (maybe_fields blob_fields s.header
+    ++ (list_of script_fields s.scripts ++ (blob_fields s.area ++ count_fields s)))
 
 abbrev pub last_fields : Parts → Fields
-last_fields s = list_of (number_fields 4) s.random ++ (list_of object_fields s.objects ++ list_of entry_fields s.agenda)
+last_fields s = list_of (number_fields 4) s.random
+    ++ (list_of object_fields s.objects ++ list_of entry_fields s.agenda)
 
 unfoldable pub parts_fields : Parts → Fields
 parts_fields s = first_fields s ++ last_fields s

@@ -69,7 +69,8 @@ abbrev pub only : {A : Type 0} → ℕ → Reader A → Reader A
 only byte p bytes = byte_at bytes >>= λ b. (if b.0 == byte then p b.1 else Err (length bytes))
 
 abbrev pub choose : {A B : Type 0} → ℕ → Reader A → Reader B → Reader (A ⊎ B)
-choose byte p q bytes = byte_at bytes >>= λ b. (if b.0 == byte then mapped inl (p b.1) else mapped inr (q bytes))
+choose byte p q bytes = byte_at bytes >>= λ b.
+    (if b.0 == byte then mapped inl (p b.1) else mapped inr (q bytes))
 
 -- nothing
 abbrev pub nothing_at : Reader (Unit {0})
@@ -78,13 +79,15 @@ nothing_at bytes = Ok (tt, bytes)
 -- ---- fields
 
 unfoldable pub number_at : ℕ → Reader ℕ
-number_at size bytes = if nat_lt (length bytes) size then Err (length bytes) else Ok (little_number size bytes, drop size bytes)
+number_at size bytes = if nat_lt (length bytes) size then Err (length bytes) else Ok
+    (little_number size bytes, drop size bytes)
 
 abbrev pub signed_at : Reader ℤ
 signed_at bytes = mapped (cast_signed w32) (number_at 4 bytes)
 
 unfoldable pub blob_at : Reader (List ℕ)
-blob_at bytes = number_at 4 bytes >>= λ n. (if nat_lt (length n.1) n.0 then Err (length bytes) else Ok (take n.0 n.1, drop n.0 n.1))
+blob_at bytes = number_at 4 bytes >>= λ n.
+    (if nat_lt (length n.1) n.0 then Err (length bytes) else Ok (take n.0 n.1, drop n.0 n.1))
 
 unfoldable pub magic_at : Reader (Unit {0})
 magic_at bytes =
@@ -110,20 +113,24 @@ cell_of (inr (inr (inr (inl e)))) = cell.Effect e
 cell_of (inr (inr (inr (inr n)))) = cell.Event n
 
 unfoldable pub cell_at : Reader Cell
-cell_at bytes = mapped cell_of (choose 0x03 signed_at (choose 0x05 blob_at (choose 0x06 (number_at 4) (choose 0x10 effect_at (only 0x11 signed_at)))) bytes)
+cell_at bytes = mapped cell_of
+    (choose 0x03 signed_at (choose 0x05 blob_at
+    (choose 0x06 (number_at 4) (choose 0x10 effect_at (only 0x11 signed_at)))) bytes)
 
 abbrev pub captured_of : ℕ × (ℕ × (List Cell × List Cell)) → Captured
 captured_of x = record { script = x.0; place = x.1.0; globals = x.1.1.0; locals = x.1.1.1 }
 
 unfoldable pub captured_at : Reader Captured
-captured_at bytes = mapped captured_of (both (number_at 4) (both (number_at 4) (both (list_at cell_at) (list_at cell_at))) bytes)
+captured_at bytes = mapped captured_of
+    (both (number_at 4) (both (number_at 4) (both (list_at cell_at) (list_at cell_at))) bytes)
 
 abbrev pub variable_of : (List ℕ × ℤ) ⊎ (List ℕ × List ℕ) → Variable
 variable_of (inl x) = variable.Int x.0 x.1
 variable_of (inr x) = variable.Text x.0 x.1
 
 unfoldable pub variable_at : Reader Variable
-variable_at bytes = mapped variable_of (choose 1 (both blob_at signed_at) (only 3 (both blob_at blob_at)) bytes)
+variable_at bytes = mapped variable_of
+    (choose 1 (both blob_at signed_at) (only 3 (both blob_at blob_at)) bytes)
 
 abbrev pub maybe_of : {A : Type 0} → Unit {0} ⊎ A → Option A
 maybe_of (inl x) = None
@@ -157,7 +164,8 @@ abbrev pub object_of : Bool × (List Variable × (List Standing × List Item)) �
 object_of x = record { busy = x.0; variables = x.1.0; effects = x.1.1.0; items = x.1.1.1 }
 
 unfoldable pub object_at : Reader Object
-object_at bytes = mapped object_of (both busy_at (both (list_at variable_at) (both (list_at standing_at) (list_at item_at))) bytes)
+object_at bytes = mapped object_of
+    (both busy_at (both (list_at variable_at) (both (list_at standing_at) (list_at item_at))) bytes)
 
 abbrev pub kind_of : (ℕ × (List ℕ × ℤ)) ⊎ ((ℕ × Captured) ⊎ (ℕ ⊎ ℕ)) → KindPart
 kind_of (inl x) = kind.Event x.0 x.1.0 x.1.1
@@ -167,7 +175,9 @@ kind_of (inr (inr (inr o))) = kind.Unapply o
 
 unfoldable pub kind_at : Reader KindPart
 kind_at bytes =
-    mapped kind_of (choose 0 (both (number_at 4) (both blob_at signed_at)) (choose 1 (both (number_at 4) captured_at) (choose 2 (number_at 4) (only 3 (number_at 4)))) bytes)
+    mapped kind_of (choose 0 (both (number_at 4) (both blob_at signed_at))
+    (choose 1 (both (number_at 4) captured_at)
+    (choose 2 (number_at 4) (only 3 (number_at 4)))) bytes)
 
 abbrev pub entry_of : ℕ × (ℕ × KindPart) → Entry
 entry_of x = record { due = x.0; number = x.1.0; kind = x.1.1 }
@@ -197,9 +207,14 @@ counts_of x = record {
 
 unfoldable pub counts_at : Reader Counts
 counts_at bytes =
-    mapped counts_of (both (number_at 1) (both (number_at 8) (both (number_at 8) (both (number_at 8) (both (number_at 8) (both (number_at 8) (both (number_at 8) (number_at 8))))))) bytes)
+    mapped counts_of (both (number_at 1)
+    (both (number_at 8) (both (number_at 8)
+    (both (number_at 8) (both (number_at 8)
+    (both (number_at 8) (both (number_at 8) (number_at 8))))))) bytes)
 
-abbrev pub parts_of : Unit {0} × (Option (List ℕ) × (List Script × (List ℕ × (Counts × (List ℕ × (List Object × List Entry)))))) → Parts
+abbrev pub parts_of : Unit {0}
+    × (Option (List ℕ) × (List Script
+    × (List ℕ × (Counts × (List ℕ × (List Object × List Entry)))))) → Parts
 parts_of x =
     let c = x.1.1.1.1.0 in
     record {

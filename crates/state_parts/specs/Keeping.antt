@@ -11,13 +11,15 @@ use Rattle.delay_agenda.specs.declared.entry.Kind.{Kind}
 use Rattle.delay_agenda.specs.declared.entry.Kind.TheVariants.{Event, Stored, Turn, Unapply}
 
 -- a part tells a value, can be written, and has short texts
-pub record IsPartOf {A B : Type 0} (tells : B → A) (Is : B → Type 0) (is_short : B → Bool) (x : A) (p : B) : Type 0 where
+pub record IsPartOf {A B : Type 0} (tells : B → A) (Is : B → Type 0) (is_short : B → Bool) (x : A)
+    (p : B) : Type 0 where
   pub same : tells p ≡ x
   pub form : Is p
   pub short : IsTrue (is_short p)
 
 -- so do parts of so many values, one by one
-pub record ArePartsOf {A B : Type 0} (tells : B → A) (Is : B → Type 0) (is_short : B → Bool) (xs : List A) (ps : List B) : Type 0 where
+pub record ArePartsOf {A B : Type 0} (tells : B → A) (Is : B → Type 0) (is_short : B → Bool)
+    (xs : List A) (ps : List B) : Type 0 where
   pub same : map tells ps ≡ xs
   pub form : AllByRecursion Is ps
   pub short : IsTrue (list_all is_short ps)

@@ -9,39 +9,48 @@ use Rattle.state_parts.specs.Keeping.{IsPartOf, ArePartsOf}
 
 -- ---- lists, member by member
 
-taken_more : {A B : Type 0} (f : A → B) (xs : List A) (i : ℕ) (x : A) → i < length xs → x ≡ get_or xs i x → map f (take (suc i) xs) ≡ map f (take i xs) ++ f x ∷ []
+taken_more : {A B : Type 0} (f : A → B) (xs : List A) (i : ℕ) (x : A) → i < length xs
+    → x ≡ get_or xs i x → map f (take (suc i) xs) ≡ map f (take i xs) ++ f x ∷ []
 taken_more f [] i x h e = absurd (omega arith)
 taken_more f (y ∷ ys) zero x h e = ap (λ z. f z ∷ []) (sym e)
-taken_more f (y ∷ ys) (suc i) x h e = ap (λ (l : List _). f y ∷ l) (taken_more f ys i x (omega arith) e)
+taken_more f (y ∷ ys) (suc i) x h e = ap (λ (l : List _). f y ∷ l)
+    (taken_more f ys i x (omega arith) e)
 
 -- one member more of those that were made
-pub map_more : {A B : Type 0} (f : A → B) (xs : List A) (i : ℕ) (x : A) (y : B) (old new : List B) → old ≡ map f (take i xs) → new ≡ old ++ y ∷ [] → y ≡ f x
+pub map_more : {A B : Type 0} (f : A → B) (xs : List A) (i : ℕ) (x : A) (y : B) (old new : List B)
+    → old ≡ map f (take i xs) → new ≡ old ++ y ∷ [] → y ≡ f x
     → i < length xs → x ≡ get_or xs i x → new ≡ map f (take (i + 1) xs)
 map_more f xs i x y old new before grown is h e =
-    grown ∙ ap (λ (l : List _). l ++ y ∷ []) before ∙ ap (λ z. map f (take i xs) ++ z ∷ []) is ∙ sym (taken_more f xs i x h e)
+    grown ∙ ap (λ (l : List _). l ++ y ∷ []) before ∙ ap (λ z. map f (take i xs) ++ z ∷ []) is
+    ∙ sym (taken_more f xs i x h e)
     ∙ ap (λ (k : ℕ). map f (take k xs)) (sym (add-one i))
 
-drop_more : {A : Type 0} (xs : List A) (i : ℕ) (x : A) → i < length xs → x ≡ get_or xs i x → drop i xs ≡ x ∷ drop (suc i) xs
+drop_more : {A : Type 0} (xs : List A) (i : ℕ) (x : A) → i < length xs → x ≡ get_or xs i x
+    → drop i xs ≡ x ∷ drop (suc i) xs
 drop_more [] i x h e = absurd (omega arith)
 drop_more (y ∷ ys) zero x h e = ap (λ z. z ∷ ys) (sym e)
 drop_more (y ∷ ys) (suc i) x h e = drop_more ys i x (omega arith) e
 
 -- the rest from a member on
-pub drop_at : {A : Type 0} (xs : List A) (i : ℕ) (x : A) → i < length xs → x ≡ get_or xs i x → drop i xs ≡ x ∷ drop (i + 1) xs
+pub drop_at : {A : Type 0} (xs : List A) (i : ℕ) (x : A) → i < length xs → x ≡ get_or xs i x
+    → drop i xs ≡ x ∷ drop (i + 1) xs
 drop_at xs i x h e = drop_more xs i x h e ∙ ap (λ (k : ℕ). x ∷ drop k xs) (sym (add-one i))
 
-pub all_got : {A : Type 0} (P : A → Type 0) (xs : List A) (i : ℕ) (x : A) → AllByRecursion P xs → slice_get xs i ≡ Some x → P x
+pub all_got : {A : Type 0} (P : A → Type 0) (xs : List A) (i : ℕ) (x : A) → AllByRecursion P xs
+    → slice_get xs i ≡ Some x → P x
 all_got P [] i x all at = absurd cc
 all_got P (y ∷ xs) zero x all at = let same : y ≡ x = cc in subst P same all.0
 all_got P (y ∷ xs) (suc i) x all at = all_got P xs i x all.1 at
 
 -- ---- one more behind a list
 
-map_behind : {A B : Type 0} (f : B → A) (ps : List B) (p : B) (rest : List A) → map f (ps ++ p ∷ []) ++ rest ≡ map f ps ++ f p ∷ rest
+map_behind : {A B : Type 0} (f : B → A) (ps : List B) (p : B) (rest : List A)
+    → map f (ps ++ p ∷ []) ++ rest ≡ map f ps ++ f p ∷ rest
 map_behind f [] p rest = refl
 map_behind f (q ∷ ps) p rest = ap (λ (l : List _). f q ∷ l) (map_behind f ps p rest)
 
-pub all_behind : {B : Type 0} (P : B → Type 0) (ps : List B) (p : B) → AllByRecursion P ps → P p → AllByRecursion P (ps ++ p ∷ [])
+pub all_behind : {B : Type 0} (P : B → Type 0) (ps : List B) (p : B) → AllByRecursion P ps → P p
+    → AllByRecursion P (ps ++ p ∷ [])
 all_behind P [] p all is = (is, tt)
 all_behind P (q ∷ ps) p all is = (all.0, all_behind P ps p all.1 is)
 
@@ -57,15 +66,18 @@ right_of : (a b : Bool) → IsTrue (a && b) → IsTrue b
 right_of true b t = t
 right_of false b t = absurd cc
 
-pub test_behind : {B : Type 0} (t : B → Bool) (ps : List B) (p : B) → IsTrue (list_all t ps) → IsTrue (t p) → IsTrue (list_all t (ps ++ p ∷ []))
+pub test_behind : {B : Type 0} (t : B → Bool) (ps : List B) (p : B) → IsTrue (list_all t ps)
+    → IsTrue (t p) → IsTrue (list_all t (ps ++ p ∷ []))
 test_behind t [] p all is = both (t p) true is refl
-test_behind t (q ∷ ps) p all is = both (t q) (list_all t (ps ++ p ∷ [])) (left_of (t q) (list_all t ps) all) (test_behind t ps p (right_of (t q) (list_all t ps) all) is)
+test_behind t (q ∷ ps) p all is = both (t q) (list_all t (ps ++ p ∷ []))
+    (left_of (t q) (list_all t ps) all) (test_behind t ps p (right_of (t q) (list_all t ps) all) is)
 
 length_behind : {B : Type 0} (ps : List B) (p : B) → length (ps ++ p ∷ []) ≡ suc (length ps)
 length_behind [] p = refl
 length_behind (q ∷ ps) p = ap suc (length_behind ps p)
 
-pub count_more : {B : Type 0} (ps new : List B) (p : B) (i : ℕ) → length ps ≡ i → new ≡ ps ++ p ∷ [] → length new ≡ i + 1
+pub count_more : {B : Type 0} (ps new : List B) (p : B) (i : ℕ) → length ps ≡ i → new ≡ ps ++ p ∷ []
+    → length new ≡ i + 1
 count_more ps new p i is grown = ap length grown ∙ length_behind ps p ∙ ap suc is ∙ sym (add-one i)
 
 behind_none : {A : Type 0} (xs : List A) → xs ++ [] ≡ xs
@@ -75,17 +87,22 @@ behind_none (x ∷ xs) = ap (λ (l : List _). x ∷ l) (behind_none xs)
 -- ---- parts that are made
 
 -- parts of the values before the rest, so many
-pub record IsKeeping {A B : Type 0} (tells : B → A) (Is : B → Type 0) (is_short : B → Bool) (xs rest : List A) (i : ℕ) (ps : List B) : Type 0 where
+pub record IsKeeping {A B : Type 0} (tells : B → A) (Is : B → Type 0) (is_short : B → Bool)
+    (xs rest : List A) (i : ℕ) (ps : List B) : Type 0 where
   pub same : map tells ps ++ rest ≡ xs
   pub form : AllByRecursion Is ps
   pub short : IsTrue (list_all is_short ps)
   pub count : length ps ≡ i
 
-pub keep_none : {A B : Type 0} (tells : B → A) (Is : B → Type 0) (is_short : B → Bool) (xs : List A) (ps : List B) → ps ≡ [] → IsKeeping tells Is is_short xs xs 0 ps
-keep_none tells Is is_short xs ps none = subst (IsKeeping tells Is is_short xs xs 0) (sym none) (record { same = refl; form = tt; short = refl; count = refl })
+pub keep_none : {A B : Type 0} (tells : B → A) (Is : B → Type 0) (is_short : B → Bool) (xs : List A)
+    (ps : List B) → ps ≡ [] → IsKeeping tells Is is_short xs xs 0 ps
+keep_none tells Is is_short xs ps none = subst (IsKeeping tells Is is_short xs xs 0) (sym none)
+    (record { same = refl; form = tt; short = refl; count = refl })
 
-pub keep_more : {A B : Type 0} (tells : B → A) (Is : B → Type 0) (is_short : B → Bool) (xs : List A) (x : A) (rest : List A) (i : ℕ) (ps new : List B) (p : B)
-    → IsKeeping tells Is is_short xs (x ∷ rest) i ps → new ≡ ps ++ p ∷ [] → IsPartOf tells Is is_short x p → IsKeeping tells Is is_short xs rest (i + 1) new
+pub keep_more : {A B : Type 0} (tells : B → A) (Is : B → Type 0) (is_short : B → Bool) (xs : List A)
+    (x : A) (rest : List A) (i : ℕ) (ps new : List B) (p : B)
+    → IsKeeping tells Is is_short xs (x ∷ rest) i ps → new ≡ ps ++ p ∷ []
+    → IsPartOf tells Is is_short x p → IsKeeping tells Is is_short xs rest (i + 1) new
 keep_more tells Is is_short xs x rest i ps new p before grown is =
     subst (IsKeeping tells Is is_short xs rest (i + 1)) (sym grown) (record {
       same = map_behind tells ps p rest ∙ ap (λ z. map tells ps ++ z ∷ rest) is.same ∙ before.same;
@@ -94,39 +111,53 @@ keep_more tells Is is_short xs x rest i ps new p before grown is =
       count = length_behind ps p ∙ ap suc before.count ∙ sym (add-one i);
     })
 
-pub keep_at : {A B : Type 0} (tells : B → A) (Is : B → Type 0) (is_short : B → Bool) (xs : List A) (i : ℕ) (x : A) (ps new : List B) (p : B)
-    → IsKeeping tells Is is_short xs (drop i xs) i ps → new ≡ ps ++ p ∷ [] → IsPartOf tells Is is_short x p → i < length xs → x ≡ get_or xs i x
+pub keep_at : {A B : Type 0} (tells : B → A) (Is : B → Type 0) (is_short : B → Bool) (xs : List A)
+    (i : ℕ) (x : A) (ps new : List B) (p : B)
+    → IsKeeping tells Is is_short xs (drop i xs) i ps → new ≡ ps ++ p ∷ []
+    → IsPartOf tells Is is_short x p → i < length xs → x ≡ get_or xs i x
     → IsKeeping tells Is is_short xs (drop (i + 1) xs) (i + 1) new
 keep_at tells Is is_short xs i x ps new p before grown is h at =
-    keep_more tells Is is_short xs x (drop (i + 1) xs) i ps new p (subst (λ (l : List _). IsKeeping tells Is is_short xs l i ps) (drop_at xs i x h at) before) grown is
+    keep_more tells Is is_short xs x (drop (i + 1) xs) i ps new p
+    (subst (λ (l : List _). IsKeeping tells Is is_short xs l i ps)
+    (drop_at xs i x h at) before) grown is
 
 -- the same of a number, which is read by any default
-got_same : {A : Type 0} (xs : List A) (i : ℕ) (d e : A) → i < length xs → get_or xs i d ≡ get_or xs i e
+got_same : {A : Type 0} (xs : List A) (i : ℕ) (d e : A) → i < length xs
+    → get_or xs i d ≡ get_or xs i e
 got_same [] i d e h = absurd (omega arith)
 got_same (x ∷ xs) zero d e h = refl
 got_same (x ∷ xs) (suc i) d e h = got_same xs i d e (omega arith)
 
-pub keep_by : {A B : Type 0} (tells : B → A) (Is : B → Type 0) (is_short : B → Bool) (xs : List A) (i : ℕ) (d : A) (ps new : List B) (p : B)
-    → IsKeeping tells Is is_short xs (drop i xs) i ps → new ≡ ps ++ p ∷ [] → IsPartOf tells Is is_short (get_or xs i d) p → i < length xs
+pub keep_by : {A B : Type 0} (tells : B → A) (Is : B → Type 0) (is_short : B → Bool) (xs : List A)
+    (i : ℕ) (d : A) (ps new : List B) (p : B)
+    → IsKeeping tells Is is_short xs (drop i xs) i ps → new ≡ ps ++ p ∷ []
+    → IsPartOf tells Is is_short (get_or xs i d) p → i < length xs
     → IsKeeping tells Is is_short xs (drop (i + 1) xs) (i + 1) new
 keep_by tells Is is_short xs i d ps new p before grown is h =
-    keep_at tells Is is_short xs i (get_or xs i d) ps new p before grown is h (got_same xs i d (get_or xs i d) h)
+    keep_at tells Is is_short xs i (get_or xs i d) ps new p before grown is h
+    (got_same xs i d (get_or xs i d) h)
 
-pub keep_all : {A B : Type 0} (tells : B → A) (Is : B → Type 0) (is_short : B → Bool) (xs rest : List A) (i : ℕ) (ps : List B) → IsKeeping tells Is is_short xs rest i ps
+pub keep_all : {A B : Type 0} (tells : B → A) (Is : B → Type 0) (is_short : B → Bool)
+    (xs rest : List A) (i : ℕ) (ps : List B) → IsKeeping tells Is is_short xs rest i ps
     → rest ≡ [] → ArePartsOf tells Is is_short xs ps
 keep_all tells Is is_short xs rest i ps before end = record {
-  same = sym (behind_none (map tells ps)) ∙ ap (λ (l : List _). map tells ps ++ l) (sym end) ∙ before.same;
+  same = sym (behind_none (map tells ps)) ∙ ap (λ (l : List _). map tells ps ++ l) (sym end)
+      ∙ before.same;
   form = before.form;
   short = before.short;
 }
 
-pub keep_end : {A B : Type 0} (tells : B → A) (Is : B → Type 0) (is_short : B → Bool) (xs : List A) (i : ℕ) (ps : List B) → IsKeeping tells Is is_short xs (drop i xs) i ps
+pub keep_end : {A B : Type 0} (tells : B → A) (Is : B → Type 0) (is_short : B → Bool) (xs : List A)
+    (i : ℕ) (ps : List B) → IsKeeping tells Is is_short xs (drop i xs) i ps
     → length xs ≤ i → ArePartsOf tells Is is_short xs ps
-keep_end tells Is is_short xs i ps before end = keep_all tells Is is_short xs (drop i xs) i ps before (drop_all i xs end)
+keep_end tells Is is_short xs i ps before end = keep_all tells Is is_short xs
+    (drop i xs) i ps before (drop_all i xs end)
 
-pub keep_few : {A B : Type 0} (tells : B → A) (Is : B → Type 0) (is_short : B → Bool) (xs rest : List A) (i : ℕ) (ps : List B) → IsKeeping tells Is is_short xs rest i ps
+pub keep_few : {A B : Type 0} (tells : B → A) (Is : B → Type 0) (is_short : B → Bool)
+    (xs rest : List A) (i : ℕ) (ps : List B) → IsKeeping tells Is is_short xs rest i ps
     → i ≤ 4294967295 → IsNumber 4 (length ps)
-keep_few tells Is is_short xs rest i ps before few = subst (IsNumber 4) (sym before.count) (omega arith)
+keep_few tells Is is_short xs rest i ps before few = subst (IsNumber 4) (sym before.count)
+    (omega arith)
 
 pub map_same : {A : Type 0} (xs : List A) → map (λ x. x) xs ≡ xs
 map_same [] = refl

@@ -43,7 +43,12 @@ cell_part (Holds (value.Event n)) = cell.Event n
 cell_part (Base bp) = cell.Int (pos 0)
 
 abbrev pub saved_part : Saved → Captured
-saved_part s = record { script = s.script; place = s.place; globals = map cell_part s.globals; locals = map cell_part s.locals }
+saved_part s = record {
+  script = s.script;
+  place = s.place;
+  globals = map cell_part s.globals;
+  locals = map cell_part s.locals;
+}
 
 -- ---- objects
 

@@ -45,7 +45,12 @@ cell_of (cell.Effect e) = Holds (value.Effect (effect_of e))
 cell_of (cell.Event n) = Holds (value.Event n)
 
 abbrev pub saved_of : Captured → Saved
-saved_of c = record { script = c.script; place = c.place; globals = map cell_of c.globals; locals = map cell_of c.locals }
+saved_of c = record {
+  script = c.script;
+  place = c.place;
+  globals = map cell_of c.globals;
+  locals = map cell_of c.locals;
+}
 
 -- ---- objects
 
@@ -65,13 +70,17 @@ item_of (item.Wait ms) = Wait ms
 item_of (item.Speak text) = Speak text
 
 abbrev pub things_of : Object → Things Saved
-things_of o = record { queue = record { actions = map item_of o.items; busy = o.busy }; effects = map stood_of o.effects }
+things_of o = record {
+  queue = record { actions = map item_of o.items; busy = o.busy };
+  effects = map stood_of o.effects;
+}
 
 -- objects of an area, each with the variables of one of these in the place of its own
 abbrev pub with_variables : List AreaObject → List Object → List AreaObject
 with_variables [] parts = []
 with_variables (object ∷ objects) [] = object ∷ objects
-with_variables (object ∷ objects) (part ∷ parts) = record object { vars = variables_of part } ∷ with_variables objects parts
+with_variables (object ∷ objects)
+    (part ∷ parts) = record object { vars = variables_of part } ∷ with_variables objects parts
 
 -- ---- the agenda
 

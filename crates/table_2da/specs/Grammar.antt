@@ -31,11 +31,13 @@ IsSecond line = AreBlanks line ⊎ ((rest : List ℕ) × (line ≡ codes "DEFAUL
 -- no two names are the same
 unfoldable pub are_distinct : List (List ℕ) → Bool
 are_distinct [] = true
-are_distinct (name ∷ names) = not (list_any (λ other. same_name other name) names) && are_distinct names
+are_distinct (name ∷ names) = not (list_any (λ other. same_name other name) names)
+    && are_distinct names
 
 -- 1 to 1,024 distinct names
 unfoldable pub are_columns : List (List ℕ) → Bool
-are_columns names = nat_lt 0 (length names) && nat_le (length names) column_limit && are_distinct names
+are_columns names = nat_lt 0 (length names) && nat_le (length names) column_limit
+    && are_distinct names
 
 pub record IsColumns (line : List ℕ) (columns : List (List ℕ)) : Type 0 where
   pub says : Says Columns line columns
@@ -47,7 +49,8 @@ HasColumns line = (columns : List (List ℕ)) × IsColumns line columns
 -- ---- rows
 
 -- these cells, no more than there are columns, are one more row
-pub record AddsCells (width : ℕ) (rows : List (List (List ℕ))) (line : List ℕ) (after : List (List (List ℕ))) : Type 0 where
+pub record AddsCells (width : ℕ) (rows : List (List (List ℕ))) (line : List ℕ)
+    (after : List (List (List ℕ))) : Type 0 where
   pub cells : List (List ℕ)
   pub says : Says Row line cells
   pub few : length cells ≤ width
@@ -56,9 +59,11 @@ pub record AddsCells (width : ℕ) (rows : List (List (List ℕ))) (line : List 
 
 -- What a line adds to the rows. One without words adds nothing. A row's first word isn't used; the
 -- others are its cells.
-pub data Adds (width : ℕ) (rows : List (List (List ℕ))) : List ℕ → List (List (List ℕ)) → Type 0 where
+pub data Adds (width : ℕ) (rows : List (List (List ℕ))) : List ℕ → List (List (List ℕ))
+    → Type 0 where
   nothing : (line : List ℕ) → AreBlanks line → Adds width rows line rows
-  row : (line rest : List ℕ) (first : PlainWord) (after : List (List (List ℕ))) → BeginsWith line first rest → AddsCells width rows rest after
+  row : (line rest : List ℕ) (first : PlainWord) (after : List (List (List ℕ)))
+      → BeginsWith line first rest → AddsCells width rows rest after
       → Adds width rows line after
 
 -- no row goes on from here by this line
@@ -66,11 +71,15 @@ abbrev pub Baffles : ℕ → List (List (List ℕ)) → List ℕ → Type 0
 Baffles width rows line = (after : List (List (List ℕ))) → Adds width rows line after → ⊥
 
 -- the lines from the n-th give these rows, or one of this number is the first that breaks a rule
-pub data Follow (width : ℕ) : ℕ → List (List (List ℕ)) → List (List ℕ) → Result (List (List (List ℕ))) ℕ → Type 0 where
+pub data Follow (width : ℕ) : ℕ → List (List (List ℕ)) → List (List ℕ)
+    → Result (List (List (List ℕ))) ℕ → Type 0 where
   whole : (n : ℕ) (rows : List (List (List ℕ))) → Follow width n rows [] (Ok rows)
-  goes : (n : ℕ) (rows next : List (List (List ℕ))) (line : List ℕ) (lines : List (List ℕ)) (end : Result (List (List (List ℕ))) ℕ)
-      → Adds width rows line next → Follow width (n + 1) next lines end → Follow width n rows (line ∷ lines) end
-  stops : (n : ℕ) (rows : List (List (List ℕ))) (line : List ℕ) (lines : List (List ℕ)) → Baffles width rows line
+  goes : (n : ℕ) (rows next : List (List (List ℕ))) (line : List ℕ) (lines : List (List ℕ))
+      (end : Result (List (List (List ℕ))) ℕ)
+      → Adds width rows line next → Follow width (n + 1) next lines end
+      → Follow width n rows (line ∷ lines) end
+  stops : (n : ℕ) (rows : List (List (List ℕ))) (line : List ℕ) (lines : List (List ℕ))
+      → Baffles width rows line
       → Follow width n rows (line ∷ lines) (Err n)
 
 -- ---- the table
@@ -88,10 +97,13 @@ with_columns columns (Err n) = Err n
 -- missing
 pub data Gives : List (List ℕ) → Result PlainTable ℕ → Type 0 where
   headless : (lines : List (List ℕ)) → (FirstIs IsHeading lines → ⊥) → Gives lines (Err 1)
-  no_second : (heading : List ℕ) (lines : List (List ℕ)) → IsHeading heading → (FirstIs IsSecond lines → ⊥) → Gives (heading ∷ lines) (Err 2)
-  no_columns : (heading second : List ℕ) (lines : List (List ℕ)) → IsHeading heading → IsSecond second → (FirstIs HasColumns lines → ⊥)
+  no_second : (heading : List ℕ) (lines : List (List ℕ)) → IsHeading heading
+      → (FirstIs IsSecond lines → ⊥) → Gives (heading ∷ lines) (Err 2)
+  no_columns : (heading second : List ℕ) (lines : List (List ℕ)) → IsHeading heading
+      → IsSecond second → (FirstIs HasColumns lines → ⊥)
       → Gives (heading ∷ second ∷ lines) (Err 3)
-  headed : (heading second line : List ℕ) (lines columns : List (List ℕ)) (end : Result (List (List (List ℕ))) ℕ) → IsHeading heading
+  headed : (heading second line : List ℕ) (lines columns : List (List ℕ))
+      (end : Result (List (List (List ℕ))) ℕ) → IsHeading heading
       → IsSecond second → IsColumns line columns → Follow (length columns) 4 [] lines end
       → Gives (heading ∷ second ∷ line ∷ lines) (with_columns columns end)
 
@@ -110,5 +122,7 @@ IsFaulty bytes NoMemory = Unit {0}
 -- a file has one table or one first line that breaks a rule
 pub record OneTable : Type 0 where
   pub one_table : (bytes : List ℕ) (a b : PlainTable) → HasTable bytes a → HasTable bytes b → a ≡ b
-  pub one_fault : (bytes : List ℕ) (n m : ℕ) → IsFaulty bytes (Line n) → IsFaulty bytes (Line m) → n ≡ m
-  pub not_both : (bytes : List ℕ) (a : PlainTable) (n : ℕ) → HasTable bytes a → IsFaulty bytes (Line n) → ⊥
+  pub one_fault : (bytes : List ℕ) (n m : ℕ) → IsFaulty bytes (Line n)
+      → IsFaulty bytes (Line m) → n ≡ m
+  pub not_both : (bytes : List ℕ) (a : PlainTable) (n : ℕ) → HasTable bytes a
+      → IsFaulty bytes (Line n) → ⊥

@@ -35,7 +35,8 @@ TableStopsAt width lines NoMemory = Unit {0}
 
 -- lines behind the second make these ends, where the first two are what they should be
 abbrev pub ThirdOn : List (List ℕ) → Result PlainTable ℕ → Type 0
-ThirdOn lines end = (heading second : List ℕ) → IsHeading heading → IsSecond second → Gives (heading ∷ second ∷ lines) end
+ThirdOn lines end = (heading second : List ℕ) → IsHeading heading → IsSecond second
+    → Gives (heading ∷ second ∷ lines) end
 
 -- lines behind the first do, where that is a heading
 abbrev pub SecondOn : List (List ℕ) → Result PlainTable ℕ → Type 0

@@ -52,7 +52,8 @@ BeginsWith line (Quoted word) rest = IsQuotedBefore line word rest
 -- The line is made of these words. One in which a quote stays open is made of none.
 pub data Words : List ℕ → List PlainWord → Type 0 where
   none : (line : List ℕ) → AreBlanks line → Words line []
-  more : (line rest : List ℕ) (word : PlainWord) (words : List PlainWord) → BeginsWith line word rest → Words rest words
+  more : (line rest : List ℕ) (word : PlainWord) (words : List PlainWord)
+      → BeginsWith line word rest → Words rest words
       → Words line (word ∷ words)
 
 -- what a word says as the name of a column

@@ -10,7 +10,8 @@ told_beneath true before after noted P holds = holds
 told_beneath false before after noted P holds = (noted, holds)
 
 -- so is what holds where nothing is put
-pub told_nothing : (tells : Bool) (taken : List ℕ) (P : List ℕ → List ℕ → Type 0) → ((t : List ℕ) → P t t) → Told tells taken taken P
+pub told_nothing : (tells : Bool) (taken : List ℕ) (P : List ℕ → List ℕ → Type 0)
+    → ((t : List ℕ) → P t t) → Told tells taken taken P
 told_nothing true taken P holds = holds taken
 told_nothing false taken P holds = ([], holds [])
 
@@ -27,6 +28,7 @@ told_so true before after P Q follows told = follows before after told
 told_so false before after P Q follows told = follows [] told.0 told.1
 
 -- of a sink that tells, it is told of the bytes that it took
-pub told_taken : (tells : Bool) (before after : List ℕ) (P : List ℕ → List ℕ → Type 0) → IsTrue tells → Told tells before after P → P before after
+pub told_taken : (tells : Bool) (before after : List ℕ) (P : List ℕ → List ℕ → Type 0)
+    → IsTrue tells → Told tells before after P → P before after
 told_taken true before after P tells told = told
 told_taken false before after P tells told = absurd (false≢true tells)

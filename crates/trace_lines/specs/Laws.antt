@@ -15,16 +15,21 @@ use Rattle.trace_lines.specs.Lines.{newlines, HasPlainNames, AreOneLines}
 -- Where no routine's name has a newline, each line that a play tells is one line of text.
 abbrev pub PlaysTellLines : Type 0
 PlaysTellLines =
-    (scripts : List Script) (e : EngineView) (limit entries until : ℕ) (area : PlainArea) (random : List ℕ) (events : List Planned) (version : ℕ)
-    → HasPlainNames e.table → AreOneLines (code_play (host scripts e) limit entries until (new_world area random events version)).last.trace
+    (scripts : List Script) (e : EngineView) (limit entries until : ℕ) (area : PlainArea)
+    (random : List ℕ) (events : List Planned) (version : ℕ)
+    → HasPlainNames e.table → AreOneLines
+    (code_play (host scripts e) limit entries until
+    (new_world area random events version)).last.trace
 
 -- So the text of a trace has as many newlines as the trace has lines.
 abbrev pub NewlinesCountLines : Type 0
-NewlinesCountLines = (lines : List Line) → AreOneLines lines → newlines (trace_text lines) ≡ length lines
+NewlinesCountLines = (lines : List Line) → AreOneLines lines
+    → newlines (trace_text lines) ≡ length lines
 
 -- No function of a header has one: neither of a text that is one, nor of the built-in one.
 abbrev pub HeaderNamesArePlain : Type 0
-HeaderNamesArePlain = (bytes : List ℕ) (table : EngineTable) → HasTable bytes table → HasPlainNames table
+HeaderNamesArePlain = (bytes : List ℕ) (table : EngineTable) → HasTable bytes table
+    → HasPlainNames table
 
 abbrev pub BuiltInNamesArePlain : Type 0
 BuiltInNamesArePlain = HasPlainNames header_table

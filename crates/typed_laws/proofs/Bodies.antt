@@ -78,7 +78,9 @@ types_fit : (g : Head) → IsHead g → (s : Signature) → (o : Option Signatur
 types_fit g h s None same e = absurd (none-some (Some s) e)
 types_fit g h s (Some t) same e = h s (same ∙ same_Some _ _ e)
 
-first_by : (g : Head) → IsHead g → (s : Signature) (r : Option Head) → (types_of_head r ≡ Some (Some s) → AreSignatureParams s.params) → (b : Bool) → types_of_head (if b then Some g else r) ≡ Some (Some s) → AreSignatureParams s.params
+first_by : (g : Head) → IsHead g → (s : Signature) (r : Option Head)
+    → (types_of_head r ≡ Some (Some s) → AreSignatureParams s.params) → (b : Bool)
+    → types_of_head (if b then Some g else r) ≡ Some (Some s) → AreSignatureParams s.params
 first_by g h s r later true e = types_fit g h s g.types refl e
 first_by g h s r later false e = later e
 
@@ -297,11 +299,13 @@ head_is c t x ps bodied h e = of_rule e.typed.0 e.typed.1 e.typed.2 e.parts.0 e.
         }
 
 -- the types of the first declaration are these
-pub agreed : (c : Sight) (t : TypeName) (x : List ℕ) (ps : List SourceParameter) (bodied : Bool) (h : TypedHead) → IsDeclaredHead c t x ps bodied h → (s : Signature) → first_types x c.seen ≡ Some (Some s)
+pub agreed : (c : Sight) (t : TypeName) (x : List ℕ) (ps : List SourceParameter) (bodied : Bool) (h : TypedHead)
+    → IsDeclaredHead c t x ps bodied h → (s : Signature) → first_types x c.seen ≡ Some (Some s)
     → (s.result ≡ h.result) × (map (λ (p : Param). p.ty) s.params ≡ map (λ (p : Param). p.ty) (params_of h.params))
 agreed c t x ps bodied h d s e = of_first d.first d.first_is d.may
   where
-    of_first : (f : Option Signature) → first_types x c.seen ≡ Some f → may_declare c x bodied f h ≡ true → (s.result ≡ h.result) × (map (λ (p : Param). p.ty) s.params ≡ map (λ (p : Param). p.ty) (params_of h.params))
+    of_first : (f : Option Signature) → first_types x c.seen ≡ Some f → may_declare c x bodied f h ≡ true
+        → (s.result ≡ h.result) × (map (λ (p : Param). p.ty) s.params ≡ map (λ (p : Param). p.ty) (params_of h.params))
     of_first None is may = let never : Some s ≡ None = same_Some _ _ (sym e ∙ is) in absurd (none-some s (sym never))
     of_first (Some r) is may =
         let same : s ≡ r = same_Some _ _ (same_Some _ _ (sym e ∙ is)) in
@@ -379,13 +383,16 @@ same_function n m r s x y ps qs b d e = (cc, cc, cc)
 
 module _ (right : ItemsAreRight) (hs : List Head) where
   -- a function's declaration
-  after_function : (fs : List Function) (c : Sight) (n : ℕ) (t : TypeName) (x : List ℕ) (ps : List SourceParameter) (body : Option SourceStmts) (u : TypedItem) → TypesItem hs c (unit.function n t x ps body) u
+  after_function : (fs : List Function) (c : Sight) (n : ℕ) (t : TypeName) (x : List ℕ) (ps : List SourceParameter)
+      (body : Option SourceStmts) (u : TypedItem) → TypesItem hs c (unit.function n t x ps body) u
       → Fits (FunctionParts hs c t x ps body) (function_rule n x) u → Declared fs c.seen → Declared (fs ++ functions (u ∷ [])) (c.seen ++ head c t x ps (is_some body) ∷ [])
   after_function fs c n t x ps body u h f d =
       let p = f.typed in
       let own = head_is c t x ps (is_some body) p.0 f.parts.0 in
       let w = when_is (gives p.0.result p.1) (unit.function n p.0.result x p.0.params p.1) u f.gives in
-      let v = asked_is function_rows (function_rule n x) (two (fine (head_verdict c t x ps (is_some body))) (body_fine hs (in_body c t ps) body)) u ((right hs c (unit.function n t x ps body) u).1 h) in
+      let v = asked_is function_rows (function_rule n x)
+      (two (fine (head_verdict c t x ps (is_some body))) (body_fine hs (in_body c t ps) body)) u
+      ((right hs c (unit.function n t x ps body) u).1 h) in
       let a = v.0 in
       let b = two_is (fine (head_verdict c t x ps (is_some body))) (body_fine hs (in_body c t ps) body) a v.1 in
       let z = when_is (gives a.0.result a.1) (unit.function n a.0.result x a.0.params a.1) u v.2 in
@@ -423,13 +430,15 @@ module _ (right : ItemsAreRight) (hs : List Head) where
   pub after_all : (fs : List Function) (c : Sight) (is : List SourceItem) (ts : List TypedItem) → TypesItems hs c is ts → Declared fs c.seen → Declared (fs ++ functions ts) (after_items c is).seen
   after_all fs c is ts (rules.TypesItems.none e) d = subst (λ (ys : List Function). Declared ys c.seen) (sym (no_more fs)) d
   after_all fs c is ts (rules.TypesItems.more e {i = unit.structure n x ls} {is = js} {ts = us} (rules.TypesItem.structure m y f) k) d = after_all fs (after_item c (unit.structure n x ls)) js us k d
-  after_all fs c is ts (rules.TypesItems.more e {i = unit.constant n t x v} {is = js} {ts = us} (rules.TypesItem.constant m s y w f) k) d = after_all fs (after_item c (unit.constant n t x v)) js us k d
+  after_all fs c is ts (rules.TypesItems.more e {i = unit.constant n t x v} {is = js} {ts = us}
+      (rules.TypesItem.constant m s y w f) k) d = after_all fs (after_item c (unit.constant n t x v)) js us k d
   after_all fs c is ts (rules.TypesItems.more e {i = unit.global n t ds} {is = js} {ts = us} (rules.TypesItem.global m s f g) k) d =
       after_all fs (after_item c (unit.global n t ds)) js us k (subst (Declared fs) (sym (names_seen_same c (line_type c.structs t) ds)) d)
   after_all fs c is ts (rules.TypesItems.more e {i = unit.function n t x ps body} {is = js} {t = u} {ts = us} (rules.TypesItem.function m s y qs b f) k) d =
       let one = after_function fs c n t x ps body u (rules.TypesItem.function m s y qs b f) f d in
       let rest = after_all (fs ++ functions (u ∷ [])) (after_item c (unit.function n t x ps body)) js us k one in
-      subst (λ (ys : List Function). Declared ys (after_items (after_item c (unit.function n t x ps body)) js).seen) (append_assoc fs (functions (u ∷ [])) (functions us) ∙ ap (λ r. fs ++ r) (functions_split u us)) rest
+      subst (λ (ys : List Function). Declared ys (after_items (after_item c (unit.function n t x ps body)) js).seen)
+      (append_assoc fs (functions (u ∷ [])) (functions us) ∙ ap (λ r. fs ++ r) (functions_split u us)) rest
     where
       functions_split : (u : TypedItem) (us : List TypedItem) → functions (u ∷ []) ++ functions us ≡ functions (u ∷ us)
       functions_split (unit.structure n x ls) us = refl

@@ -104,7 +104,9 @@ DefaultsFit (p ∷ ps) = DefaultFits p.default p.ty × DefaultsFit ps
 abbrev DefaultsAre : Option Const → Option (List Const) → Option (List Const)
 DefaultsAre o r = option_and_then (λ k. option_map (λ js. k ∷ js) r) o
 
-typed_by : (t : Ty) (ts : List Ty) (o : Option Const) (r : Option (List Const)) (ks : List Const) → DefaultFits o t → ((js : List Const) → r ≡ Some js → map const_type js ≡ ts) → DefaultsAre o r ≡ Some ks → map const_type ks ≡ t ∷ ts
+typed_by : (t : Ty) (ts : List Ty) (o : Option Const) (r : Option (List Const)) (ks : List Const) → DefaultFits o t
+    → ((js : List Const) → r ≡ Some js → map const_type js ≡ ts) → DefaultsAre o r ≡ Some ks
+    → map const_type ks ≡ t ∷ ts
 typed_by t ts None r ks g later e = absurd (none-some ks e)
 typed_by t ts (Some k) None ks g later e = absurd (none-some ks e)
 typed_by t ts (Some k) (Some js) ks g later e =
@@ -144,7 +146,8 @@ const_no_void (const.Text bytes) = refl
 const_no_void const.SelfObject = refl
 const_no_void const.InvalidObject = refl
 
-void_by : (p : Param) (ps : List Param) (o : Option Const) (r : Option (List Const)) (ks : List Const) → DefaultFits o p.ty → ((js : List Const) → r ≡ Some js → NoVoids ps) → DefaultsAre o r ≡ Some ks → NoVoids (p ∷ ps)
+void_by : (p : Param) (ps : List Param) (o : Option Const) (r : Option (List Const)) (ks : List Const)
+    → DefaultFits o p.ty → ((js : List Const) → r ≡ Some js → NoVoids ps) → DefaultsAre o r ≡ Some ks → NoVoids (p ∷ ps)
 void_by p ps None r ks g later e = absurd (none-some ks e)
 void_by p ps (Some k) None ks g later e = absurd (none-some ks e)
 void_by p ps (Some k) (Some js) ks g later e = (ap is_void (sym g) ∙ const_no_void k, later js refl)
@@ -313,7 +316,9 @@ no_void_call hs c file flag (rules.Types.call b n f {ts = ts} {d = Some d} {t = 
     by true is_so g =
         let k1 = both_are d.is_callable (not (c.at_file && is_barred b d) && all_taken ts d.params) is_so in
         let k2 = both_are (not (c.at_file && is_barred b d)) (all_taken ts d.params) k1.1 in
-        let opened : (true && is_barred true d) ≡ false = ap (λ (z : Bool). z && is_barred true d) (sym file) ∙ ap (λ (z : Bool). c.at_file && is_barred z d) (sym flag) ∙ not_is (c.at_file && is_barred b d) k2.0 in
+        let opened : (true && is_barred true d)
+        ≡ false = ap (λ (z : Bool). z && is_barred true d) (sym file)
+        ∙ ap (λ (z : Bool). c.at_file && is_barred z d) (sym flag) ∙ not_is (c.at_file && is_barred b d) k2.0 in
         mapped (λ (ks : List Const). call d.result d.callee ts ks) (filled ts d.params) t g (λ ks. barred_void d opened)
 no_void_call hs c file flag (rules.Types.member b n y {u = u} {t = t} h k) = mapped (λ (m : Member). member m.ty u m.before) (member_at y (members_in c.structs (type_of u))) t k (λ m. refl)
 no_void_call hs c file flag (rules.Types.prefix b n o {u = u} {t = t} h k) = of_when (is_int (type_of u) && (not (is_step o) || is_place u)) (prefix Int o u) t k refl
@@ -364,7 +369,9 @@ module _ (x : Site) (table : EngineTable) (kept : IsTable table) (few : (r : Rou
             values = values_taken es s.params (signature_actions s.params fits) taken';
           })
 
-      of_engine : (n : ℕ) (r : Routine) → slice_get table.routines n ≡ Some r → (record { callee = Engine n; params = r.params; result = r.result; is_callable = is_callable_role r.role }) ≡ d → IsCall table x.layout.structs fs d.result d.callee es ks
+      of_engine : (n : ℕ) (r : Routine) → slice_get table.routines n ≡ Some r
+          → (record { callee = Engine n; params = r.params; result = r.result; is_callable = is_callable_role r.role })
+          ≡ d → IsCall table x.layout.structs fs d.result d.callee es ks
       of_engine n r there same =
           let k = routine_kept table.routines n r kept.routines there in
           let taken' = ap (λ (g : Called). all_taken es g.params) same ∙ taken in
@@ -382,7 +389,9 @@ module _ (x : Site) (table : EngineTable) (kept : IsTable table) (few : (r : Rou
             actions = few r k can';
           })
 
-      of_first : (o : Option (Option Signature)) → has_body f hs ≡ true → first_types f hs ≡ o → option_map (option_map (of_signature (body_number f hs))) o ≡ Some (Some d) → IsCall table x.layout.structs fs d.result d.callee es ks
+      of_first : (o : Option (Option Signature)) → has_body f hs ≡ true → first_types f hs ≡ o
+          → option_map (option_map (of_signature (body_number f hs))) o ≡ Some (Some d)
+          → IsCall table x.layout.structs fs d.result d.callee es ks
       of_first None has first g = absurd (none-some (Some d) g)
       of_first (Some None) has first g = absurd (none-some d (same_Some _ _ g))
       of_first (Some (Some s)) has first g = of_unit s has first (same_Some _ _ (same_Some _ _ g))
@@ -395,16 +404,21 @@ module _ (x : Site) (table : EngineTable) (kept : IsTable table) (few : (r : Rou
       of_named None g = absurd (none-some d (same_Some _ _ g))
       of_named (Some n) g = of_got n (slice_get table.routines n) refl (same_Some _ _ g)
 
-      by : (b : Bool) → has_body f hs ≡ b → (if b then option_map (option_map (of_signature (body_number f hs))) (first_types f hs) else Some (routine_called table.routines (routine_named f table.routines))) ≡ Some (Some d)
+      by : (b : Bool) → has_body f hs ≡ b
+          → (if b then option_map (option_map (of_signature (body_number f hs))) (first_types f hs) else Some
+          (routine_called table.routines (routine_named f table.routines))) ≡ Some (Some d)
           → IsCall table x.layout.structs fs d.result d.callee es ks
       by true has g = of_first (first_types f hs) has refl g
       by false isnt g = of_named (routine_named f table.routines) g
 
   -- a member of a struct
-  member_fine : (scope : List ℕ) (c : Sight) (y : List ℕ) (u t : TypedExpr) → Sees x table result file scope c → IsFine table fs x scope u → member_rule c.structs y u ≡ Some t → IsFine table fs x scope t
+  member_fine : (scope : List ℕ) (c : Sight) (y : List ℕ) (u t : TypedExpr) → Sees x table result file scope c
+      → IsFine table fs x scope u → member_rule c.structs y u ≡ Some t → IsFine table fs x scope t
   member_fine scope c y u t s fine h = by (type_of u) refl h
     where
-      of_member : (n : ℕ) (r : Structure) (mem : Members) (m : Member) → type_of u ≡ Struct n → slice_get c.structs n ≡ Some r → r.members ≡ Some mem → find_member y mem.fields ≡ Some m → IsFine table fs x scope (member m.ty u m.before)
+      of_member : (n : ℕ) (r : Structure) (mem : Members) (m : Member) → type_of u ≡ Struct n
+          → slice_get c.structs n ≡ Some r → r.members ≡ Some mem → find_member y mem.fields ≡ Some m
+          → IsFine table fs x scope (member m.ty u m.before)
       of_member n r mem m same there is found =
           let k = s.structs n r there in
           let one : k.members ≡ mem = same_Some _ _ (sym k.is ∙ is) in
@@ -421,16 +435,22 @@ module _ (x : Site) (table : EngineTable) (kept : IsTable table) (few : (r : Rou
           } in
           (fine, subst (λ (v : Ty). AreParts (cell_types x.layout.structs v) m.before (cell_types x.layout.structs m.ty)) (sym same) (record { are = f.are; inside = f.inside; some = f.some }), field)
 
-      of_found : (n : ℕ) (r : Structure) (mem : Members) (o : Option Member) → type_of u ≡ Struct n → slice_get c.structs n ≡ Some r → r.members ≡ Some mem → find_member y mem.fields ≡ o → option_map (λ (m : Member). member m.ty u m.before) o ≡ Some t
+      of_found : (n : ℕ) (r : Structure) (mem : Members) (o : Option Member) → type_of u ≡ Struct n
+          → slice_get c.structs n ≡ Some r → r.members ≡ Some mem → find_member y mem.fields ≡ o
+          → option_map (λ (m : Member). member m.ty u m.before) o ≡ Some t
           → IsFine table fs x scope t
       of_found n r mem None same there is found g = absurd (none-some t g)
       of_found n r mem (Some m) same there is found g = subst (IsFine table fs x scope) (same_Some _ _ g) (of_member n r mem m same there is found)
 
-      of_members : (n : ℕ) (r : Structure) (o : Option Members) → type_of u ≡ Struct n → slice_get c.structs n ≡ Some r → r.members ≡ o → option_map (λ (m : Member). member m.ty u m.before) (member_at y o) ≡ Some t → IsFine table fs x scope t
+      of_members : (n : ℕ) (r : Structure) (o : Option Members) → type_of u ≡ Struct n → slice_get c.structs n ≡ Some r
+          → r.members ≡ o → option_map (λ (m : Member). member m.ty u m.before) (member_at y o) ≡ Some t
+          → IsFine table fs x scope t
       of_members n r None same there is g = absurd (none-some t g)
       of_members n r (Some mem) same there is g = of_found n r mem (find_member y mem.fields) same there is refl g
 
-      of_struct : (n : ℕ) (o : Option Structure) → type_of u ≡ Struct n → slice_get c.structs n ≡ o → option_map (λ (m : Member). member m.ty u m.before) (member_at y (members_of o)) ≡ Some t → IsFine table fs x scope t
+      of_struct : (n : ℕ) (o : Option Structure) → type_of u ≡ Struct n → slice_get c.structs n ≡ o
+          → option_map (λ (m : Member). member m.ty u m.before) (member_at y (members_of o)) ≡ Some t
+          → IsFine table fs x scope t
       of_struct n None same there g = absurd (none-some t g)
       of_struct n (Some r) same there g = of_members n r r.members same there refl g
 
@@ -456,7 +476,9 @@ module _ (x : Site) (table : EngineTable) (kept : IsTable table) (few : (r : Rou
   place_needed true place h s = h
   place_needed false place h s = absurd cc
 
-  of_call : (scope : List ℕ) (f : List ℕ) (ts : TypedExprs) (d : Called) (t : TypedExpr) (b at_file : Bool) → at_file ≡ file → callee hs table f ≡ Some (Some d) → (all_taken ts d.params ≡ true → AreFine table fs x scope ts)
+  of_call : (scope : List ℕ) (f : List ℕ) (ts : TypedExprs) (d : Called) (t : TypedExpr) (b at_file : Bool)
+      → at_file ≡ file → callee hs table f ≡ Some (Some d)
+      → (all_taken ts d.params ≡ true → AreFine table fs x scope ts)
       → call_of at_file b ts (Some d) ≡ Some t → IsFine table fs x scope t
   of_call scope f ts d t b at_file same_file is fine r = by (d.is_callable && (not (at_file && is_barred b d) && all_taken ts d.params)) refl r
     where
@@ -466,7 +488,9 @@ module _ (x : Site) (table : EngineTable) (kept : IsTable table) (few : (r : Rou
           let never : (true || (b && is_void d.result)) ≡ false = ap (λ (z : Bool). z || (b && is_void d.result)) (sym is_unit) ∙ not_is (is_barred b d) opened in
           absurd cc
 
-      of_filled : (o : Option (List Const)) → filled ts d.params ≡ o → d.is_callable ≡ true → all_taken ts d.params ≡ true → (is_of_unit d.callee ≡ true → file ≡ false) → option_map (λ (ks : List Const). call d.result d.callee ts ks) o ≡ Some t → IsFine table fs x scope t
+      of_filled : (o : Option (List Const)) → filled ts d.params ≡ o → d.is_callable ≡ true
+          → all_taken ts d.params ≡ true → (is_of_unit d.callee ≡ true → file ≡ false)
+          → option_map (λ (ks : List Const). call d.result d.callee ts ks) o ≡ Some t → IsFine table fs x scope t
       of_filled None full can taken inside g = absurd (none-some t g)
       of_filled (Some ks) full can taken inside g = subst (IsFine table fs x scope) (same_Some _ _ g) (call_is f d ts ks is can taken full inside, fine taken)
 
@@ -485,7 +509,10 @@ module _ (x : Site) (table : EngineTable) (kept : IsTable table) (few : (r : Rou
     expr_fine scope c s (rules.Types.object_invalid b n) = tt
     expr_fine scope c s (rules.Types.name b n y {m = None} {t = t} h k) = absurd (none-some t k)
     expr_fine scope c s (rules.Types.name b n y {m = Some m} h k) =
-        subst (IsFine table fs x scope) (same_Some _ _ k) (name_fine scope c.at_file m s.inside (subst (λ (b : Bool). IsMeaning x b scope m) (sym s.inside) (name_seen x file scope table result c s y m h)))
+        subst (IsFine table fs x scope) (same_Some _ _ k)
+        (name_fine scope c.at_file m s.inside
+        (subst (λ (b : Bool). IsMeaning x b scope m) (sym s.inside)
+        (name_seen x file scope table result c s y m h)))
     expr_fine scope c s (rules.Types.call b n f {ts = ts} {d = None} {t = t} h k r) = absurd (none-some t r)
     expr_fine scope c s (rules.Types.call b n f {es = es} {ts = ts} {d = Some d} {t = t} h k r) =
         of_call scope f ts d t b c.at_file s.inside (subst (λ (g : EngineTable). callee hs g f ≡ Some (Some d)) s.table_is k)
@@ -502,13 +529,17 @@ module _ (x : Site) (table : EngineTable) (kept : IsTable table) (few : (r : Rou
     expr_fine scope c s (rules.Types.binary b n o {u = u} {v = v} {t = t} h k r) =
         of_binary (binary_type o (type_of u) (type_of v)) refl r (expr_fine scope c s h) (expr_fine scope c s k)
       where
-        of_binary : (p : Option Ty) → binary_type o (type_of u) (type_of v) ≡ p → option_map (λ (w : Ty). binary w o u v) p ≡ Some t → IsFine table fs x scope u → IsFine table fs x scope v → IsFine table fs x scope t
+        of_binary : (p : Option Ty) → binary_type o (type_of u) (type_of v) ≡ p
+            → option_map (λ (w : Ty). binary w o u v) p ≡ Some t → IsFine table fs x scope u → IsFine table fs x scope v
+            → IsFine table fs x scope t
         of_binary None same g f1 f2 = absurd (none-some t g)
         of_binary (Some w) same g f1 f2 = subst (IsFine table fs x scope) (same_Some _ _ g) (f1, f2, same)
     expr_fine scope c s (rules.Types.assign b n o {u = u} {v = v} {t = t} h k r) =
         of_place (is_place u) refl r (expr_fine scope c s h) (expr_fine scope c s k)
       where
-        of_assigned : (p : Option Ty) → is_place u ≡ true → assigned_type o (type_of u) (type_of v) ≡ p → option_map (λ (w : Ty). assign w o u v) p ≡ Some t → IsFine table fs x scope u → IsFine table fs x scope v → IsFine table fs x scope t
+        of_assigned : (p : Option Ty) → is_place u ≡ true → assigned_type o (type_of u) (type_of v) ≡ p
+            → option_map (λ (w : Ty). assign w o u v) p ≡ Some t → IsFine table fs x scope u → IsFine table fs x scope v
+            → IsFine table fs x scope t
         of_assigned None place same g f1 f2 = absurd (none-some t g)
         of_assigned (Some w) place same g f1 f2 = subst (IsFine table fs x scope) (same_Some _ _ g) (f1, f2, place, same)
 
@@ -516,7 +547,9 @@ module _ (x : Site) (table : EngineTable) (kept : IsTable table) (few : (r : Rou
         of_place true place g f1 f2 = of_assigned (assigned_type o (type_of u) (type_of v)) place refl g f1 f2
         of_place false place g f1 f2 = absurd (none-some t g)
 
-    arguments_fine : (scope : List ℕ) (c : Sight) → Sees x table result file scope c → {ps : List Param} {es : PlainExprs} {ts : TypedExprs} → AllTypes hs c ps es ts → (qs : List Param) → ps ≡ qs → all_taken ts qs ≡ true
+    arguments_fine : (scope : List ℕ) (c : Sight) → Sees x table result file scope c
+        → {ps : List Param} {es : PlainExprs} {ts : TypedExprs} → AllTypes hs c ps es ts → (qs : List Param) → ps ≡ qs
+        → all_taken ts qs ≡ true
         → AreFine table fs x scope ts
     arguments_fine scope c s (rules.AllTypes.none ps) qs same taken = tt
     arguments_fine scope c s (rules.AllTypes.more ps h k) [] same taken = absurd cc

@@ -85,13 +85,17 @@ early_type structs known ss Refused g e d = refl
 abbrev AreLines : Structs → List Structure → List TypedLine → Type 0
 AreLines structs ss ls = AllByRecursion (λ (l : TypedLine). IsDeclared structs ss l.ty) ls
 
-early_lines : (structs known : Structs) (ss : List Structure) (ls : List TypedLine) → Grows known structs → length known ≡ length ss → AreLines structs ss ls → flat_map (line_cells known) ls ≡ flat_map (line_cells structs) ls
+early_lines : (structs known : Structs) (ss : List Structure) (ls : List TypedLine) → Grows known structs
+    → length known ≡ length ss → AreLines structs ss ls
+    → flat_map (line_cells known) ls ≡ flat_map (line_cells structs) ls
 early_lines structs known ss [] g e d = refl
 early_lines structs known ss (l ∷ ls) g e d =
     ap (λ (part : List Ty). flat_map (λ (x : Identifier). part) l.names ++ flat_map (line_cells known) ls) (early_type structs known ss l.ty g e d.0)
     ∙ ap (λ (rest : List Ty). line_cells structs l ++ rest) (early_lines structs known ss ls g e d.1)
 
-lines_declared : (structs : Structs) (fields_of : List (List Ty)) (ss : List Structure) → AreStructs structs fields_of ss → (s : Fields) (ls : List SourceLine) (us : List TypedLine) → TypesLines ss s ls us → AreLines structs ss us
+lines_declared : (structs : Structs) (fields_of : List (List Ty)) (ss : List Structure)
+    → AreStructs structs fields_of ss → (s : Fields) (ls : List SourceLine) (us : List TypedLine)
+    → TypesLines ss s ls us → AreLines structs ss us
 lines_declared structs fields_of ss known s ls us (rules.TypesLines.none z) = tt
 lines_declared structs fields_of ss known s ls us (rules.TypesLines.more z {l = l} {ls = ms} {u = u} {us = vs} h k) =
     (declared_is structs fields_of ss known l.ty h.line.typed u.ty h.line.parts h.line.gives, lines_declared structs fields_of ss known _ ms vs k)
@@ -103,7 +107,8 @@ names_long structs t ss s o xs ys (rules.TypesFields.more z p {y = y} {ys = zs} 
     let l = length-append (cell_types structs t) (flat_map (λ (x : Identifier). cell_types structs t) zs) in
     omega (arith, l, some)
 
-lines_long : (structs : Structs) (ss : List Structure) (s : Fields) (ls : List SourceLine) (us : List TypedLine) → TypesLines ss s ls us → HasField ls → AreLines structs ss us → 0 < length (flat_map (line_cells structs) us)
+lines_long : (structs : Structs) (ss : List Structure) (s : Fields) (ls : List SourceLine) (us : List TypedLine)
+    → TypesLines ss s ls us → HasField ls → AreLines structs ss us → 0 < length (flat_map (line_cells structs) us)
 lines_long structs ss s ls us (rules.TypesLines.none z) has d = absurd has
 lines_long structs ss s ls us (rules.TypesLines.more z {l = l} {u = u} {us = vs} h k) has d =
     let l1 = length-append (line_cells structs u) (flat_map (line_cells structs) vs) in
@@ -151,7 +156,8 @@ struct_listed x known n y us ts a count same =
     ap (λ (all : List (List Ty)). slice_get all count) a.2 ∙ ap (slice_get (a.0 ++ field_types us ∷ struct_fields ts)) (sym (a.3 ∙ same)) ∙ at_front a.0 (field_types us) (struct_fields ts)
 
 -- behind a struct
-ahead_on : (x : Site) (known : Structs) (n : ℕ) (y : List ℕ) (us : List TypedLine) (ts : List TypedItem) → Ahead x known (unit.structure n y us ∷ ts) → Ahead x (known ++ flat_map (line_cells known) us ∷ []) ts
+ahead_on : (x : Site) (known : Structs) (n : ℕ) (y : List ℕ) (us : List TypedLine) (ts : List TypedItem)
+    → Ahead x known (unit.structure n y us ∷ ts) → Ahead x (known ++ flat_map (line_cells known) us ∷ []) ts
 ahead_on x known n y us ts a =
     let own = flat_map (line_cells known) us in
     let one = length-append a.0 (field_types us ∷ []) in
@@ -160,7 +166,9 @@ ahead_on x known n y us ts a =
     (a.0 ++ field_types us ∷ [], a.1, a.2 ∙ sym (append_assoc a.0 (field_types us ∷ []) (struct_fields ts)), omega (arith, one, two, same))
 
 -- a struct
-struct_seen : ItemsAreRight → (x : Site) (table : EngineTable) (hs : List Head) (scope : List ℕ) (known : Structs) (c : Sight) → Files x table scope c known → (n : ℕ) (y : List ℕ) (ls : List SourceLine) (us : List TypedLine)
+struct_seen : ItemsAreRight
+    → (x : Site) (table : EngineTable) (hs : List Head) (scope : List ℕ) (known : Structs) (c : Sight)
+    → Files x table scope c known → (n : ℕ) (y : List ℕ) (ls : List SourceLine) (us : List TypedLine)
     → TypesItem hs c (unit.structure n y ls) (unit.structure n y us) → Fits (TypesLines c.structs no_fields ls) (struct_rule c.structs y) us → HasField ls
     → Grows (known ++ flat_map (line_cells known) us ∷ []) x.layout.structs → slice_get x.fields (length c.structs) ≡ Some (field_types us)
     → Files x table scope (after_item c (unit.structure n y ls)) (known ++ flat_map (line_cells known) us ∷ [])
@@ -204,7 +212,9 @@ struct_seen right x table hs scope known c s n y ls us h f has g listed =
         (subst (IsStruct x.layout.structs x.fields (length c.structs)) (ap (structure_with y c.structs) (sym is) ∙ e.1) made)
 
 -- a constant
-constant_seen : (x : Site) (table : EngineTable) (scope : List ℕ) (known : Structs) (c : Sight) → Files x table scope c known → (n : ℕ) (t : TypeName) (y : Identifier) (k : Constant) → Files x table scope (after_item c (unit.constant n t y k)) known
+constant_seen : (x : Site) (table : EngineTable) (scope : List ℕ) (known : Structs) (c : Sight)
+    → Files x table scope c known → (n : ℕ) (t : TypeName) (y : Identifier) (k : Constant)
+    → Files x table scope (after_item c (unit.constant n t y k)) known
 constant_seen x table scope known c s n t y k = record {
   sees = record {
     names = all_last (IsSeen (making x) true scope) c.names (record { called = y.name; means = option_map constant_meaning (fine (constant_name_verdict c t y.name k)) }) s.sees.names
@@ -273,13 +283,17 @@ pub record ItemLaid (x : Site) (globals : ℕ) (t : TypedItem) : Type 0 where
 
 laid_item : (x : Site) (g : ℕ) (t : TypedItem) (ts : List TypedItem) → ItemsLaid x g (t ∷ ts) → ItemLaid x g t × ItemsLaid x (g + item_cells x.layout.structs t) ts
 laid_item x g t ts l =
-    let p = split_map (position x.layout) (item_numbers t) (items_numbers ts) (item_positions x.layout.structs g t) (items_positions x.layout.structs (g + item_cells x.layout.structs t) ts) l.places (item_as_many x.layout.structs g t) in
+    let p = split_map (position x.layout) (item_numbers t) (items_numbers ts) (item_positions x.layout.structs g t)
+    (items_positions x.layout.structs (g + item_cells x.layout.structs t) ts) l.places
+    (item_as_many x.layout.structs g t) in
     let q = split_map x.types (item_numbers t) (items_numbers ts) (item_types t) (items_types ts) l.types (item_types_many t) in
     (record { places = p.0; types = q.0 }, record { places = p.1; types = q.1 })
 
 -- ---- parameters
 
-are_parameters : (x : Site) (ps : List TypedParameter) → map (position x.layout) (map number_of_parameter ps) ≡ params_positions x.layout.structs ps → map x.types (map number_of_parameter ps) ≡ map type_of_parameter ps → AreParameters x ps
+are_parameters : (x : Site) (ps : List TypedParameter)
+    → map (position x.layout) (map number_of_parameter ps) ≡ params_positions x.layout.structs ps
+    → map x.types (map number_of_parameter ps) ≡ map type_of_parameter ps → AreParameters x ps
 are_parameters x [] places types = tt
 are_parameters x (p ∷ ps) places types =
     let place : position x.layout p.name.number ≡ params_cells x.layout.structs ps = cc in
@@ -288,7 +302,9 @@ are_parameters x (p ∷ ps) places types =
     let types' : map x.types (map number_of_parameter ps) ≡ map type_of_parameter ps = cc in
     (place, type, are_parameters x ps places' types')
 
-params_seen : (x : Site) (table : EngineTable) (result : Ty) (scope : List ℕ) (c : Sight) → Sees x table result false scope c → (late : Bool) (ps : List SourceParameter) (us : List TypedParameter) → TypesParams c late ps us → AreParameters x us
+params_seen : (x : Site) (table : EngineTable) (result : Ty) (scope : List ℕ) (c : Sight)
+    → Sees x table result false scope c → (late : Bool) (ps : List SourceParameter) (us : List TypedParameter)
+    → TypesParams c late ps us → AreParameters x us
     → ((n : ℕ) → In n (parameter_names us) → In n scope) → Sees x table result false scope (after_params c ps)
 params_seen x table result scope c s late ps us (rules.TypesParams.none d l) are within = s
 params_seen x table result scope c s late ps us (rules.TypesParams.more d l {p = p} {ps = qs} {t = t} {ts = ts} f k) are within =
@@ -363,7 +379,9 @@ module _ (x : Site) (table : EngineTable) (kept : IsTable table) (few : (r : Rou
   not_inside : {A : Type 0} → true ≡ false → A
   not_inside h = absurd cc
 
-  pub globals_are : (scope : List ℕ) (known : Structs) (c : Sight) → Files x table scope c known → (g n : ℕ) (t : TypeName) (ds : List SourceDeclared) (u : Ty) (us : List TypedName) → TypesNames hs c (line_type c.structs t) ds us
+  pub globals_are : (scope : List ℕ) (known : Structs) (c : Sight) → Files x table scope c known
+      → (g n : ℕ) (t : TypeName) (ds : List SourceDeclared) (u : Ty) (us : List TypedName)
+      → TypesNames hs c (line_type c.structs t) ds us
       → ItemLaid x g (unit.global n u us) → ((n : ℕ) → In n (map number_of us) → In n x.globals) → IsLine x table g scope us known (after_names c (line_type c.structs t) ds)
   globals_are scope known c s g n t ds u us h l within =
       let value = line_value (making x) table kept few [] hs heads true not_inside not_inside Void c scope s.sees t in
@@ -384,14 +402,20 @@ module _ (x : Site) (table : EngineTable) (kept : IsTable table) (few : (r : Rou
 module _ (right : ItemsAreRight) (x : Site) (table : EngineTable) (kept : IsTable table)
     (few : (r : Routine) → IsRoutine r → is_callable_role r.role ≡ true → action_count r.params ≤ 1)
     (fs : List Function) (hs : List Head) (heads : AreHeads hs) (all : AreBodies fs hs) (made : x.layout.globals ≡ x.bp) where
-  function_is : (scope : List ℕ) (known : Structs) (c : Sight) → Files x table scope c known → (g n : ℕ) (t : TypeName) (y : List ℕ) (ps : List SourceParameter) (xs : SourceStmts) (h : TypedHead) (ts : TypedStmts)
+  function_is : (scope : List ℕ) (known : Structs) (c : Sight) → Files x table scope c known
+      → (g n : ℕ) (t : TypeName) (y : List ℕ) (ps : List SourceParameter) (xs : SourceStmts) (h : TypedHead)
+      (ts : TypedStmts)
       → IsDeclaredHead c t y ps true h → IsMadeBody (Some xs) → rules.TypesStmts hs (in_body c t ps) xs ts → ItemLaid x g (unit.function n h.result y h.params (Some ts))
       → IsBody table fs x (record { result = h.result; parameters = h.params; body = ts })
   function_is scope known c s g n t y ps xs h ts d made_body typed l =
       let structs = x.layout.structs in
       let size = params_cells structs h.params in
-      let p = split_map (position x.layout) (map number_of_parameter h.params) (all_numbers ts) (params_positions structs h.params) (all_positions structs size ts) l.places (params_as_many structs h.params) in
-      let q = split_map x.types (map number_of_parameter h.params) (all_numbers ts) (map type_of_parameter h.params) (all_declared_types ts) l.types (length-map h.params type_of_parameter ∙ sym (length-map h.params number_of_parameter)) in
+      let p = split_map (position x.layout) (map number_of_parameter h.params) (all_numbers ts)
+      (params_positions structs h.params) (all_positions structs size ts) l.places
+      (params_as_many structs h.params) in
+      let q = split_map x.types (map number_of_parameter h.params) (all_numbers ts) (map type_of_parameter h.params)
+      (all_declared_types ts) l.types
+      (length-map h.params type_of_parameter ∙ sym (length-map h.params number_of_parameter)) in
       let are = are_parameters x h.params p.0 q.0 in
       let own = parameter_names h.params in
       let gives : result_type c.structs t ≡ Some h.result = ap (option_and_then any_type) d.means ∙ d.result in
@@ -421,21 +445,33 @@ module _ (right : ItemsAreRight) (x : Site) (table : EngineTable) (kept : IsTabl
       by_void true e value = subst (λ (u : Ty). AllByRecursion IsCell (cell_types x.layout.structs u)) (sym (void_is h.result e)) tt
       by_void false e value = (value e).kinds
 
-  pub bodies_are : (scope : List ℕ) (known : Structs) (c : Sight) → Files x table scope c known → (g : ℕ) (is : List SourceItem) (ts : List TypedItem) → AreMadeItems is → TypesItems hs c is ts → Ahead x known ts
+  pub bodies_are : (scope : List ℕ) (known : Structs) (c : Sight) → Files x table scope c known
+      → (g : ℕ) (is : List SourceItem) (ts : List TypedItem) → AreMadeItems is → TypesItems hs c is ts
+      → Ahead x known ts
       → ItemsLaid x g ts → ((n : ℕ) → In n (map number_of (global_names ts)) → In n x.globals) → (f : ℕ) (fn : Function) → slice_get (functions ts) f ≡ Some fn → IsBody table fs x fn
   bodies_are scope known c s g is ts m (rules.TypesItems.none e) all_structs l within f fn there = absurd (none-some fn there)
   bodies_are scope known c s g is ts m (rules.TypesItems.more e {i = unit.structure n y ls} {is = js} {ts = us} (rules.TypesItem.structure k z {us = vs} h) r) all_structs l within f fn there =
       let own = flat_map (line_cells known) vs in
       let grows = grown (known ++ own ∷ []) us in
-      let now = struct_seen right x table hs scope known c s n y ls vs (rules.TypesItem.structure k z h) h m.0 (record { more = grows.more; is = sym all_structs.1 ∙ grows.is }) (struct_listed x known n y vs us all_structs (length c.structs) s.count) in
-      bodies_are scope (known ++ own ∷ []) (after_item c (unit.structure n y ls)) now (g + 0) js us m.1 r (ahead_on x known n y vs us all_structs) (laid_item x g (unit.structure n y vs) us l).1 within f fn there
-  bodies_are scope known c s g is ts m (rules.TypesItems.more e {i = unit.constant n t y v} {is = js} {ts = us} (rules.TypesItem.constant k w z o {s = u} {v = b} h) r) all_structs l within f fn there =
-      bodies_are scope known (after_item c (unit.constant n t y v)) (constant_seen x table scope known c s n t y v) (g + 0) js us m.1 r all_structs (laid_item x g (unit.constant n u y b) us l).1 within f fn there
+      let now = struct_seen right x table hs scope known c s n y ls vs (rules.TypesItem.structure k z h) h m.0
+      (record { more = grows.more; is = sym all_structs.1 ∙ grows.is })
+      (struct_listed x known n y vs us all_structs (length c.structs) s.count) in
+      bodies_are scope (known ++ own ∷ []) (after_item c (unit.structure n y ls)) now (g + 0) js us m.1 r
+      (ahead_on x known n y vs us all_structs) (laid_item x g (unit.structure n y vs) us l).1 within f fn there
+  bodies_are scope known c s g is ts m
+      (rules.TypesItems.more e {i = unit.constant n t y v} {is = js} {ts = us}
+      (rules.TypesItem.constant k w z o {s = u} {v = b} h) r) all_structs l within f fn there =
+      bodies_are scope known (after_item c (unit.constant n t y v)) (constant_seen x table scope known c s n t y v)
+      (g + 0) js us m.1 r all_structs (laid_item x g (unit.constant n u y b) us l).1 within f fn there
   bodies_are scope known c s g is ts m (rules.TypesItems.more e {i = unit.global n t ds} {is = js} {ts = us} (rules.TypesItem.global k w {s = u} {us = vs} h o) r) all_structs l within f fn there =
       let here = laid_item x g (unit.global n u vs) us l in
       let line = globals_are x table kept few hs heads scope known c s g n t ds u vs o here.0 (λ i j. within i (in_left i vs (global_names us) j)) in
-      bodies_are (scope_after vs scope) known (after_item c (unit.global n t ds)) line.seen (g + item_cells x.layout.structs (unit.global n u vs)) js us m.1 r all_structs here.1 (λ i j. within i (in_right i vs (global_names us) j)) f fn there
-  bodies_are scope known c s g is ts m (rules.TypesItems.more e {i = unit.function n t y ps body} {is = js} {t = v} {ts = us} (rules.TypesItem.function k w z qs o h) r) all_structs l within f fn there =
+      bodies_are (scope_after vs scope) known (after_item c (unit.global n t ds)) line.seen
+      (g + item_cells x.layout.structs (unit.global n u vs)) js us m.1 r all_structs here.1
+      (λ i j. within i (in_right i vs (global_names us) j)) f fn there
+  bodies_are scope known c s g is ts m
+      (rules.TypesItems.more e {i = unit.function n t y ps body} {is = js} {t = v} {ts = us}
+      (rules.TypesItem.function k w z qs o h) r) all_structs l within f fn there =
       let p = h.typed in
       let w1 = when_is (gives p.0.result p.1) (unit.function n p.0.result y p.0.params p.1) v h.gives in
       let now : Files x table scope (after_item c (unit.function n t y ps body)) known =
@@ -480,21 +516,32 @@ same_depth x table g scope us h = let e : g + 0 ≡ g = omega arith in subst (λ
 module _ (right : ItemsAreRight) (x : Site) (table : EngineTable) (kept : IsTable table)
     (few : (r : Routine) → IsRoutine r → is_callable_role r.role ≡ true → action_count r.params ≤ 1)
     (hs : List Head) (heads : AreHeads hs) where
-  pub all_globals : (scope : List ℕ) (known : Structs) (c : Sight) → Files x table scope c known → (g : ℕ) (is : List SourceItem) (ts : List TypedItem) → AreMadeItems is → TypesItems hs c is ts → Ahead x known ts
+  pub all_globals : (scope : List ℕ) (known : Structs) (c : Sight) → Files x table scope c known
+      → (g : ℕ) (is : List SourceItem) (ts : List TypedItem) → AreMadeItems is → TypesItems hs c is ts
+      → Ahead x known ts
       → ItemsLaid x g ts → ((n : ℕ) → In n (map number_of (global_names ts)) → In n x.globals) → AreFineNames table [] (making x) Void g scope (global_names ts)
   all_globals scope known c s g is ts m (rules.TypesItems.none e) all_structs l within = tt
   all_globals scope known c s g is ts m (rules.TypesItems.more e {i = unit.structure n y ls} {is = js} {ts = us} (rules.TypesItem.structure k z {us = vs} h) r) all_structs l within =
       let own = flat_map (line_cells known) vs in
       let grows = grown (known ++ own ∷ []) us in
-      let now = struct_seen right x table hs scope known c s n y ls vs (rules.TypesItem.structure k z h) h m.0 (record { more = grows.more; is = sym all_structs.1 ∙ grows.is }) (struct_listed x known n y vs us all_structs (length c.structs) s.count) in
-      same_depth x table g scope (global_names us) (all_globals scope (known ++ own ∷ []) (after_item c (unit.structure n y ls)) now (g + 0) js us m.1 r (ahead_on x known n y vs us all_structs) (laid_item x g (unit.structure n y vs) us l).1 within)
+      let now = struct_seen right x table hs scope known c s n y ls vs (rules.TypesItem.structure k z h) h m.0
+      (record { more = grows.more; is = sym all_structs.1 ∙ grows.is })
+      (struct_listed x known n y vs us all_structs (length c.structs) s.count) in
+      same_depth x table g scope (global_names us)
+      (all_globals scope (known ++ own ∷ []) (after_item c (unit.structure n y ls)) now (g + 0) js us m.1 r
+      (ahead_on x known n y vs us all_structs) (laid_item x g (unit.structure n y vs) us l).1 within)
   all_globals scope known c s g is ts m (rules.TypesItems.more e {i = unit.constant n t y v} {is = js} {ts = us} (rules.TypesItem.constant k w z o {s = u} {v = b} h) r) all_structs l within =
-      same_depth x table g scope (global_names us) (all_globals scope known (after_item c (unit.constant n t y v)) (constant_seen x table scope known c s n t y v) (g + 0) js us m.1 r all_structs (laid_item x g (unit.constant n u y b) us l).1 within)
+      same_depth x table g scope (global_names us)
+      (all_globals scope known (after_item c (unit.constant n t y v))
+      (constant_seen x table scope known c s n t y v) (g + 0) js us m.1 r all_structs
+      (laid_item x g (unit.constant n u y b) us l).1 within)
   all_globals scope known c s g is ts m (rules.TypesItems.more e {i = unit.global n t ds} {is = js} {ts = us} (rules.TypesItem.global k w {s = u} {us = vs} h o) r) all_structs l within =
       let here = laid_item x g (unit.global n u vs) us l in
       let line = globals_are x table kept few hs heads scope known c s g n t ds u vs o here.0 (λ i j. within i (in_left i vs (global_names us) j)) in
       fine_joined x table g scope vs (global_names us) line.are
-      (all_globals (scope_after vs scope) known (after_item c (unit.global n t ds)) line.seen (g + item_cells x.layout.structs (unit.global n u vs)) js us m.1 r all_structs here.1 (λ i j. within i (in_right i vs (global_names us) j)))
+      (all_globals (scope_after vs scope) known (after_item c (unit.global n t ds)) line.seen
+      (g + item_cells x.layout.structs (unit.global n u vs)) js us m.1 r all_structs here.1
+      (λ i j. within i (in_right i vs (global_names us) j)))
   all_globals scope known c s g is ts m (rules.TypesItems.more e {i = unit.function n t y ps body} {is = js} {t = v} {ts = us} (rules.TypesItem.function k w z qs o h) r) all_structs l within =
       let p = h.typed in
       let w1 = when_is (gives p.0.result p.1) (unit.function n p.0.result y p.0.params p.1) v h.gives in

@@ -98,7 +98,9 @@ module _ (right : ItemsAreRight) (numbered : NumberedInOrder) (positions : Posit
   laid = record { places = positions table tree u typed; types = types_by_number u (in_all variables_of tree.items) (numbered table tree u typed) }
 
   pub body_is : (f : ℕ) (fn : Function) → slice_get (functions u.items) f ≡ Some fn → IsBody table (functions u.items) x fn
-  body_is f fn there = bodies_are right x table kept few (functions u.items) hs all_declared.heads all_declared.are refl [] [] (start table) at_start 0 tree.items u.items (items_made parses.items) typed.items ([], refl, refl, refl) laid (λ n i. i) f fn there
+  body_is f fn there = bodies_are right x table kept few
+      (functions u.items) hs all_declared.heads all_declared.are refl [] [] (start table) at_start 0 tree.items u.items
+      (items_made parses.items) typed.items ([], refl, refl, refl) laid (λ n i. i) f fn there
 
   pub globals_fine : AreFineNames table [] (making x) Void 0 [] (global_names u.items)
   globals_fine = all_globals right x table kept few hs all_declared.heads [] [] (start table) at_start 0 tree.items u.items (items_made parses.items) typed.items ([], refl, refl, refl) laid (λ n i. i)

@@ -121,7 +121,9 @@ pub record AllLaid (x : Site) (depth : ℕ) (ts : TypedStmts) : Type 0 where
 
 laid_first : (x : Site) (depth : ℕ) (t : TypedStmt) (ts : TypedStmts) → AllLaid x depth (more_stmts t ts) → AreLaid x depth t × AllLaid x (depth + declared_cells x.layout.structs t) ts
 laid_first x depth t ts l =
-    let p = split_map (position x.layout) (numbers t) (all_numbers ts) (positions x.layout.structs depth t) (all_positions x.layout.structs (depth + declared_cells x.layout.structs t) ts) l.places (positions_many x.layout.structs depth t) in
+    let p = split_map (position x.layout) (numbers t) (all_numbers ts) (positions x.layout.structs depth t)
+    (all_positions x.layout.structs (depth + declared_cells x.layout.structs t) ts) l.places
+    (positions_many x.layout.structs depth t) in
     let q = split_map x.types (numbers t) (all_numbers ts) (declared_types t) (all_declared_types ts) l.types (types_many t) in
     (record { places = p.0; types = q.0 }, record { places = p.1; types = q.1 })
 
@@ -165,16 +167,36 @@ module _ (hs : List Head) where
   stays_out c (rules.TypesStmt.block d n h) out = record { no_label = refl; still = out }
   stays_out c (rules.TypesStmt.empty d n) out = record { no_label = refl; still = out }
   stays_out c (rules.TypesStmt.expression d n h) out = record { no_label = refl; still = out }
-  stays_out c (rules.TypesStmt.if_only d n {t = e} {u = u} {s = s} h k r) out = record { no_label = subst (λ t. is_label t ≡ false) (when_is (is_int (type_of e)) (if_only n e u) s r).1 refl; still = out }
-  stays_out c (rules.TypesStmt.if_else d n {t = e} {u = u} {v = v} {s = s} h k l r) out = record { no_label = subst (λ t. is_label t ≡ false) (when_is (is_int (type_of e)) (if_else n e u v) s r).1 refl; still = out }
-  stays_out c (rules.TypesStmt.while_loop d n {t = e} {u = u} {s = s} h k r) out = record { no_label = subst (λ t. is_label t ≡ false) (when_is (is_int (type_of e)) (while_loop n e u) s r).1 refl; still = out }
-  stays_out c (rules.TypesStmt.do_loop d n {u = u} {s = s} {t = e} h k r) out = record { no_label = subst (λ t. is_label t ≡ false) (when_is (is_int (type_of e)) (do_loop n u e) s r).1 refl; still = out }
+  stays_out c (rules.TypesStmt.if_only d n {t = e} {u = u} {s = s} h k r) out = record {
+    no_label = subst
+        (λ t. is_label t ≡ false) (when_is (is_int (type_of e)) (if_only n e u) s r).1 refl;
+    still = out;
+  }
+  stays_out c (rules.TypesStmt.if_else d n {t = e} {u = u} {v = v} {s = s} h k l r) out = record {
+    no_label = subst
+        (λ t. is_label t ≡ false) (when_is (is_int (type_of e)) (if_else n e u v) s r).1 refl;
+    still = out;
+  }
+  stays_out c (rules.TypesStmt.while_loop d n {t = e} {u = u} {s = s} h k r) out = record {
+    no_label = subst
+        (λ t. is_label t ≡ false) (when_is (is_int (type_of e)) (while_loop n e u) s r).1 refl;
+    still = out;
+  }
+  stays_out c (rules.TypesStmt.do_loop d n {u = u} {s = s} {t = e} h k r) out = record {
+    no_label = subst
+        (λ t. is_label t ≡ false) (when_is (is_int (type_of e)) (do_loop n u e) s r).1 refl;
+    still = out;
+  }
   stays_out c (rules.TypesStmt.for_loop d n {t = t} {u = u} {v = v} {w = w} {s = s} h k l m r) out = record { no_label = subst (λ t. is_label t ≡ false) (when_is (is_condition u) (for_loop n t u v w) s r).1 refl; still = out }
   stays_out c (rules.TypesStmt.switch d n {t = e} {ts = ts} {s = s} h k r) out =
       record { no_label = subst (λ t. is_label t ≡ false) (when_is (is_int (type_of e) && not (crosses_with d 1)) (switch n e ts) s r).1 refl; still = out }
   stays_out c (rules.TypesStmt.break_off d n {s = s} r) out = record { no_label = subst (λ t. is_label t ≡ false) (when_is d.may_break (break_off n) s r).1 refl; still = out }
   stays_out c (rules.TypesStmt.continue_on d n {s = s} r) out = record { no_label = subst (λ t. is_label t ≡ false) (when_is d.in_loop (continue_on n) s r).1 refl; still = out }
-  stays_out c (rules.TypesStmt.return_from d n {r = r} {t = t} {s = s} h k g) out = record { no_label = subst (λ t. is_label t ≡ false) (when_is (result_fits r t) (return_from n t) s g).1 refl; still = out }
+  stays_out c (rules.TypesStmt.return_from d n {r = r} {t = t} {s = s} h k g) out = record {
+    no_label = subst
+        (λ t. is_label t ≡ false) (when_is (result_fits r t) (return_from n t) s g).1 refl;
+    still = out;
+  }
   stays_out c (rules.TypesStmt.declaration d n t {ds = ds} h k) out = record { no_label = refl; still = late_outside (verdicts.after_names c (line_type c.structs t) ds).labels }
   stays_out c (rules.TypesStmt.case_label d n {v = v} {s = s} h r) out =
       let w = when_is (not (is_again c.labels v) && (not (is_outside c.labels) && is_int (const_type v))) (case_label n v) s r in
@@ -227,7 +249,8 @@ all_in_sight : (x : Site) (file : Bool) (scope : List ℕ) (n : ℕ) (es : List 
 all_in_sight x file scope n [] h = tt
 all_in_sight x file scope n (e ∷ es) h = ((λ m same. more_in_sight x file scope n m (h.0 m same)), all_in_sight x file scope n es h.1)
 
-pub declared_seen : (x : Site) (table : EngineTable) (result : Ty) (file : Bool) (scope : List ℕ) (c : Sight) → Sees x table result file scope c → (y : List ℕ) (t : Option Ty) (u : Ty) (n : ℕ) → t ≡ Some u → c.next ≡ n
+pub declared_seen : (x : Site) (table : EngineTable) (result : Ty) (file : Bool) (scope : List ℕ) (c : Sight)
+    → Sees x table result file scope c → (y : List ℕ) (t : Option Ty) (u : Ty) (n : ℕ) → t ≡ Some u → c.next ≡ n
     → IsValueType x.layout.structs u → x.types n ≡ u → Sees x table result file (n ∷ scope) (declared c y t)
 declared_seen x table result file scope c s y t u n is number value typed = record {
   names = all_last (IsSeen x file (n ∷ scope)) c.names (record { called = y; means = option_map (variable_of c) t }) (all_in_sight x file scope n c.names s.names) new;
@@ -256,11 +279,15 @@ module _ (x : Site) (table : EngineTable) (kept : IsTable table) (few : (r : Rou
   maybe_fine scope c s absent = tt
   maybe_fine scope c s (present h) = fine_expr scope c s h
 
-  test_fine : (scope : List ℕ) (c : Sight) → Sees x table result file scope c → {o : Option PlainExpr} {p : Option TypedExpr} → There (TypesValue hs c) o p → is_condition p ≡ true → IsFineTest table fs x result scope p
+  test_fine : (scope : List ℕ) (c : Sight) → Sees x table result file scope c
+      → {o : Option PlainExpr} {p : Option TypedExpr} → There (TypesValue hs c) o p → is_condition p ≡ true
+      → IsFineTest table fs x result scope p
   test_fine scope c s absent i = tt
   test_fine scope c s (present {b = e} h) i = (fine_expr scope c s h, int_is (type_of e) i)
 
-  value_fine : (scope : List ℕ) (c : Sight) → Sees x table result file scope c → (t : Ty) → IsValueType x.layout.structs t → {o : Option PlainExpr} {p : Option TypedExpr} → There (TypesValue hs c) o p → value_fits t p ≡ true → IsFineValue table fs x result scope t p
+  value_fine : (scope : List ℕ) (c : Sight) → Sees x table result file scope c → (t : Ty)
+      → IsValueType x.layout.structs t → {o : Option PlainExpr} {p : Option TypedExpr} → There (TypesValue hs c) o p
+      → value_fits t p ≡ true → IsFineValue table fs x result scope t p
   value_fine scope c s t v absent i = v.kinds
   value_fine scope c s t v (present {b = e} h) i = (fine_expr scope c s h, sym (same_type_is t (type_of e) i))
 
@@ -268,13 +295,17 @@ module _ (x : Site) (table : EngineTable) (kept : IsTable table) (few : (r : Rou
     pub are : AreFineNames table fs x result depth scope us
     pub seen : Sees x table result file (after_names us scope) (verdicts.after_names c t ds)
 
-  pub names_seen : (scope : List ℕ) (depth : ℕ) (c : Sight) → Sees x table result file scope c → (t : Option Ty) → ((u : Ty) → t ≡ Some u → IsValueType x.layout.structs u) → (ds : List SourceDeclared) (us : List TypedName)
-      → TypesNames hs c t ds us → map (position x.layout) (map number_of us) ≡ names_positions x.layout.structs depth us → map x.types (map number_of us) ≡ map type_of_name us → NamesSeen scope depth c t ds us
+  pub names_seen : (scope : List ℕ) (depth : ℕ) (c : Sight) → Sees x table result file scope c → (t : Option Ty)
+      → ((u : Ty) → t ≡ Some u → IsValueType x.layout.structs u) → (ds : List SourceDeclared) (us : List TypedName)
+      → TypesNames hs c t ds us → map (position x.layout) (map number_of us) ≡ names_positions x.layout.structs depth us
+      → map x.types (map number_of us) ≡ map type_of_name us → NamesSeen scope depth c t ds us
   names_seen scope depth c s t value [] [] h places types = record { are = tt; seen = s }
   names_seen scope depth c s t value (d ∷ ds) (u ∷ us) (rules.TypesNames.more e r f k) places types =
       let p = f.typed in
       let v = value p.0 f.parts.0 in
-      let w = when_is (not (is_taken c d.name) && (value_fits p.0 p.1 && not (crosses_with c (sight_cells c.structs p.0)))) (record { token = d.token; name = record { number = c.next; ty = p.0 }; value = p.1 }) u f.gives in
+      let w = when_is (not (is_taken c d.name)
+      && (value_fits p.0 p.1 && not (crosses_with c (sight_cells c.structs p.0))))
+      (record { token = d.token; name = record { number = c.next; ty = p.0 }; value = p.1 }) u f.gives in
       let b = both_are (not (is_taken c d.name)) (value_fits p.0 p.1 && not (crosses_with c (sight_cells c.structs p.0))) w.0 in
       let g = both_are (value_fits p.0 p.1) (not (crosses_with c (sight_cells c.structs p.0))) b.1 in
       let number : c.next ≡ u.name.number = ap (λ (n : TypedName). n.name.number) w.1 in
@@ -377,36 +408,74 @@ module _ (x : Site) (table : EngineTable) (kept : IsTable table) (few : (r : Rou
     stays_seen scope c (stmt.case_label n k) s isnt = record { names = s.names; structs = s.structs; table_is = s.table_is; inside = s.inside; gives = s.gives }
     stays_seen scope c (stmt.default_label n) s isnt = record { names = s.names; structs = s.structs; table_is = s.table_is; inside = s.inside; gives = s.gives }
 
-    after_seen : (scope : List ℕ) (depth : ℕ) (c : Sight) → Sees x table result file scope c → (a : SourceStmt) (t : TypedStmt) → TypesStmt hs c a t → AreLaid x depth t → Sees x table result file (after_stmt t scope) (after c a)
+    after_seen : (scope : List ℕ) (depth : ℕ) (c : Sight) → Sees x table result file scope c
+        → (a : SourceStmt) (t : TypedStmt) → TypesStmt hs c a t → AreLaid x depth t
+        → Sees x table result file (after_stmt t scope) (after c a)
     after_seen scope depth c s (stmt.declaration n t ds) u (rules.TypesStmt.declaration d m w {us = us} h k) l =
         let e = (names_seen scope depth c s (line_type c.structs t) (line_value c scope s t) ds us k l.places l.types).seen in
         record { names = e.names; structs = e.structs; table_is = e.table_is; inside = e.inside; gives = e.gives }
     after_seen scope depth c s (stmt.block n xs) t h l = subst (λ z. Sees x table result file z (after c (stmt.block n xs))) (sym (scope_kept scope c h tt)) (stays_seen scope c (stmt.block n xs) s tt)
     after_seen scope depth c s (stmt.empty n) t h l = subst (λ z. Sees x table result file z (after c (stmt.empty n))) (sym (scope_kept scope c h tt)) (stays_seen scope c (stmt.empty n) s tt)
-    after_seen scope depth c s (stmt.expression n e) t h l = subst (λ z. Sees x table result file z (after c (stmt.expression n e))) (sym (scope_kept scope c h tt)) (stays_seen scope c (stmt.expression n e) s tt)
-    after_seen scope depth c s (stmt.if_only n e b) t h l = subst (λ z. Sees x table result file z (after c (stmt.if_only n e b))) (sym (scope_kept scope c h tt)) (stays_seen scope c (stmt.if_only n e b) s tt)
-    after_seen scope depth c s (stmt.if_else n e b d) t h l = subst (λ z. Sees x table result file z (after c (stmt.if_else n e b d))) (sym (scope_kept scope c h tt)) (stays_seen scope c (stmt.if_else n e b d) s tt)
-    after_seen scope depth c s (stmt.while_loop n e b) t h l = subst (λ z. Sees x table result file z (after c (stmt.while_loop n e b))) (sym (scope_kept scope c h tt)) (stays_seen scope c (stmt.while_loop n e b) s tt)
-    after_seen scope depth c s (stmt.do_loop n b e) t h l = subst (λ z. Sees x table result file z (after c (stmt.do_loop n b e))) (sym (scope_kept scope c h tt)) (stays_seen scope c (stmt.do_loop n b e) s tt)
-    after_seen scope depth c s (stmt.for_loop n p q r b) t h l = subst (λ z. Sees x table result file z (after c (stmt.for_loop n p q r b))) (sym (scope_kept scope c h tt)) (stays_seen scope c (stmt.for_loop n p q r b) s tt)
-    after_seen scope depth c s (stmt.switch n e xs) t h l = subst (λ z. Sees x table result file z (after c (stmt.switch n e xs))) (sym (scope_kept scope c h tt)) (stays_seen scope c (stmt.switch n e xs) s tt)
-    after_seen scope depth c s (stmt.break_off n) t h l = subst (λ z. Sees x table result file z (after c (stmt.break_off n))) (sym (scope_kept scope c h tt)) (stays_seen scope c (stmt.break_off n) s tt)
-    after_seen scope depth c s (stmt.continue_on n) t h l = subst (λ z. Sees x table result file z (after c (stmt.continue_on n))) (sym (scope_kept scope c h tt)) (stays_seen scope c (stmt.continue_on n) s tt)
-    after_seen scope depth c s (stmt.return_from n e) t h l = subst (λ z. Sees x table result file z (after c (stmt.return_from n e))) (sym (scope_kept scope c h tt)) (stays_seen scope c (stmt.return_from n e) s tt)
-    after_seen scope depth c s (stmt.case_label n k) t h l = subst (λ z. Sees x table result file z (after c (stmt.case_label n k))) (sym (scope_kept scope c h tt)) (stays_seen scope c (stmt.case_label n k) s tt)
-    after_seen scope depth c s (stmt.default_label n) t h l = subst (λ z. Sees x table result file z (after c (stmt.default_label n))) (sym (scope_kept scope c h tt)) (stays_seen scope c (stmt.default_label n) s tt)
+    after_seen scope depth c s (stmt.expression n e) t h l = subst
+        (λ z. Sees x table result file z (after c (stmt.expression n e))) (sym (scope_kept scope c h tt))
+        (stays_seen scope c (stmt.expression n e) s tt)
+    after_seen scope depth c s (stmt.if_only n e b) t h l = subst
+        (λ z. Sees x table result file z (after c (stmt.if_only n e b))) (sym (scope_kept scope c h tt))
+        (stays_seen scope c (stmt.if_only n e b) s tt)
+    after_seen scope depth c s (stmt.if_else n e b d) t h l = subst
+        (λ z. Sees x table result file z (after c (stmt.if_else n e b d))) (sym (scope_kept scope c h tt))
+        (stays_seen scope c (stmt.if_else n e b d) s tt)
+    after_seen scope depth c s (stmt.while_loop n e b) t h l = subst
+        (λ z. Sees x table result file z (after c (stmt.while_loop n e b))) (sym (scope_kept scope c h tt))
+        (stays_seen scope c (stmt.while_loop n e b) s tt)
+    after_seen scope depth c s (stmt.do_loop n b e) t h l = subst
+        (λ z. Sees x table result file z (after c (stmt.do_loop n b e))) (sym (scope_kept scope c h tt))
+        (stays_seen scope c (stmt.do_loop n b e) s tt)
+    after_seen scope depth c s (stmt.for_loop n p q r b) t h l = subst
+        (λ z. Sees x table result file z (after c (stmt.for_loop n p q r b))) (sym (scope_kept scope c h tt))
+        (stays_seen scope c (stmt.for_loop n p q r b) s tt)
+    after_seen scope depth c s (stmt.switch n e xs) t h l = subst
+        (λ z. Sees x table result file z (after c (stmt.switch n e xs))) (sym (scope_kept scope c h tt))
+        (stays_seen scope c (stmt.switch n e xs) s tt)
+    after_seen scope depth c s (stmt.break_off n) t h l = subst
+        (λ z. Sees x table result file z (after c (stmt.break_off n))) (sym (scope_kept scope c h tt))
+        (stays_seen scope c (stmt.break_off n) s tt)
+    after_seen scope depth c s (stmt.continue_on n) t h l = subst
+        (λ z. Sees x table result file z (after c (stmt.continue_on n))) (sym (scope_kept scope c h tt))
+        (stays_seen scope c (stmt.continue_on n) s tt)
+    after_seen scope depth c s (stmt.return_from n e) t h l = subst
+        (λ z. Sees x table result file z (after c (stmt.return_from n e))) (sym (scope_kept scope c h tt))
+        (stays_seen scope c (stmt.return_from n e) s tt)
+    after_seen scope depth c s (stmt.case_label n k) t h l = subst
+        (λ z. Sees x table result file z (after c (stmt.case_label n k))) (sym (scope_kept scope c h tt))
+        (stays_seen scope c (stmt.case_label n k) s tt)
+    after_seen scope depth c s (stmt.default_label n) t h l = subst
+        (λ z. Sees x table result file z (after c (stmt.default_label n))) (sym (scope_kept scope c h tt))
+        (stays_seen scope c (stmt.default_label n) s tt)
 
     mutual
       stmt_fine : (scope : List ℕ) (depth : ℕ) (c : Sight) → Sees x table result file scope c → {a : SourceStmt} {t : TypedStmt} → IsMade a → TypesStmt hs c a t → WhenLaid scope depth c t
       stmt_fine scope depth c s made (rules.TypesStmt.block d n h) l =
-          all_fine scope depth (scope_entered c) (record { names = s.names; structs = s.structs; table_is = s.table_is; inside = s.inside; gives = s.gives }) made h (record { places = l.places; types = l.types })
+          all_fine scope depth (scope_entered c)
+          (record {
+            names = s.names;
+            structs = s.structs;
+            table_is = s.table_is;
+            inside = s.inside;
+            gives = s.gives;
+          }) made h (record { places = l.places; types = l.types })
       stmt_fine scope depth c s made (rules.TypesStmt.empty d n) l = tt
       stmt_fine scope depth c s made (rules.TypesStmt.expression d n h) l = fine_expr scope c s h
       stmt_fine scope depth c s made (rules.TypesStmt.if_only d n {t = e} {u = u} {s = z} h k r) l =
           let w = when_is (is_int (type_of e)) (if_only n e u) z r in
           let in_it : Sees x table result file scope (inside c) = record { names = s.names; structs = s.structs; table_is = s.table_is; inside = s.inside; gives = s.gives } in
           subst (WhenLaid scope depth c) w.1
-          (λ m. ((fine_expr scope c s h, int_is (type_of e) w.0), stmt_fine scope depth (inside c) in_it made.1 k (record { places = m.places; types = m.types }), declares_nothing hs (inside c) k made.0)) l
+          (λ m. (
+            (fine_expr scope c s h, int_is (type_of e) w.0),
+            stmt_fine scope depth (inside c) in_it made.1 k
+                (record { places = m.places; types = m.types }),
+            declares_nothing hs (inside c) k made.0,
+          )) l
       stmt_fine scope depth c s made (rules.TypesStmt.if_else d n {a = a} {t = e} {u = u} {v = v} {s = z} h k o r) l =
           let w = when_is (is_int (type_of e)) (if_else n e u v) z r in
           let in_it : Sees x table result file scope (inside c) = record { names = s.names; structs = s.structs; table_is = s.table_is; inside = s.inside; gives = s.gives } in
@@ -424,12 +493,21 @@ module _ (x : Site) (table : EngineTable) (kept : IsTable table) (few : (r : Rou
           let w = when_is (is_int (type_of e)) (while_loop n e u) z r in
           let in_it : Sees x table result file scope (looped c) = record { names = s.names; structs = s.structs; table_is = s.table_is; inside = s.inside; gives = s.gives } in
           subst (WhenLaid scope depth c) w.1
-          (λ m. ((fine_expr scope c s h, int_is (type_of e) w.0), stmt_fine scope depth (looped c) in_it made.1 k (record { places = m.places; types = m.types }), declares_nothing hs (looped c) k made.0)) l
+          (λ m. (
+            (fine_expr scope c s h, int_is (type_of e) w.0),
+            stmt_fine scope depth (looped c) in_it made.1 k
+                (record { places = m.places; types = m.types }),
+            declares_nothing hs (looped c) k made.0,
+          )) l
       stmt_fine scope depth c s made (rules.TypesStmt.do_loop d n {u = u} {s = z} {t = e} k h r) l =
           let w = when_is (is_int (type_of e)) (do_loop n u e) z r in
           let in_it : Sees x table result file scope (looped c) = record { names = s.names; structs = s.structs; table_is = s.table_is; inside = s.inside; gives = s.gives } in
           subst (WhenLaid scope depth c) w.1
-          (λ m. (stmt_fine scope depth (looped c) in_it made.1 k (record { places = m.places; types = m.types }), (fine_expr scope c s h, int_is (type_of e) w.0), declares_nothing hs (looped c) k made.0)) l
+          (λ m. (
+            stmt_fine scope depth (looped c) in_it made.1 k (record { places = m.places; types = m.types }),
+            (fine_expr scope c s h, int_is (type_of e) w.0),
+            declares_nothing hs (looped c) k made.0,
+          )) l
       stmt_fine scope depth c s made (rules.TypesStmt.for_loop d n {t = t} {u = u} {v = v} {w = b} {s = z} h k o body r) l =
           let w = when_is (is_condition u) (for_loop n t u v b) z r in
           let in_it : Sees x table result file scope (looped c) = record { names = s.names; structs = s.structs; table_is = s.table_is; inside = s.inside; gives = s.gives } in

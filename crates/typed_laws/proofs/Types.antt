@@ -90,7 +90,9 @@ found_later : (k : ℕ) (s : Structure) (ss : List Structure) (m : Meant) → Fo
 found_later k s ss m (inl missing) = inl missing
 found_later k s ss m (inr f) = let z : k + 1 + f.0 ≡ k + suc f.0 = omega arith in inr (suc f.0, f.1, f.2, f.3 ∙ ap (λ n. Is (Struct n)) z)
 
-found_by : (k : ℕ) (s : Structure) (ss : List Structure) (m : Meant) (r : Option Meant) → (r ≡ Some m → FoundStruct (k + 1) ss m) → (b : Bool) (o : Option Members) → (if b then is_of_struct k o else r) ≡ Some m → FoundStruct k (s ∷ ss) m
+found_by : (k : ℕ) (s : Structure) (ss : List Structure) (m : Meant) (r : Option Meant)
+    → (r ≡ Some m → FoundStruct (k + 1) ss m) → (b : Bool) (o : Option Members)
+    → (if b then is_of_struct k o else r) ≡ Some m → FoundStruct k (s ∷ ss) m
 found_by k s ss m r later true None e = absurd (none-some _ e)
 found_by k s ss m r later true (Some p) e = let z : k ≡ k + 0 = omega arith in inr (0, s, refl, sym (same_Some _ _ e) ∙ ap (λ n. Is (Struct n)) z)
 found_by k s ss m r later false o e = found_later k s ss m (later e)
@@ -169,15 +171,41 @@ module _ (structs : Structs) (fields_of : List (List Ty)) (ss : List Structure) 
         within = λ m e. let i : n ≡ m = cc in subst (λ j. j < length ss) i (slice_get_within ss n s h);
       }
 
-  of_meant : (m : Meant) (t : Ty) → ((n : ℕ) → m ≡ Is (Struct n) → (s : Structure) × (slice_get ss n ≡ Some s)) → (m ≡ Is Action → ⊥) → (m ≡ Is Refused → ⊥) → value_type m ≡ Some t → IsDeclared structs ss t
+  of_meant : (m : Meant) (t : Ty) → ((n : ℕ) → m ≡ Is (Struct n) → (s : Structure) × (slice_get ss n ≡ Some s))
+      → (m ≡ Is Action → ⊥) → (m ≡ Is Refused → ⊥) → value_type m ≡ Some t → IsDeclared structs ss t
   of_meant IsRefused t f a r h = absurd (none-some t h)
   of_meant IsMissing t f a r h = absurd (none-some t h)
   of_meant (Is Void) t f a r h = absurd (none-some t h)
-  of_meant (Is Int) t f a r h = subst (IsDeclared structs ss) (same_Some _ _ h) (record { value = record { some = omega arith; kinds = (tt, tt); no_action = refl; no_void = refl }; cells = refl; within = λ n e. absurd cc })
-  of_meant (Is Text) t f a r h = subst (IsDeclared structs ss) (same_Some _ _ h) (record { value = record { some = omega arith; kinds = (tt, tt); no_action = refl; no_void = refl }; cells = refl; within = λ n e. absurd cc })
-  of_meant (Is Object) t f a r h = subst (IsDeclared structs ss) (same_Some _ _ h) (record { value = record { some = omega arith; kinds = (tt, tt); no_action = refl; no_void = refl }; cells = refl; within = λ n e. absurd cc })
-  of_meant (Is Effect) t f a r h = subst (IsDeclared structs ss) (same_Some _ _ h) (record { value = record { some = omega arith; kinds = (tt, tt); no_action = refl; no_void = refl }; cells = refl; within = λ n e. absurd cc })
-  of_meant (Is Event) t f a r h = subst (IsDeclared structs ss) (same_Some _ _ h) (record { value = record { some = omega arith; kinds = (tt, tt); no_action = refl; no_void = refl }; cells = refl; within = λ n e. absurd cc })
+  of_meant (Is Int) t f a r h = subst (IsDeclared structs ss) (same_Some _ _ h)
+      (record {
+        value = record { some = omega arith; kinds = (tt, tt); no_action = refl; no_void = refl };
+        cells = refl;
+        within = λ n e. absurd cc;
+      })
+  of_meant (Is Text) t f a r h = subst (IsDeclared structs ss) (same_Some _ _ h)
+      (record {
+        value = record { some = omega arith; kinds = (tt, tt); no_action = refl; no_void = refl };
+        cells = refl;
+        within = λ n e. absurd cc;
+      })
+  of_meant (Is Object) t f a r h = subst (IsDeclared structs ss) (same_Some _ _ h)
+      (record {
+        value = record { some = omega arith; kinds = (tt, tt); no_action = refl; no_void = refl };
+        cells = refl;
+        within = λ n e. absurd cc;
+      })
+  of_meant (Is Effect) t f a r h = subst (IsDeclared structs ss) (same_Some _ _ h)
+      (record {
+        value = record { some = omega arith; kinds = (tt, tt); no_action = refl; no_void = refl };
+        cells = refl;
+        within = λ n e. absurd cc;
+      })
+  of_meant (Is Event) t f a r h = subst (IsDeclared structs ss) (same_Some _ _ h)
+      (record {
+        value = record { some = omega arith; kinds = (tt, tt); no_action = refl; no_void = refl };
+        cells = refl;
+        within = λ n e. absurd cc;
+      })
   of_meant (Is Action) t f a r h = absurd (a refl)
   of_meant (Is (Struct n)) t f a r h = let s = f n refl in subst (IsDeclared structs ss) (same_Some _ _ h) (of_struct n s.0 s.1)
   of_meant (Is Refused) t f a r h = absurd (r refl)
@@ -245,7 +273,9 @@ module _ (structs : Structs) (ss : List Structure) (types all : List Ty) where
       let ts = map (λ (y : Identifier). t) names in
       let cells = c.cells in
       let whole : all ≡ before ++ (part ++ (more ++ after)) = is ∙ ap (λ r. before ++ r) (append_assoc part more after) in
-      let here : take (length part) (drop m.cells all) ≡ part = ap (λ n. take (length part) (drop n all)) c.cells ∙ ap (λ r. take (length part) (drop (length before) r)) whole ∙ taken before part (more ++ after) in
+      let here : take (length part) (drop m.cells all)
+      ≡ part = ap (λ n. take (length part) (drop n all)) c.cells
+      ∙ ap (λ r. take (length part) (drop (length before) r)) whole ∙ taken before part (more ++ after) in
       let long = ap length whole ∙ length-append before (part ++ (more ++ after)) in
       let behind = length-append part (more ++ after) in
       let added = length-append before part in
@@ -267,7 +297,9 @@ module _ (structs : Structs) (ss : List Structure) (types all : List Ty) where
       } in
       subst (λ (b : List Ty). Counts (members_of_line ss t m (x ∷ names)) b (done ++ t ∷ ts)) (append_assoc before part more)
       (subst (λ (e : List Ty). Counts (members_of_line ss t m (x ∷ names)) ((before ++ part) ++ more) e) (append_assoc done (t ∷ []) ts)
-      (counts_line t names next_members (before ++ part) after (done ++ t ∷ []) rest d next (whole ∙ sym (append_assoc before part (more ++ after))) (types_are ∙ sym (append_assoc done (t ∷ []) (ts ++ rest)))))
+      (counts_line t names next_members (before ++ part) after (done ++ t ∷ []) rest d next
+      (whole ∙ sym (append_assoc before part (more ++ after)))
+      (types_are ∙ sym (append_assoc done (t ∷ []) (ts ++ rest)))))
 
   abbrev AreLines : List TypedLine → Type 0
   AreLines ls = AllByRecursion (λ (l : TypedLine). IsDeclared structs ss l.ty) ls
@@ -287,7 +319,9 @@ line_kinds : (structs : Structs) (t : Ty) (names : List Identifier) → AllByRec
 line_kinds structs t [] k = tt
 line_kinds structs t (x ∷ names) k = all_both IsCell (cell_types structs t) _ k (line_kinds structs t names k)
 
-lines_kinds : (structs : Structs) (ss : List Structure) (ls : List TypedLine) → AllByRecursion (λ (l : TypedLine). IsDeclared structs ss l.ty) ls → AllByRecursion IsCell (flat_map (line_cells structs) ls)
+lines_kinds : (structs : Structs) (ss : List Structure) (ls : List TypedLine)
+    → AllByRecursion (λ (l : TypedLine). IsDeclared structs ss l.ty) ls
+    → AllByRecursion IsCell (flat_map (line_cells structs) ls)
 lines_kinds structs ss [] d = tt
 lines_kinds structs ss (l ∷ ls) d = all_both IsCell (line_cells structs l) _ (line_kinds structs l.ty l.names d.0.value.kinds) (lines_kinds structs ss ls d.1)
 

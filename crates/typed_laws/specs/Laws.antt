@@ -20,17 +20,21 @@ use Rattle.source_laws.specs.Starts.{making, BeginsWith}
 -- whatever tokens the unit has, under the table of any header.
 abbrev pub FunctionsArePlaced : Type 0
 FunctionsArePlaced =
-    (table : EngineTable) (tokens : List Symbol) (tree : SourceTree) (u : TypedUnit) → IsTable table → Parses tokens tree → TypesUnit table tree u
-    → (script self : ℕ) (waiting : List Frame) (f : ℕ) (fn : Function) → slice_get (functions u.items) f ≡ Some fn
+    (table : EngineTable) (tokens : List Symbol) (tree : SourceTree) (u : TypedUnit) → IsTable table
+    → Parses tokens tree → TypesUnit table tree u
+    → (script self : ℕ) (waiting : List Frame) (f : ℕ) (fn : Function)
+    → slice_get (functions u.items) f ≡ Some fn
     → IsPlaced table (functions u.items) (unit_site script u self waiting) f fn
 
 -- And its globals are fine as declarations, in whose first values no function of the unit is
 -- called: while they are made, they are variables of a frame, beneath which nothing lies.
 abbrev pub GlobalsAreFine : Type 0
 GlobalsAreFine =
-    (table : EngineTable) (tokens : List Symbol) (tree : SourceTree) (u : TypedUnit) → IsTable table → Parses tokens tree → TypesUnit table tree u
+    (table : EngineTable) (tokens : List Symbol) (tree : SourceTree) (u : TypedUnit) → IsTable table
+    → Parses tokens tree → TypesUnit table tree u
     → (script self : ℕ) (waiting : List Frame)
-    → AreFineNames table [] (making (unit_site script u self waiting)) Void 0 [] (global_names u.items)
+    → AreFineNames table [] (making (unit_site script u self waiting)) Void 0 []
+    (global_names u.items)
 
 -- A script begins with a function that takes nothing, and gives nothing or an int.
 pub record HasEntry (fs : List Function) (entry : ℕ) (t : Ty) : Type 0 where
@@ -42,13 +46,16 @@ pub record HasEntry (fs : List Function) (entry : ℕ) (t : Ty) : Type 0 where
 abbrev pub EntriesArePlain : Type 0
 EntriesArePlain =
     (table : EngineTable) (tree : SourceTree) (u : TypedUnit) → TypesUnit table tree u → (entry : ℕ)
-    → (u.entry ≡ Main entry → HasEntry (functions u.items) entry Void) × (u.entry ≡ Conditional entry → HasEntry (functions u.items) entry Int)
+    → (u.entry ≡ Main entry → HasEntry (functions u.items) entry Void)
+    × (u.entry ≡ Conditional entry → HasEntry (functions u.items) entry Int)
 
 -- So a typed unit is as the laws ask of a script's start: it begins with one of the two entry
 -- functions, its globals are fine, and its functions are placed, as a script of any number,
 -- whatever object it runs as and whatever waits for it.
 abbrev pub UnitsAreReady : Type 0
 UnitsAreReady =
-    (table : EngineTable) (tokens : List Symbol) (tree : SourceTree) (u : TypedUnit) → IsTable table → Parses tokens tree → TypesUnit table tree u
+    (table : EngineTable) (tokens : List Symbol) (tree : SourceTree) (u : TypedUnit) → IsTable table
+    → Parses tokens tree → TypesUnit table tree u
     → (script self : ℕ) (waiting : List Frame)
-    → BeginsWith Main Void table u (unit_site script u self waiting) ⊎ BeginsWith Conditional Int table u (unit_site script u self waiting)
+    → BeginsWith Main Void table u (unit_site script u self waiting)
+    ⊎ BeginsWith Conditional Int table u (unit_site script u self waiting)

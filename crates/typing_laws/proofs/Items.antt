@@ -48,7 +48,9 @@ members_are structs us h =
     let m = lines_members structs no_members us 0 h.values (record { fields = tt; cells = refl }) (omega (arith, a)) in
     let b = m.cells in record { fields = m.fields; cells = omega (arith, b) }
 
-struct_bounds : (structs : List Structure) (x : List ℕ) (ls : List SourceLine) → Holds (λ m. AllByRecursion IsMember m.fields) (option_map (struct_members structs) (fine (struct_verdict structs x ls)))
+struct_bounds : (structs : List Structure) (x : List ℕ) (ls : List SourceLine)
+    → Holds (λ m. AllByRecursion IsMember m.fields)
+    (option_map (struct_members structs) (fine (struct_verdict structs x ls)))
 struct_bounds structs x ls = as_holds (λ m. AllByRecursion IsMember m.fields) (option_map (struct_members structs) (fine (struct_verdict structs x ls))) (λ m e.
     let i = map_is (struct_members structs) (fine (struct_verdict structs x ls)) m e in
     subst (λ k. AllByRecursion IsMember k.fields) i.2 (members_are structs i.0 (struct_is structs x ls i.0 i.1)).fields)

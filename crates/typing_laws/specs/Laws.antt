@@ -19,10 +19,12 @@ pub record HasCode (t : TypedUnit) : Type 0 where
   pub few : (unit_code t).labels < 2 ^ 32
 
 abbrev pub EachTypedTreeHasCode : Type 0
-EachTypedTreeHasCode = (table : EngineTable) (u : SourceTree) (t : TypedUnit) → IsTable table → IsKnownTree u → u.count ≤ token_limit → TypesUnit table u t
+EachTypedTreeHasCode = (table : EngineTable) (u : SourceTree) (t : TypedUnit) → IsTable table
+    → IsKnownTree u → u.count ≤ token_limit → TypesUnit table u t
     → HasCode t
 
 -- so does that of any list of at most 100,000 tokens
 abbrev pub EachTypedUnitHasCode : Type 0
 EachTypedUnitHasCode = (tokens : List Symbol) (table : EngineTable) (u : SourceTree) (t : TypedUnit)
-    → length tokens ≤ token_limit → AllByRecursion IsLiteral tokens → IsTable table → Parses tokens u → TypesUnit table u t → HasCode t
+    → length tokens ≤ token_limit → AllByRecursion IsLiteral tokens → IsTable table
+    → Parses tokens u → TypesUnit table u t → HasCode t

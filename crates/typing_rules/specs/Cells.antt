@@ -30,7 +30,8 @@ line_cells structs l = flat_map (λ x. cell_types structs l.ty) l.names
 -- the structs among these items, behind those that are known
 abbrev pub structs_from : Structs → List TypedItem → Structs
 structs_from known [] = known
-structs_from known (structure n x ls ∷ is) = structs_from (known ++ flat_map (line_cells known) ls ∷ []) is
+structs_from known (structure n x ls ∷ is) = structs_from
+    (known ++ flat_map (line_cells known) ls ∷ []) is
 structs_from known (_ ∷ is) = structs_from known is
 
 -- ---- actions

@@ -86,7 +86,8 @@ three (Some a) (Some b) None = None
 three (Some a) None o = None
 three None o p = None
 
-abbrev pub four : {A B C D : Type 0} → Option A → Option B → Option C → Option D → Option (A × B × C × D)
+abbrev pub four : {A B C D : Type 0} → Option A → Option B → Option C → Option D
+    → Option (A × B × C × D)
 four (Some a) (Some b) (Some c) (Some d) = Some (a, b, c, d)
 four (Some a) (Some b) (Some c) None = None
 four (Some a) (Some b) None o = None
@@ -116,7 +117,8 @@ pub record Fits {A B : Type 0} (Parts : A → Type 0) (rule : A → Option B) (b
 
 -- A node is at fault where its parts are typed and its rule doesn't fit; the kind is that of the
 -- first row that is true of it.
-pub record AtFault {A B : Type 0} (Parts : A → Type 0) (rule : A → Option B) (rows : A → Rows) (k : FaultKind) : Type 0 where
+pub record AtFault {A B : Type 0} (Parts : A → Type 0) (rule : A → Option B) (rows : A → Rows)
+    (k : FaultKind) : Type 0 where
   pub typed : A
   pub parts : Parts typed
   pub misfit : rule typed ≡ None
@@ -124,7 +126,8 @@ pub record AtFault {A B : Type 0} (Parts : A → Type 0) (rule : A → Option B)
   pub first : (j : FaultKind) → rows typed j ≡ true → rank k ≤ rank j
 
 -- it is at fault, with this kind, and the fault is at its token
-pub record Own {A B : Type 0} (n : ℕ) (Parts : A → Type 0) (rule : A → Option B) (rows : A → Rows) (f : Fault) : Type 0 where
+pub record Own {A B : Type 0} (n : ℕ) (Parts : A → Type 0) (rule : A → Option B) (rows : A → Rows)
+    (f : Fault) : Type 0 where
   pub fault : AtFault Parts rule rows f.kind
   pub token : n ≡ f.token
 

@@ -105,7 +105,8 @@ filled_call xs d = option_map (λ ks. typed.call d.result d.callee xs ks) (fille
 abbrev pub call_of : Bool → Bool → TypedExprs → Option Called → Option TypedExpr
 call_of at_file as_action xs None = None
 call_of at_file as_action xs (Some d) =
-    if d.is_callable && (not (at_file && is_barred as_action d) && all_taken xs d.params) then filled_call xs d else None
+    if d.is_callable && (not (at_file && is_barred as_action d)
+    && all_taken xs d.params) then filled_call xs d else None
 
 abbrev pub call_rule : Bool → Bool → TypedExprs × Option Called → Option TypedExpr
 call_rule at_file as_action p = call_of at_file as_action p.0 p.1
@@ -146,13 +147,15 @@ member_at x None = None
 member_at x (Some m) = find_member x m.fields
 
 abbrev pub member_rule : List Structure → List ℕ → TypedExpr → Option TypedExpr
-member_rule structs x a = option_map (λ m. typed.member m.ty a m.before) (member_at x (members_in structs (type_of a)))
+member_rule structs x a = option_map (λ m. typed.member m.ty a m.before)
+    (member_at x (members_in structs (type_of a)))
 
 abbrev pub member_rows : TypedExpr → Rows
 member_rows a = only Unknown
 
 abbrev pub prefix_rule : PrefixOperator → TypedExpr → Option TypedExpr
-prefix_rule o a = when (is_int (type_of a) && (not (is_step o) || is_place a)) (typed.prefix ty.Int o a)
+prefix_rule o a = when (is_int (type_of a) && (not (is_step o) || is_place a))
+    (typed.prefix ty.Int o a)
 
 abbrev pub prefix_rows : PrefixOperator → TypedExpr → Rows
 prefix_rows o a = row NotPlace (is_step o && not (is_place a)) (only Mismatch)
@@ -164,7 +167,8 @@ abbrev pub postfix_rows : TypedExpr → Rows
 postfix_rows a = row NotPlace (not (is_place a)) (only Mismatch)
 
 abbrev pub binary_rule : BinaryOperator → TypedExpr × TypedExpr → Option TypedExpr
-binary_rule o p = option_map (λ t. typed.binary t o p.0 p.1) (binary_type o (type_of p.0) (type_of p.1))
+binary_rule o p = option_map (λ t. typed.binary t o p.0 p.1)
+    (binary_type o (type_of p.0) (type_of p.1))
 
 abbrev pub binary_rows : TypedExpr × TypedExpr → Rows
 binary_rows p = only Mismatch
@@ -282,7 +286,8 @@ abbrev pub crosses_fields : Fields → ℕ → Bool
 crosses_fields s n = crosses struct_cell_limit s.count (fields_with s n)
 
 abbrev pub field_rule : List Structure → Fields → Identifier → Ty → Option Identifier
-field_rule structs s x t = when (not (is_among x.name s.names) && not (crosses_fields s (cells structs t))) x
+field_rule structs s x t = when
+    (not (is_among x.name s.names) && not (crosses_fields s (cells structs t))) x
 
 abbrev pub field_rows : List Structure → Fields → Identifier → Ty → Rows
 field_rows structs s x t =
@@ -306,10 +311,12 @@ is_behind late v = late && is_none v
 
 abbrev pub parameter_of : Sight → Bool → SourceParameter → Option Const → Ty → Option TypedParameter
 parameter_of c late p v t = when
-    (not (is_taken c p.name) && (not (is_behind late v) && (default_fits t v && not (crosses_with c (cells c.structs t)))))
+    (not (is_taken c p.name) &&
+    (not (is_behind late v) && (default_fits t v && not (crosses_with c (cells c.structs t)))))
     (record { token = p.token; ty = t; name = record { number = c.next; ty = t }; default = v })
 
-abbrev pub parameter_rule : Sight → Bool → SourceParameter → Meant × Option Const → Option TypedParameter
+abbrev pub parameter_rule : Sight → Bool → SourceParameter → Meant × Option Const
+    → Option TypedParameter
 parameter_rule c late p q = option_and_then (parameter_of c late p q.1) (value_type q.0)
 
 abbrev pub parameter_mismatch : Option Const → Option Ty → Bool
@@ -348,14 +355,17 @@ agrees (Some t) s = same_types t.params s.params && same_type t.result s.result
 
 abbrev pub may_declare : Sight → List ℕ → Bool → Option Signature → TypedHead → Bool
 may_declare c x with_body first h =
-    not (is_taken_by_other c x) && (agrees first (signature_of h) && not (with_body && has_body x c.seen))
+    not (is_taken_by_other c x)
+    && (agrees first (signature_of h) && not (with_body && has_body x c.seen))
 
 abbrev pub head_of : Sight → List ℕ → Bool → Option Signature → TypedHead → Option TypedHead
 head_of c x with_body first h = when (may_declare c x with_body first h) h
 
-abbrev pub head_rule : Sight → List ℕ → Bool → List TypedParameter × Meant × Option Signature → Option TypedHead
+abbrev pub head_rule : Sight → List ℕ → Bool → List TypedParameter × Meant × Option Signature
+    → Option TypedHead
 head_rule c x with_body p =
-    option_and_then (λ t. head_of c x with_body p.2 (record { params = p.0; result = t })) (any_type p.1)
+    option_and_then (λ t. head_of c x with_body p.2 (record { params = p.0; result = t }))
+    (any_type p.1)
 
 abbrev pub head_rows : List TypedParameter × Meant × Option Signature → Rows
 head_rows p = row RefusedType (is_refused p.1) (row Unknown (is_missing p.1) (only Redeclared))
@@ -398,7 +408,8 @@ abbrev pub is_condition : Option TypedExpr → Bool
 is_condition None = true
 is_condition (Some x) = is_int (type_of x)
 
-abbrev pub for_rule : ℕ → Option TypedExpr × Option TypedExpr × Option TypedExpr × TypedStmt → Option TypedStmt
+abbrev pub for_rule : ℕ → Option TypedExpr × Option TypedExpr × Option TypedExpr × TypedStmt
+    → Option TypedStmt
 for_rule n p = when (is_condition p.1) (tree.for_loop n p.0 p.1 p.2 p.3)
 
 abbrev pub for_rows : Option TypedExpr × Option TypedExpr × Option TypedExpr × TypedStmt → Rows
@@ -450,7 +461,8 @@ has_default_label None = false
 has_default_label (Some l) = l.has_default
 
 abbrev pub case_rule : Option Labels → ℕ → Const → Option TypedStmt
-case_rule l n k = when (not (is_again l k) && (not (is_outside l) && is_int (const_type k))) (tree.case_label n k)
+case_rule l n k = when (not (is_again l k) && (not (is_outside l) && is_int (const_type k)))
+    (tree.case_label n k)
 
 abbrev pub case_rows : Option Labels → Const → Rows
 case_rows l k = row Redeclared (is_again l k) (row Outside (is_outside l) (only Mismatch))
@@ -479,7 +491,8 @@ begins x t hs = has_body x hs && is_plain t (first_types x hs)
 abbrev pub entry_rule : List Head → Unit {0} → Option EntryPoint
 entry_rule hs u =
     if begins (codes "main") ty.Void hs then Some (Main (body_number (codes "main") hs))
-    else when (begins (codes "StartingConditional") ty.Int hs) (Conditional (body_number (codes "StartingConditional") hs))
+    else when (begins (codes "StartingConditional") ty.Int hs)
+    (Conditional (body_number (codes "StartingConditional") hs))
 
 abbrev pub entry_rows : Unit {0} → Rows
 entry_rows u = only Entry

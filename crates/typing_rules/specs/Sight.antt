@@ -153,7 +153,8 @@ find_head x (h ∷ hs) = if bytes_eq x h.called then Some h else find_head x hs
 abbrev pub body_number : List ℕ → List Head → ℕ
 body_number x [] = 0
 body_number x (h ∷ hs) =
-    if h.has_body then (if bytes_eq x h.called then 0 else suc (body_number x hs)) else body_number x hs
+    if h.has_body then (if bytes_eq x h.called then 0 else suc
+    (body_number x hs)) else body_number x hs
 
 -- A declared name stood before in its scope; at file level functions and the names of the header
 -- count too.
@@ -181,7 +182,8 @@ is_of_struct n (Some m) = Some (Is (ty.Struct n))
 -- the first struct of a name decides; the number counts those before it
 abbrev pub struct_means : ℕ → List ℕ → List Structure → Option Meant
 struct_means n x [] = Some IsMissing
-struct_means n x (s ∷ ss) = if bytes_eq x s.called then is_of_struct n s.members else struct_means (n + 1) x ss
+struct_means n x (s ∷ ss) = if bytes_eq x s.called then is_of_struct n s.members else struct_means
+    (n + 1) x ss
 
 abbrev pub has_struct : List ℕ → List Structure → Bool
 has_struct x [] = false
@@ -282,14 +284,24 @@ is_callable_role _ = true
 abbrev pub of_routine : ℕ → Option Routine → Option Called
 of_routine n None = None
 of_routine n (Some r) =
-    Some (record { callee = Engine n; params = r.params; result = r.result; is_callable = is_callable_role r.role })
+    Some (record {
+      callee = Engine n;
+      params = r.params;
+      result = r.result;
+      is_callable = is_callable_role r.role;
+    })
 
 abbrev pub routine_called : List Routine → Option ℕ → Option Called
 routine_called routines None = None
 routine_called routines (Some n) = of_routine n (slice_get routines n)
 
 abbrev pub of_signature : ℕ → Signature → Called
-of_signature n s = record { callee = InUnit n; params = s.params; result = s.result; is_callable = true }
+of_signature n s = record {
+  callee = InUnit n;
+  params = s.params;
+  result = s.result;
+  is_callable = true;
+}
 
 -- the types of a function's first declaration, maybe no declaration; None where it isn't typed
 abbrev pub types_of_head : Option Head → Option (Option Signature)
@@ -303,7 +315,8 @@ first_types x hs = types_of_head (find_head x hs)
 -- declaration, and else a routine of the header. None where that declaration isn't typed.
 abbrev pub callee : List Head → EngineTable → List ℕ → Option (Option Called)
 callee hs table x =
-    if has_body x hs then option_map (option_map (of_signature (body_number x hs))) (first_types x hs)
+    if has_body x hs then option_map (option_map (of_signature (body_number x hs)))
+    (first_types x hs)
     else Some (routine_called table.routines (routine_named x table.routines))
 
 -- the types of the parameters, where there are any
@@ -342,7 +355,12 @@ looped c = record c { in_loop = true; may_break = true; labels = None }
 
 -- the body of a switch, whose value has one cell
 abbrev pub switched : Sight → Sight
-switched c = record c { scope = length c.names; may_break = true; frame = frame_with c 1; labels = Some no_labels }
+switched c = record c {
+  scope = length c.names;
+  may_break = true;
+  frame = frame_with c 1;
+  labels = Some no_labels;
+}
 
 -- after something that is left all is as before it, but for the numbers of variables
 abbrev pub left : Sight → Sight → Sight

@@ -18,13 +18,15 @@ use Rattle.emission_laws.specs.WellTyped.{IsWellTyped}
 -- types that stand at their nodes.
 abbrev pub TypedUnitsAreWellTyped : Type 0
 TypedUnitsAreWellTyped =
-    (header : EngineTable) (tokens : List Symbol) (tree : SourceTree) (u : TypedUnit) → IsTable header → Parses tokens tree → TypesUnit header tree u
+    (header : EngineTable) (tokens : List Symbol) (tree : SourceTree) (u : TypedUnit)
+    → IsTable header → Parses tokens tree → TypesUnit header tree u
     → IsWellTyped header u
 
 -- Where it keeps the bounds that its code needs, and its file is not too large, that file loads,
 -- with the instructions of its code, and these are well stacked under the header.
 abbrev pub TypedUnitsPass : Type 0
 TypedUnitsPass =
-    (header : EngineTable) (tokens : List Symbol) (tree : SourceTree) (u : TypedUnit) → IsTable header → Parses tokens tree → TypesUnit header tree u
+    (header : EngineTable) (tokens : List Symbol) (tree : SourceTree) (u : TypedUnit)
+    → IsTable header → Parses tokens tree → TypesUnit header tree u
     → HasCode u → length (unit_file u) ≤ file_limit
     → IsCode (program (unit_code u).lines) × WellStacked header (program (unit_code u).lines)

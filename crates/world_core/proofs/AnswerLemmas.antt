@@ -167,7 +167,9 @@ routine_at [] n r all is = absurd (none-some r is)
 routine_at (x ∷ routines) zero r all is = subst IsRoutine (same_Some x r is) all.0
 routine_at (x ∷ routines) (suc n) r all is = routine_at routines n r all.1 is
 
-role_type : {X : Type 0} → BuiltAsHeader → PureAsHeader → WorldIsCallable → (cell : CellLookup) (n : ℕ) (r : Routine) (own : Role) (c : Call X) (w : World X) → IsRoutine r → r.role ≡ own → own ≢ role.Uncallable →
+role_type : {X : Type 0} → BuiltAsHeader → PureAsHeader → WorldIsCallable
+    → (cell : CellLookup) (n : ℕ) (r : Routine) (own : Role) (c : Call X) (w : World X) → IsRoutine r → r.role ≡ own
+    → own ≢ role.Uncallable →
     IsOfType r.result (by_role cell n r own c w).value
 role_type built pures worlds cell n r (role.Built k) c w is same callable =
     let row = built r.name r.result (types_of r.params) k (sym is.role ∙ same) in

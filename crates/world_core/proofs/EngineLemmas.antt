@@ -96,7 +96,8 @@ pub record IsServed {H : Type 0} (known : H → Known) (hooks : List H) (k : ℕ
   pub types : types_of_values args ≡ (known hook).params
   pub answers : (v : Value) → IsAnswer (known hook).tables (known hook).name (known hook).result args v → pure (cells_of (map known hooks)) k args ≡ Some v
 
-pub served : {H : Type 0} → (hooks : List H) (known : H → Known) (k : ℕ) (r : Routine) (args : List Value) → PureAsHeader → StandardServe → AreServing (map known hooks) → IsRoutine r → r.role ≡ role.Pure k →
+pub served : {H : Type 0} → (hooks : List H) (known : H → Known) (k : ℕ) (r : Routine) (args : List Value)
+    → PureAsHeader → StandardServe → AreServing (map known hooks) → IsRoutine r → r.role ≡ role.Pure k →
     types_of_values args ≡ argument_types r.params → IsServed known hooks k args
 served hooks known k r args header serve serving is own types =
     let row = header r.name r.result (parameter_types r.params) k (sym is.role ∙ own) in

@@ -22,6 +22,7 @@ IsOfType t (Some v) = type_of v ≡ t
 -- In every world each call of a routine that can be called has an answer of the routine's result
 -- type.
 abbrev pub AnswersHaveTypes : Type 0 → Type 0
-AnswersHaveTypes X = (table : EngineTable) (cell : CellLookup) (n : ℕ) (r : Routine) (c : Call X) (w : World X)
+AnswersHaveTypes X = (table : EngineTable) (cell : CellLookup) (n : ℕ) (r : Routine) (c : Call X)
+    (w : World X)
     → IsTable table → slice_get table.routines n ≡ Some r → r.role ≢ Uncallable
     → IsOfType r.result (engine table cell n c w).value

@@ -42,12 +42,14 @@ AreServing hooks = AreStandard hooks (tables_of hooks)
 
 -- the hooks serve the routine
 abbrev pub ServeRoutine : EngineTable → ℕ → List Known → Type 0
-ServeRoutine table n hooks = (r : Routine) (k : ℕ) → slice_get table.routines n ≡ Some r → r.role ≡ Pure k → AreServing hooks
+ServeRoutine table n hooks = (r : Routine) (k : ℕ) → slice_get table.routines n ≡ Some r
+    → r.role ≡ Pure k → AreServing hooks
 
 -- the arguments of a call that are values have the types of the routine's parameters, first to last
 abbrev pub FitArguments : EngineTable → ℕ → List Value → Type 0
 FitArguments table n values =
-    (r : Routine) (k : ℕ) → slice_get table.routines n ≡ Some r → r.role ≡ Pure k → types_of_values values ≡ argument_types r.params
+    (r : Routine) (k : ℕ) → slice_get table.routines n ≡ Some r → r.role ≡ Pure k
+    → types_of_values values ≡ argument_types r.params
 
 -- ---- times and numbers
 

@@ -35,7 +35,9 @@ record IsFirstIf {A : Type 0} (b : Bool) (test : A → Bool) (x : A) (xs : List 
   rest : (if b then xs else x ∷ without_first test xs) ≡ remove (x ∷ xs) at
   found : cond b (Some x) (find test xs) ≡ slice_get (x ∷ xs) at
 
-first_if : {A : Type 0} → (b : Bool) (test : A → Bool) (x : A) (xs : List A) (m at : ℕ) → (m < length xs → IsFirstAt test xs m) → at ≡ cond (not b) (1 + m) 0 → at < suc (length xs) → IsFirstIf b test x xs at
+first_if : {A : Type 0} → (b : Bool) (test : A → Bool) (x : A) (xs : List A) (m at : ℕ)
+    → (m < length xs → IsFirstAt test xs m) → at ≡ cond (not b) (1 + m) 0 → at < suc (length xs)
+    → IsFirstIf b test x xs at
 first_if true test x xs m zero next is lt = record { inside = lt; some = refl; rest = refl; found = refl }
 first_if true test x xs m (suc at) next is lt = absurd (omega (arith, is))
 first_if false test x xs m zero next is lt = absurd (omega (arith, is))

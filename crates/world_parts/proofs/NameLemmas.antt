@@ -131,5 +131,6 @@ pub name_kept : (area : PlainArea) (o : ℕ) → IsArea area → take text_limit
 name_kept area o is =
     let scripts = (object area o).scripts in
     let all = short_at area.objects (o - 1) (short_area area is) in
-    let few = short_or (script_named (codes "ScriptUserDefine") scripts) (script_named (codes "OnUserDefined") scripts) (short_named (codes "ScriptUserDefine") scripts all) (short_named (codes "OnUserDefined") scripts all) in
+    let few = short_or (script_named (codes "ScriptUserDefine") scripts) (script_named (codes "OnUserDefined") scripts)
+    (short_named (codes "ScriptUserDefine") scripts all) (short_named (codes "OnUserDefined") scripts all) in
     lists.take_all text_limit (event_script scripts) (omega (arith, few))

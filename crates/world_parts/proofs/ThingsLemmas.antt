@@ -36,21 +36,29 @@ effects_put [] i t es lt is = absurd (omega (arith, lt))
 effects_put {X = X} (x ∷ things) zero t es lt is = ap (λ (t : Things X). record { queue = t.queue; effects = es } ∷ things) is
 effects_put {X = X} (x ∷ things) (suc i) t es lt is = ap (λ (ts : List (Things X)). x ∷ ts) (effects_put things i t es (omega (arith, lt)) is)
 
-pub queue_changed : {X : Type 0} → (o : ℕ) (things : List (Things X)) (t : Things X) (q : Queued X) (change : Queued X → Queued X) → 1 ≤ o → o ≤ length things → t ≡ get_or things (o - 1) t → q ≡ change t.queue →
+pub queue_changed : {X : Type 0}
+    → (o : ℕ) (things : List (Things X)) (t : Things X) (q : Queued X) (change : Queued X → Queued X) → 1 ≤ o
+    → o ≤ length things → t ≡ get_or things (o - 1) t → q ≡ change t.queue →
     set things (o - 1) (record { queue = q; effects = t.effects }) ≡ changed_object o (λ t. record t { queue = change (queue_in (things_at o things)) }) things
 queue_changed zero things t q change first within is made = absurd (omega (arith, first))
 queue_changed {X = X} (suc i) things t q change first within is made =
-    subst (λ (k : ℕ). t ≡ get_or things k t → set things k (record { queue = q; effects = t.effects }) ≡ changed_at i (λ t. record t { queue = change (queue_in (slice_get things i)) }) things) (pred_suc i)
+    subst (λ (k : ℕ). t ≡ get_or things k t
+    → set things k (record { queue = q; effects = t.effects })
+    ≡ changed_at i (λ t. record t { queue = change (queue_in (slice_get things i)) }) things) (pred_suc i)
     (λ is.
     queue_put things i t q within is
     ∙ ap (λ (q : Queued X). changed_at i (λ t. record t { queue = q }) things) (made ∙ ap (λ (f : Option (Things X)). change (queue_in f)) (sym (things_read things i t within is))))
     is
 
-pub effects_changed : {X : Type 0} → (o : ℕ) (things : List (Things X)) (t : Things X) (es : List Stood) (change : List Stood → List Stood) → 1 ≤ o → o ≤ length things → t ≡ get_or things (o - 1) t → es ≡ change t.effects →
+pub effects_changed : {X : Type 0}
+    → (o : ℕ) (things : List (Things X)) (t : Things X) (es : List Stood) (change : List Stood → List Stood) → 1 ≤ o
+    → o ≤ length things → t ≡ get_or things (o - 1) t → es ≡ change t.effects →
     set things (o - 1) (record { queue = t.queue; effects = es }) ≡ changed_object o (λ t. record t { effects = change (effects_in (things_at o things)) }) things
 effects_changed zero things t es change first within is made = absurd (omega (arith, first))
 effects_changed {X = X} (suc i) things t es change first within is made =
-    subst (λ (k : ℕ). t ≡ get_or things k t → set things k (record { queue = t.queue; effects = es }) ≡ changed_at i (λ t. record t { effects = change (effects_in (slice_get things i)) }) things) (pred_suc i)
+    subst (λ (k : ℕ). t ≡ get_or things k t
+    → set things k (record { queue = t.queue; effects = es })
+    ≡ changed_at i (λ t. record t { effects = change (effects_in (slice_get things i)) }) things) (pred_suc i)
     (λ is.
     effects_put things i t es within is
     ∙ ap (λ (es : List Stood). changed_at i (λ t. record t { effects = es }) things) (made ∙ ap (λ (f : Option (Things X)). change (effects_in f)) (sym (things_read things i t within is))))

@@ -19,7 +19,9 @@ use Rattle.world_rules.specs.Turns.{new_world, begin, turn, turn_done, unapply}
 use Rattle.world_rules.proofs.Played.{text, script, creature, area_of, start, no_cell, does, answers, begins, next_entry, turns}
 
 abbrev two : PlainArea → World ℕ
-two area = new_world (area_of area (creature "a" (IntVar (codes "n") (pos 5) ∷ TextVar (codes "n") (codes "x") ∷ []) [] ∷ creature "a" [] (script "OnUserDefined" "other" ∷ []) ∷ [])) (10 ∷ 7 ∷ []) [] 1
+two area = new_world (area_of area
+    (creature "a" (IntVar (codes "n") (pos 5) ∷ TextVar (codes "n") (codes "x") ∷ []) [] ∷ creature "a" []
+    (script "OnUserDefined" "other" ∷ []) ∷ [])) (10 ∷ 7 ∷ []) [] 1
 
 abbrev newer : PlainArea → World ℕ
 newer area = record (two area) { version = 2 }
@@ -58,7 +60,9 @@ unfolding engine header_table header_routines
 delayed_by_less_than_none area = refl
 
 -- a delay counts from now
-delayed_from_now : (area : PlainArea) → (does 7 2 (value.Int (pos 2147483647) ∷ []) (Some 9) (record (two area) { clock = 1000 })).agenda.entries ≡ record { due = 2147484647; number = 0; kind = Stored 2 9 } ∷ []
+delayed_from_now : (area : PlainArea)
+    → (does 7 2 (value.Int (pos 2147483647) ∷ []) (Some 9) (record (two area) { clock = 1000 })).agenda.entries
+    ≡ record { due = 2147484647; number = 0; kind = Stored 2 9 } ∷ []
 unfolding engine header_table header_routines
 delayed_from_now area = refl
 
@@ -117,7 +121,10 @@ unfolding engine header_table header_routines
 acts_and_rests area = refl
 
 -- what was delayed stays when a queue is emptied, and so does the Turn of another object
-clears_its_own : (area : PlainArea) → (does 9 2 (value.Int (pos 0) ∷ []) None (does 11 1 (value.Int (pos 0) ∷ []) None (does 7 2 (value.Int (pos 3) ∷ []) (Some 9) (speaks (newer area))))).agenda.entries
+clears_its_own : (area : PlainArea)
+    → (does 9 2 (value.Int (pos 0) ∷ []) None
+    (does 11 1 (value.Int (pos 0) ∷ []) None
+    (does 7 2 (value.Int (pos 3) ∷ []) (Some 9) (speaks (newer area))))).agenda.entries
     ≡ record { due = 0; number = 2; kind = Turn 1 } ∷ record { due = 3; number = 1; kind = Stored 2 9 } ∷ []
 unfolding engine header_table header_routines
 clears_its_own area = refl
@@ -221,7 +228,9 @@ signalled_to_none : (area : PlainArea) → does 39 1 (value.Object 0 ∷ value.E
 unfolding engine header_table header_routines
 signalled_to_none area = refl
 
-signalled_by_the_other_name : (area : PlainArea) → next_entry (does 39 1 (value.Object 2 ∷ value.Event (negsuc 0) ∷ []) None (two area)) ≡ Some (record { due = 0; number = 0; kind = Event 2 (codes "other") (negsuc 0) })
+signalled_by_the_other_name : (area : PlainArea)
+    → next_entry (does 39 1 (value.Object 2 ∷ value.Event (negsuc 0) ∷ []) None (two area))
+    ≡ Some (record { due = 0; number = 0; kind = Event 2 (codes "other") (negsuc 0) })
 unfolding engine header_table header_routines
 signalled_by_the_other_name area = refl
 

@@ -93,7 +93,9 @@ emptied_second area = refl
 abbrev again : World ℕ → World ℕ
 again w = does 6 1 (value.Object 1 ∷ []) (Some 7) (begins w)
 
-again_left : (area : PlainArea) → (again (again (again (again (again (new_world (guarded area) [] (start 0 1 "s" ∷ []) 2)))))).agenda ≡ record { entries = record { due = 0; number = 5; kind = Stored 1 7 } ∷ []; next = 6 }
+again_left : (area : PlainArea)
+    → (again (again (again (again (again (new_world (guarded area) [] (start 0 1 "s" ∷ []) 2)))))).agenda
+    ≡ record { entries = record { due = 0; number = 5; kind = Stored 1 7 } ∷ []; next = 6 }
 unfolding engine header_table header_routines
 again_left area = refl
 
@@ -154,7 +156,16 @@ beaten_trace : (area : PlainArea) → trace_text (beaten area).trace ≡ codes "
 unfolding engine header_table header_routines trace_text line_text digits escaped spelling value_text
 beaten_trace area = refl
 
-beaten_end : (area : PlainArea) → beaten area ≡ record (new_world (area_of area (record (object (guarded area) 1) { vars = IntVar (codes "count") (pos 7) ∷ [] } ∷ [])) [] [] 2) { clock = 12000; agenda = record { entries = []; next = 6 }; trace = (beaten area).trace }
+beaten_end : (area : PlainArea)
+    → beaten area ≡ record (new_world
+    (area_of area (record (object (guarded area) 1) {
+      vars = IntVar (codes "count")
+          (pos 7) ∷ [];
+    } ∷ [])) [] [] 2) {
+      clock = 12000;
+      agenda = record { entries = []; next = 6 };
+      trace = (beaten area).trace;
+    }
 unfolding engine header_table header_routines
 beaten_end area = refl
 

@@ -79,7 +79,9 @@ acts_end area = refl
 acts_just : (area : PlainArea) → (acts area 5).ending ≡ PlayEnd.Done
 acts_just area = refl
 
-acts_few : (area : PlainArea) → end_text name_of (acts area 1) ≡ codes "queue #1 do s\nqueue #1 speak hi\ndue 0 3 turn #1\ndue 2 1 event #0 none\ndue 3 2 event #0 -\nend entries clock 0 entries 1 instructions 4\n"
+acts_few : (area : PlainArea)
+    → end_text name_of (acts area 1)
+    ≡ codes "queue #1 do s\nqueue #1 speak hi\ndue 0 3 turn #1\ndue 2 1 event #0 none\ndue 3 2 event #0 -\nend entries clock 0 entries 1 instructions 4\n"
 unfolding end_text world_text digits escaped spelling
 acts_few area = refl
 

@@ -35,7 +35,9 @@ module _ {X : Type 0} (runner : Runner X) (bounds : Bounds) (more : ℕ) where
   pub goes_on : (first : ℕ) (p : Progress X)
       → plays runner bounds (first + more) p ≡ continued runner bounds more (plays runner bounds first p).ending (plays runner bounds first p)
   goes_on zero p = ap (λ n. plays runner bounds n p) (zero-add more)
-  goes_on (suc first) p = ap (λ n. plays runner bounds n p) (suc_more first) ∙ turn_goes (plays runner bounds (first + more)) (plays runner bounds first) (goes_on first) (begin bounds.until p.world) (p.entries == bounds.entries) p
+  goes_on (suc first) p = ap (λ n. plays runner bounds n p) (suc_more first)
+      ∙ turn_goes (plays runner bounds (first + more)) (plays runner bounds first) (goes_on first)
+      (begin bounds.until p.world) (p.entries == bounds.entries) p
 
 pub plays_go_on : {X : Type 0} → PlaysGoOn X
 plays_go_on runner bounds first more p = goes_on runner bounds more first p

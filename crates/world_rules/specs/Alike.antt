@@ -36,7 +36,8 @@ OptionAlike R None (Some y) = ⊥
 OptionAlike R (Some x) None = ⊥
 
 abbrev pub KindAlike : {X Y : Type 0} → (X → Y → Type 0) → Kind X → Kind Y → Type 0
-KindAlike R (Event o script user) (Event p name number) = (o ≡ p) × (script ≡ name) × (user ≡ number)
+KindAlike R (Event o script user) (Event p name number) = (o ≡ p) × (script ≡ name)
+    × (user ≡ number)
 KindAlike R (Stored o x) (Stored p y) = (o ≡ p) × R x y
 KindAlike R (Turn o) (Turn p) = o ≡ p
 KindAlike R (Unapply o) (Unapply p) = o ≡ p
@@ -48,17 +49,20 @@ pub record EntryAlike {X Y : Type 0} (R : X → Y → Type 0) (e : Entry X) (f :
   pub kind : KindAlike R e.kind f.kind
 
 -- two calls' answers: one value, and worlds that are alike
-pub record AnsweredAlike {X Y : Type 0} (R : X → Y → Type 0) (a : Answered X) (b : Answered Y) : Type 0 where
+pub record AnsweredAlike {X Y : Type 0} (R : X → Y → Type 0) (a : Answered X)
+    (b : Answered Y) : Type 0 where
   pub value : a.value ≡ b.value
   pub world : Alike R a.world b.world
 
 -- two entries that are begun, or none in either world
-abbrev pub BegunAlike : {X Y : Type 0} → (X → Y → Type 0) → Option (Begun X) → Option (Begun Y) → Type 0
+abbrev pub BegunAlike : {X Y : Type 0} → (X → Y → Type 0) → Option (Begun X) → Option (Begun Y)
+    → Type 0
 BegunAlike R None None = Unit {0}
 BegunAlike R (Some a) (Some b) = EntryAlike R a.entry b.entry × Alike R a.world b.world
 BegunAlike R None (Some b) = ⊥
 BegunAlike R (Some a) None = ⊥
 
-pub record TurnedAlike {X Y : Type 0} (R : X → Y → Type 0) (t : Turned X) (u : Turned Y) : Type 0 where
+pub record TurnedAlike {X Y : Type 0} (R : X → Y → Type 0) (t : Turned X)
+    (u : Turned Y) : Type 0 where
   pub action : OptionAlike R t.action u.action
   pub world : Alike R t.world u.world

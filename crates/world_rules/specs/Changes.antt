@@ -17,7 +17,10 @@ use Rattle.world_rules.specs.World.{World, queue_of, effects_of}
 
 -- one line more, at the clock's time
 abbrev pub told : {X : Type 0} → ℕ → Told → World X → World X
-told o what w = record w { trace = w.trace ++ record { clock = w.clock; object = o; told = what } ∷ [] }
+told o what w = record w {
+  trace = w.trace
+      ++ record { clock = w.clock; object = o; told = what } ∷ [];
+}
 
 -- one agenda entry more, under the next number
 abbrev pub post : {X : Type 0} → ℕ → Kind X → World X → World X
@@ -38,7 +41,8 @@ changed_at zero change (x ∷ xs) = change x ∷ xs
 changed_at (suc i) change (x ∷ xs) = x ∷ changed_at i change xs
 
 -- what is kept of the object is changed; there is no object 0
-abbrev pub changed_object : {X : Type 0} → ℕ → (Things X → Things X) → List (Things X) → List (Things X)
+abbrev pub changed_object : {X : Type 0} → ℕ → (Things X → Things X) → List (Things X)
+    → List (Things X)
 changed_object zero change things = things
 changed_object (suc i) change things = changed_at i change things
 
@@ -46,7 +50,10 @@ abbrev pub with_queue : {X : Type 0} → ℕ → Queued X → World X → World 
 with_queue o q w = record w { things = changed_object o (λ t. record t { queue = q }) w.things }
 
 abbrev pub with_effects : {X : Type 0} → ℕ → List Stood → World X → World X
-with_effects o effects w = record w { things = changed_object o (λ t. record t { effects = effects }) w.things }
+with_effects o effects w = record w {
+  things = changed_object o
+      (λ t. record t { effects = effects }) w.things;
+}
 
 -- the object has these actions to do, and its mark stays
 abbrev pub with_actions : {X : Type 0} → ℕ → List (Item X) → World X → World X
@@ -62,7 +69,8 @@ with_action o item w = with_actions o ((queue_of o w).actions ++ item ∷ []) w
 
 -- one effect more on an object, the last of all
 abbrev pub with_effect : {X : Type 0} → ℕ → Option ℕ → Effect → World X → World X
-with_effect o number e w = with_effects o (effects_of o w ++ record { number = number; effect = e } ∷ []) w
+with_effect o number e w = with_effects o
+    (effects_of o w ++ record { number = number; effect = e } ∷ []) w
 
 -- the area's variables of an object are changed
 abbrev pub with_variables : {X : Type 0} → ℕ → (List Variable → List Variable) → World X → World X

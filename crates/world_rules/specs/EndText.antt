@@ -54,7 +54,8 @@ kind_text name_of (Turn o) = codes "turn " ++ object_text o
 kind_text name_of (Unapply o) = codes "unapply " ++ object_text o
 
 abbrev pub due_line : {X : Type 0} → (X → List ℕ) → Entry X → List ℕ
-due_line name_of e = codes "due " ++ decimal e.due ++ 32 ∷ decimal e.number ++ 32 ∷ kind_text name_of e.kind ++ 10 ∷ []
+due_line name_of e = codes "due " ++ decimal e.due ++ 32 ∷ decimal e.number
+    ++ 32 ∷ kind_text name_of e.kind ++ 10 ∷ []
 
 -- ---- the whole
 
@@ -67,11 +68,14 @@ end_word Paused = codes "paused"
 
 abbrev pub end_line : PlayEnd → ℕ → ℕ → ℕ → List ℕ
 end_line ending clock entries count =
-    codes "end " ++ end_word ending ++ codes " clock " ++ decimal clock ++ codes " entries " ++ decimal entries ++ codes " instructions " ++ decimal count ++ 10 ∷ []
+    codes "end " ++ end_word ending ++ codes " clock " ++ decimal clock ++ codes " entries "
+    ++ decimal entries ++ codes " instructions " ++ decimal count ++ 10 ∷ []
 
 -- what stands on objects, what is in their queues, and what waits on the agenda
 unfoldable pub world_text : {X : Type 0} → (X → List ℕ) → World X → List ℕ
-world_text name_of w = by_object standing_lines 1 w.things ++ by_object (queue_lines name_of) 1 w.things ++ flat_map (due_line name_of) w.agenda.entries
+world_text name_of w = by_object standing_lines 1 w.things
+    ++ by_object (queue_lines name_of) 1 w.things ++ flat_map (due_line name_of) w.agenda.entries
 
 unfoldable pub end_text : {X : Type 0} → (X → List ℕ) → Played X → List ℕ
-end_text name_of p = world_text name_of p.last.world ++ end_line p.ending p.last.world.clock p.last.entries p.last.count
+end_text name_of p = world_text name_of p.last.world
+    ++ end_line p.ending p.last.world.clock p.last.entries p.last.count

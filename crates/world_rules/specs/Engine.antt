@@ -28,7 +28,8 @@ by_row (Some r) c w = called r c w
 -- what a world function gives: of an effect its number and the ints among its arguments, else the
 -- result type's starting value
 abbrev pub world_value : ℕ → Ty → List Value → Option Value
-world_value routine ty.Effect values = Some (value.Effect (record { routine = routine; ints = ints_of values }))
+world_value routine ty.Effect values = Some
+    (value.Effect (record { routine = routine; ints = ints_of values }))
 world_value routine ty.Void values = None
 world_value routine ty.Int values = start_value ty.Int
 world_value routine ty.Text values = start_value ty.Text
@@ -44,10 +45,14 @@ abbrev pub by_role : {X : Type 0} → CellLookup → ℕ → Routine → Role �
 by_role cell n r (role.Built own) c w = by_row (row_numbered own rows) c w
 by_role cell n r (role.Pure k) c w = record { value = pure cell k c.values; world = w }
 by_role cell n r role.World c w =
-    record { value = world_value n r.result c.values; world = told c.caller (line.Call r.name c.values) w }
+    record {
+      value = world_value n r.result c.values;
+      world = told c.caller (line.Call r.name c.values) w;
+    }
 by_role cell n r role.Uncallable c w = leaves w
 
-abbrev pub by_routine : {X : Type 0} → CellLookup → ℕ → Option Routine → Call X → World X → Answered X
+abbrev pub by_routine : {X : Type 0} → CellLookup → ℕ → Option Routine → Call X → World X
+    → Answered X
 by_routine cell n None c w = leaves w
 by_routine cell n (Some r) c w = by_role cell n r r.role c w
 

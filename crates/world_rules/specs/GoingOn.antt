@@ -10,4 +10,6 @@ continued runner bounds more _ p = p
 -- A play that is broken off after some entries and then goes on is the unbroken play.
 abbrev pub PlaysGoOn : Type 0 → Type 0
 PlaysGoOn X = (runner : Runner X) (bounds : Bounds) (first more : ℕ) (p : Progress X)
-    → plays runner bounds (first + more) p ≡ continued runner bounds more (plays runner bounds first p).ending (plays runner bounds first p)
+    → plays runner bounds (first + more) p
+    ≡ continued runner bounds more (plays runner bounds first p).ending
+    (plays runner bounds first p)

@@ -17,4 +17,5 @@ pub record StaysInPlan {X : Type 0} (until : ℕ) (w v : World X) : Type 0 where
   pub version : v.version ≡ w.version
   pub random : (most : ℕ) → length w.random ≤ most → length v.random ≤ most
   pub clock : w.clock ≤ until → v.clock ≤ until
-  pub due : w.clock ≤ until → (time : ℕ) → until + longest_delay ≤ time → IsDueBy time w → IsDueBy time v
+  pub due : w.clock ≤ until → (time : ℕ) → until + longest_delay ≤ time → IsDueBy time w
+      → IsDueBy time v

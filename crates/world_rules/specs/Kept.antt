@@ -97,7 +97,8 @@ pub record IsDone {X : Type 0} (w v : World X) : Type 0 where
 
 abbrev pub NewIsWorld : Type 0 → Type 0
 NewIsWorld X = (area : PlainArea) (random : List ℕ) (events : List Planned) (version : ℕ)
-    → AllByRecursion (λ (p : Planned). p.object ≤ length area.objects) events → IsWorld (new_world {X = X} area random events version)
+    → AllByRecursion (λ (p : Planned). p.object ≤ length area.objects) events
+    → IsWorld (new_world {X = X} area random events version)
 
 abbrev pub EngineKeeps : Type 0 → Type 0
 EngineKeeps X = (table : EngineTable) (cell : CellLookup) (n : ℕ) (c : Call X) (w : World X)
@@ -107,10 +108,12 @@ abbrev pub BeginKeeps : Type 0 → Type 0
 BeginKeeps X = (until : ℕ) (w : World X) → IsWorld w → IfSome (begin until w) (IsBegun until w)
 
 abbrev pub TurnKeeps : Type 0 → Type 0
-TurnKeeps X = (o : ℕ) (w : World X) → IsWorld w → IsTrue (is_valid o w) → IsActing o w → IsTurned o w (turn o w)
+TurnKeeps X = (o : ℕ) (w : World X) → IsWorld w → IsTrue (is_valid o w) → IsActing o w
+    → IsTurned o w (turn o w)
 
 abbrev pub TurnDoneKeeps : Type 0 → Type 0
-TurnDoneKeeps X = (o : ℕ) (w : World X) → IsWorld w → IsTrue (is_valid o w) → IsActing o w → IsDone w (turn_done o w)
+TurnDoneKeeps X = (o : ℕ) (w : World X) → IsWorld w → IsTrue (is_valid o w) → IsActing o w
+    → IsDone w (turn_done o w)
 
 abbrev pub UnapplyKeeps : Type 0 → Type 0
 UnapplyKeeps X = (o number : ℕ) (w : World X) → IsWorld w → IsStep w (unapply o number w)

@@ -51,7 +51,11 @@ quiet w = record { stopped = false; count = 0; world = w }
 -- stopped entry isn't finished.
 abbrev pub finished_as : {X : Type 0} → Ending → (World X → World X) → Run X → Entered X
 finished_as Over rest r = record { stopped = false; count = r.count; world = rest r.world }
-finished_as (Divided self) rest r = record { stopped = false; count = r.count; world = rest (fault self r.world) }
+finished_as (Divided self) rest r = record {
+  stopped = false;
+  count = r.count;
+  world = rest (fault self r.world);
+}
 finished_as Stopped rest r = record { stopped = true; count = r.count; world = r.world }
 
 abbrev pub finished : {X : Type 0} → (World X → World X) → Run X → Entered X
@@ -135,15 +139,20 @@ after_entry true p go = record { ending = StoppedInside; last = p }
 after_entry false p go = go p
 
 -- the entry that is begun, where one is due, and the play from there on
-abbrev pub next_entry : {X : Type 0} → Runner X → Option (Begun X) → Progress X → (Progress X → Played X) → Played X
+abbrev pub next_entry : {X : Type 0} → Runner X → Option (Begun X) → Progress X
+    → (Progress X → Played X) → Played X
 next_entry runner None p go = record { ending = Done; last = p }
-next_entry runner (Some b) p go = let e = entry_entered runner b in after_entry e.stopped (further e p) go
+next_entry runner (Some b) p go = let e = entry_entered runner b in after_entry e.stopped
+    (further e p) go
 
 -- the play from here on, which is broken off once so many further entries were taken
 abbrev pub plays : {X : Type 0} → Runner X → Bounds → ℕ → Progress X → Played X
 plays runner bounds zero p = record { ending = Paused; last = p }
 plays runner bounds (suc left) p =
-    if p.entries == bounds.entries then record { ending = full (begin bounds.until p.world); last = p }
+    if p.entries == bounds.entries then record {
+      ending = full (begin bounds.until p.world);
+      last = p;
+    }
     else next_entry runner (begin bounds.until p.world) p (plays runner bounds left)
 
 -- a play that goes on from here
@@ -156,4 +165,5 @@ unplayed w = record { entries = 0; count = 0; trace = []; world = w }
 
 -- a whole play from a world on: it isn't broken off
 abbrev pub play : {X : Type 0} → Runner X → ℕ → ℕ → World X → Played X
-play runner entries until w = play_on runner (record { entries = entries; until = until; stop = entries + 1 }) (unplayed w)
+play runner entries until w = play_on runner
+    (record { entries = entries; until = until; stop = entries + 1 }) (unplayed w)

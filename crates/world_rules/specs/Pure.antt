@@ -28,7 +28,8 @@ leading_number bytes = cast_signed w32 (digits_value 10 (take_while is_ascii_dig
 -- with none
 abbrev pub string_number : List ℕ → ℤ
 string_number [] = pos 0
-string_number (b ∷ bytes) = if b == 45 then int_wrapping_neg w32 (leading_number bytes) else leading_number (b ∷ bytes)
+string_number (b ∷ bytes) = if b == 45 then int_wrapping_neg w32
+    (leading_number bytes) else leading_number (b ∷ bytes)
 
 -- so many hexadecimal digits of a number, the lowest last
 abbrev pub hex_digits : ℕ → ℕ → List ℕ
@@ -54,7 +55,8 @@ middle_part bytes (negsuc start) count = []
 -- a string with another one put in at a place: a negative place is the beginning, and one past the
 -- end the end
 abbrev pub inserted : List ℕ → List ℕ → ℤ → List ℕ
-inserted bytes piece place = take (at_least_zero place) bytes ++ piece ++ drop (at_least_zero place) bytes
+inserted bytes piece place = take (at_least_zero place) bytes ++ piece
+    ++ drop (at_least_zero place) bytes
 
 -- The functions, in the order of their numbers.
 abbrev pub pure_functions : CellLookup → List (List Value → Value)

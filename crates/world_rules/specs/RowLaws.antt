@@ -30,7 +30,8 @@ module _ {X : Type 0} (P : World X → Type 0) (c : Call X) where
 
   -- so does the line that a world function leaves
   abbrev pub CallsKeep : EngineTable → ℕ → Type 0
-  CallsKeep table n = (r : Routine) → slice_get table.routines n ≡ Some r → (w : World X) → P w → P (told c.caller (line.Call r.name c.values) w)
+  CallsKeep table n = (r : Routine) → slice_get table.routines n ≡ Some r → (w : World X) → P w
+      → P (told c.caller (line.Call r.name c.values) w)
 
   pub all_keep : EachKeeps → (changes : List Change) (w : World X) → P w → P (all_done changes c w)
   all_keep each [] w h = h
@@ -40,20 +41,25 @@ module _ {X : Type 0} (P : World X → Type 0) (c : Call X) where
   row_keeps each None w h = h
   row_keeps each (Some r) w h = all_keep each r.changes w h
 
-  role_keeps : (cell : CellLookup) (n : ℕ) (r : Routine) (kind : Role) (w : World X) → EachKeeps → P (told c.caller (line.Call r.name c.values) w) → P w → P (by_role cell n r kind c w).world
+  role_keeps : (cell : CellLookup) (n : ℕ) (r : Routine) (kind : Role) (w : World X) → EachKeeps
+      → P (told c.caller (line.Call r.name c.values) w) → P w → P (by_role cell n r kind c w).world
   role_keeps cell n r (role.Built own) w each line h = row_keeps each (row_numbered own rows) w h
   role_keeps cell n r (role.Pure k) w each line h = h
   role_keeps cell n r role.World w each line h = line
   role_keeps cell n r role.Uncallable w each line h = h
 
-  routine_keeps : (cell : CellLookup) (n : ℕ) (r : Option Routine) (w : World X) → EachKeeps → ((own : Routine) → r ≡ Some own → P (told c.caller (line.Call own.name c.values) w)) → P w → P (by_routine cell n r c w).world
+  routine_keeps : (cell : CellLookup) (n : ℕ) (r : Option Routine) (w : World X) → EachKeeps
+      → ((own : Routine) → r ≡ Some own → P (told c.caller (line.Call own.name c.values) w)) → P w
+      → P (by_routine cell n r c w).world
   routine_keeps cell n None w each line h = h
   routine_keeps cell n (Some r) w each line h = role_keeps cell n r r.role w each (line r refl) h
 
   -- each call of the engine keeps it
-  pub engine_keeps : (table : EngineTable) (cell : CellLookup) (n : ℕ) → EachKeeps → CallsKeep table n → (w : World X) → P w → P (engine table cell n c w).world
+  pub engine_keeps : (table : EngineTable) (cell : CellLookup) (n : ℕ) → EachKeeps
+      → CallsKeep table n → (w : World X) → P w → P (engine table cell n c w).world
   unfolding engine
-  engine_keeps table cell n each lines w h = routine_keeps cell n (slice_get table.routines n) w each (λ r at. lines r at w h) h
+  engine_keeps table cell n each lines w h = routine_keeps cell n
+      (slice_get table.routines n) w each (λ r at. lines r at w h) h
 
 -- ---- what holds of answers
 
@@ -62,23 +68,31 @@ module _ {X : Type 0} (Q : Option Value → Type 0) (none : Q None) (c : Call X)
   row_answers each None = none
   row_answers each (Some r) = each r.answers
 
-  role_answers : (cell : CellLookup) (n : ℕ) (r : Routine) (kind : Role) → ((a : Answer) → Q (answer a c.values w)) → ((k : ℕ) → Q (pure cell k c.values)) → Q (world_value n r.result c.values)
+  role_answers : (cell : CellLookup) (n : ℕ) (r : Routine) (kind : Role)
+      → ((a : Answer) → Q (answer a c.values w)) → ((k : ℕ) → Q (pure cell k c.values))
+      → Q (world_value n r.result c.values)
       → Q (by_role cell n r kind c w).value
   role_answers cell n r (role.Built own) each pures value = row_answers each (row_numbered own rows)
   role_answers cell n r (role.Pure k) each pures value = pures k
   role_answers cell n r role.World each pures value = value
   role_answers cell n r role.Uncallable each pures value = none
 
-  routine_answers : (cell : CellLookup) (n : ℕ) (r : Option Routine) → ((a : Answer) → Q (answer a c.values w)) → ((k : ℕ) → Q (pure cell k c.values))
-      → ((own : Routine) → r ≡ Some own → Q (world_value n own.result c.values)) → Q (by_routine cell n r c w).value
+  routine_answers : (cell : CellLookup) (n : ℕ) (r : Option Routine)
+      → ((a : Answer) → Q (answer a c.values w)) → ((k : ℕ) → Q (pure cell k c.values))
+      → ((own : Routine) → r ≡ Some own → Q (world_value n own.result c.values))
+      → Q (by_routine cell n r c w).value
   routine_answers cell n None each pures value = none
-  routine_answers cell n (Some r) each pures value = role_answers cell n r r.role each pures (value r refl)
+  routine_answers cell n (Some r) each pures value = role_answers cell n r r.role each pures
+      (value r refl)
 
   -- what each answer, function and starting value has, the value of each call has
-  pub engine_answers : (table : EngineTable) (cell : CellLookup) (n : ℕ) → ((a : Answer) → Q (answer a c.values w)) → ((k : ℕ) → Q (pure cell k c.values))
-      → ((r : Routine) → slice_get table.routines n ≡ Some r → Q (world_value n r.result c.values)) → Q (engine table cell n c w).value
+  pub engine_answers : (table : EngineTable) (cell : CellLookup) (n : ℕ)
+      → ((a : Answer) → Q (answer a c.values w)) → ((k : ℕ) → Q (pure cell k c.values))
+      → ((r : Routine) → slice_get table.routines n ≡ Some r → Q (world_value n r.result c.values))
+      → Q (engine table cell n c w).value
   unfolding engine
-  engine_answers table cell n each pures value = routine_answers cell n (slice_get table.routines n) each pures value
+  engine_answers table cell n each pures value = routine_answers cell n
+      (slice_get table.routines n) each pures value
 
 -- ---- posts
 
@@ -87,7 +101,8 @@ module _ {X : Type 0} where
   abbrev pub Posts : ℕ → World X → World X → Type 0
   Posts n w v = v.agenda.next ≤ w.agenda.next + n
 
-  posts_if : (b : Bool) (n : ℕ) (w v u : World X) → Posts n w v → Posts n w u → Posts n w (if b then v else u)
+  posts_if : (b : Bool) (n : ℕ) (w v u : World X) → Posts n w v → Posts n w u
+      → Posts n w (if b then v else u)
   posts_if true n w v u h k = h
   posts_if false n w v u h k = k
 
@@ -114,7 +129,8 @@ module _ {X : Type 0} where
   appended_posts : (o : ℕ) (item : Item X) (w : World X) → Posts 1 w (appended o item w)
   appended_posts o item w =
       posts_if (is_valid o w) 1 w (awake o (with_action o item w)) w
-      (posts_if (queue_of o (with_action o item w)).busy 1 w (with_action o item w) _ (omega arith) (omega arith)) (omega arith)
+      (posts_if (queue_of o (with_action o item w)).busy 1 w (with_action o item w) _ (omega arith)
+      (omega arith)) (omega arith)
 
   queued_posts : (item : NewItem) (c : Call X) (w : World X) → Posts 1 w (queued item c w)
   queued_posts TheAction c w = optional c.action
@@ -128,9 +144,11 @@ module _ {X : Type 0} where
   cleared_posts : (o : ℕ) (w : World X) → Posts 0 w (cleared o w)
   cleared_posts o w =
       posts_if (w.version == 2) 0 w (at_rest o (with_actions o [] w)) (with_actions o [] w)
-      (posts_if (has_turn o (with_actions o [] w)) 0 w _ (with_actions o [] w) (omega arith) (omega arith)) (omega arith)
+      (posts_if (has_turn o (with_actions o [] w)) 0 w _ (with_actions o [] w) (omega arith)
+      (omega arith)) (omega arith)
 
-  applied_posts : (duration : ℤ) (o : ℕ) (e : Effect) (ms : ℤ) (w : World X) → Posts 1 w (applied duration o e ms w)
+  applied_posts : (duration : ℤ) (o : ℕ) (e : Effect) (ms : ℤ) (w : World X)
+      → Posts 1 w (applied duration o e ms w)
   applied_posts (pos zero) o e ms w = omega arith
   applied_posts (pos (suc zero)) o e ms w = omega arith
   applied_posts (pos (suc (suc zero))) o e ms w = omega arith
@@ -145,13 +163,20 @@ module _ {X : Type 0} where
   done_posts (Delay ms) c w = delayed_posts c.caller (int_at ms c.values) c.action w
   done_posts (Queue item) c w = queued_posts item c w
   done_posts Clear c w = cleared_posts c.caller w
-  done_posts (Vary o change) c w = posts_if (is_valid (object_at o c.values) w) 0 w _ w (omega arith) (omega arith)
+  done_posts (Vary o change) c w = posts_if (is_valid (object_at o c.values) w) 0 w _ w
+      (omega arith) (omega arith)
   done_posts (Apply duration e o ms) c w =
-      posts_if (is_valid (object_at o c.values) w) 1 w _ w (applied_posts (int_at duration c.values) (object_at o c.values) (effect_at e c.values) (int_at ms c.values) w) (omega arith)
-  done_posts (Remove o e) c w = posts_if (list_any (is_effect (effect_at e c.values)) (effects_of (object_at o c.values) w)) 0 w _ w (omega arith) (omega arith)
-  done_posts (Signal o e) c w = posts_if (is_valid (object_at o c.values) w) 1 w _ w (omega arith) (omega arith)
+      posts_if (is_valid (object_at o c.values) w) 1 w _ w
+      (applied_posts (int_at duration c.values) (object_at o c.values) (effect_at e c.values)
+      (int_at ms c.values) w) (omega arith)
+  done_posts (Remove o e) c w = posts_if
+      (list_any (is_effect (effect_at e c.values)) (effects_of (object_at o c.values) w)) 0 w _ w
+      (omega arith) (omega arith)
+  done_posts (Signal o e) c w = posts_if (is_valid (object_at o c.values) w) 1 w _ w (omega arith)
+      (omega arith)
 
-  pub all_done_posts : (changes : List Change) (c : Call X) (w : World X) → Posts (all_posts changes) w (all_done changes c w)
+  pub all_done_posts : (changes : List Change) (c : Call X) (w : World X)
+      → Posts (all_posts changes) w (all_done changes c w)
   all_done_posts [] c w = omega arith
   all_done_posts (x ∷ changes) c w =
       let first = done_posts x c w in
@@ -173,34 +198,42 @@ abbrev pub PostsOne : Option Row → Type 0
 PostsOne None = Unit {0}
 PostsOne (Some r) = all_posts r.changes ≤ 1
 
-posts_if_found : (b : Bool) (r : Row) (rest : Option Row) → all_posts r.changes ≤ 1 → PostsOne rest → PostsOne (cond b (Some r) rest)
+posts_if_found : (b : Bool) (r : Row) (rest : Option Row) → all_posts r.changes ≤ 1 → PostsOne rest
+    → PostsOne (cond b (Some r) rest)
 posts_if_found true r rest own others = own
 posts_if_found false r rest own others = others
 
-found_posts_one : (n : ℕ) (all : List Row) → list_all posts_one all ≡ true → PostsOne (row_numbered n all)
+found_posts_one : (n : ℕ) (all : List Row) → list_all posts_one all ≡ true
+    → PostsOne (row_numbered n all)
 found_posts_one n [] few = tt
 found_posts_one n (r ∷ all) few =
     let parts = and_parts (posts_one r) (list_all posts_one all) few in
-    posts_if_found (r.number == n) r (row_numbered n all) (one_or_none (all_posts r.changes) parts.0) (found_posts_one n all parts.1)
+    posts_if_found (r.number == n) r (row_numbered n all)
+    (one_or_none (all_posts r.changes) parts.0) (found_posts_one n all parts.1)
 
 pub row_posts_one : (n : ℕ) → PostsOne (row_numbered n rows)
 row_posts_one n = found_posts_one n rows rows_post_one
 
-by_row_posts : {X : Type 0} (r : Option Row) (c : Call X) (w : World X) → PostsOne r → Posts 1 w (by_row r c w).world
+by_row_posts : {X : Type 0} (r : Option Row) (c : Call X) (w : World X) → PostsOne r
+    → Posts 1 w (by_row r c w).world
 by_row_posts None c w few = omega arith
 by_row_posts (Some r) c w few = let most = all_done_posts r.changes c w in omega (arith, few, most)
 
-role_posts : {X : Type 0} (cell : CellLookup) (n : ℕ) (r : Routine) (kind : Role) (c : Call X) (w : World X) → Posts 1 w (by_role cell n r kind c w).world
-role_posts cell n r (role.Built own) c w = by_row_posts (row_numbered own rows) c w (row_posts_one own)
+role_posts : {X : Type 0} (cell : CellLookup) (n : ℕ) (r : Routine) (kind : Role) (c : Call X)
+    (w : World X) → Posts 1 w (by_role cell n r kind c w).world
+role_posts cell n r (role.Built own) c w = by_row_posts (row_numbered own rows) c w
+    (row_posts_one own)
 role_posts cell n r (role.Pure k) c w = omega arith
 role_posts cell n r role.World c w = omega arith
 role_posts cell n r role.Uncallable c w = omega arith
 
-routine_posts : {X : Type 0} (cell : CellLookup) (n : ℕ) (r : Option Routine) (c : Call X) (w : World X) → Posts 1 w (by_routine cell n r c w).world
+routine_posts : {X : Type 0} (cell : CellLookup) (n : ℕ) (r : Option Routine) (c : Call X)
+    (w : World X) → Posts 1 w (by_routine cell n r c w).world
 routine_posts cell n None c w = omega arith
 routine_posts cell n (Some r) c w = role_posts cell n r r.role c w
 
 -- a call posts at most one entry
-pub engine_posts : {X : Type 0} (table : EngineTable) (cell : CellLookup) (n : ℕ) (c : Call X) (w : World X) → Posts 1 w (engine table cell n c w).world
+pub engine_posts : {X : Type 0} (table : EngineTable) (cell : CellLookup) (n : ℕ) (c : Call X)
+    (w : World X) → Posts 1 w (engine table cell n c w).world
 unfolding engine
 engine_posts table cell n c w = routine_posts cell n (slice_get table.routines n) c w

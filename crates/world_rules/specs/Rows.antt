@@ -97,7 +97,8 @@ abbrev pub read : {X A : Type 0} → ℕ → A → A → World X → A
 read o found missing w = if is_valid o w then found else missing
 
 -- the change of an object's variables; a number without an object changes nothing
-abbrev pub changed_variables : {X : Type 0} → ℕ → (List Variable → List Variable) → World X → World X
+abbrev pub changed_variables : {X : Type 0} → ℕ → (List Variable → List Variable) → World X
+    → World X
 changed_variables o change w = if is_valid o w then with_variables o change w else w
 
 -- ---- effects
@@ -107,7 +108,8 @@ changed_variables o change w = if is_valid o w then with_variables o change w el
 abbrev pub applied : {X : Type 0} → ℤ → ℕ → Effect → ℤ → World X → World X
 applied (pos zero) o e ms w = told o (line.Apply (pos 0) e) w
 applied (pos (suc zero)) o e ms w =
-    post (later ms w) (Unapply o) (with_effect o (Some w.agenda.next) e (told o (line.Apply (pos 1) e) w))
+    post (later ms w) (Unapply o)
+    (with_effect o (Some w.agenda.next) e (told o (line.Apply (pos 1) e) w))
 applied (pos (suc (suc zero))) o e ms w = with_effect o None e (told o (line.Apply (pos 2) e) w)
 applied (pos (suc (suc (suc n)))) o e ms w = w
 applied (negsuc n) o e ms w = w
@@ -119,7 +121,8 @@ applied_to duration o e ms w = if is_valid o w then applied duration o e ms w el
 abbrev pub removed : {X : Type 0} → ℕ → Effect → World X → World X
 removed o e w =
     if list_any (is_effect e) (effects_of o w)
-    then told o (line.Remove e) (with_effects o (without_first (is_effect e) (effects_of o w)) w) else w
+    then told o (line.Remove e)
+    (with_effects o (without_first (is_effect e) (effects_of o w)) w) else w
 
 -- ---- events
 
@@ -130,11 +133,13 @@ name_or (b ∷ first) second = b ∷ first
 
 -- the script of an object's own events
 abbrev pub event_script : List Script → List ℕ
-event_script scripts = name_or (script_named (codes "ScriptUserDefine") scripts) (script_named (codes "OnUserDefined") scripts)
+event_script scripts = name_or (script_named (codes "ScriptUserDefine") scripts)
+    (script_named (codes "OnUserDefined") scripts)
 
 -- the event of this user number comes to the object at once, where there is one
 abbrev pub signalled : {X : Type 0} → ℕ → ℤ → World X → World X
-signalled o user w = if is_valid o w then post w.clock (Event o (event_script (object w.area o).scripts) user) w else w
+signalled o user w = if is_valid o w then post w.clock
+    (Event o (event_script (object w.area o).scripts) user) w else w
 
 -- ---- small changes
 
@@ -204,7 +209,8 @@ done (Queue item) c w = queued item c w
 done Clear c w = cleared c.caller w
 done (Vary o change) c w = changed_variables (object_at o c.values) (varied change c.values) w
 done (Apply duration e o ms) c w =
-    applied_to (int_at duration c.values) (object_at o c.values) (effect_at e c.values) (int_at ms c.values) w
+    applied_to (int_at duration c.values) (object_at o c.values) (effect_at e c.values)
+    (int_at ms c.values) w
 done (Remove o e) c w = removed (object_at o c.values) (effect_at e c.values) w
 done (Signal o e) c w = signalled (object_at o c.values) (event_at e c.values) w
 
@@ -268,12 +274,15 @@ pub data Answer : Type 0 where
 abbrev pub answer : {X : Type 0} → Answer → List Value → World X → Option Value
 answer Nothing values w = None
 answer (Random n) values w = (drawn (int_at n values) w).value
-answer (ByTag tag n) values w = Some (value.Object (by_tag w.area (text_at tag values) (int_at n values)))
+answer (ByTag tag n) values w = Some
+    (value.Object (by_tag w.area (text_at tag values) (int_at n values)))
 answer (IsThere o) values w = Some (value.Int (as_int (is_valid (object_at o values) w)))
 answer (IntOf o f) values w =
-    Some (value.Int (read (object_at o values) (int_field f values (object w.area (object_at o values))) (pos 0) w))
+    Some (value.Int (read (object_at o values)
+    (int_field f values (object w.area (object_at o values))) (pos 0) w))
 answer (TextOf o f) values w =
-    Some (string_value (read (object_at o values) (text_field f values (object w.area (object_at o values))) [] w))
+    Some (string_value (read (object_at o values)
+    (text_field f values (object w.area (object_at o values))) [] w))
 answer (EventOf n) values w = Some (value.Event (int_at n values))
 answer UserNumber values w = Some (value.Int w.user)
 
@@ -287,7 +296,12 @@ pub record Row : Type 0 where
   pub answers : Answer
 
 abbrev pub row : ℕ → String → List Change → Answer → Row
-row number name changes answers = record { number = number; name = codes name; changes = changes; answers = answers }
+row number name changes answers = record {
+  number = number;
+  name = codes name;
+  changes = changes;
+  answers = answers;
+}
 
 abbrev pub rows : List Row
 rows =

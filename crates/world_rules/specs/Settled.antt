@@ -26,9 +26,16 @@ pub record IsLed {X : Type 0} (w v : World X) : Type 0 where
 
 -- a world stays in its plan where nothing is done, and one thing after the other
 pub stays_so : {X : Type 0} (until : ℕ) (w : World X) → StaysInPlan until w w
-stays_so until w = record { tree = refl; version = refl; random = λ most few. few; clock = λ early. early; due = λ early time late due. due }
+stays_so until w = record {
+  tree = refl;
+  version = refl;
+  random = λ most few. few;
+  clock = λ early. early;
+  due = λ early time late due. due;
+}
 
-pub stays_on : {X : Type 0} (until : ℕ) (w v u : World X) → StaysInPlan until w v → StaysInPlan until v u → StaysInPlan until w u
+pub stays_on : {X : Type 0} (until : ℕ) (w v u : World X) → StaysInPlan until w v
+    → StaysInPlan until v u → StaysInPlan until w u
 stays_on until w v u a b = record {
   tree = b.tree ∙ a.tree;
   version = b.version ∙ a.version;
@@ -39,7 +46,13 @@ stays_on until w v u a b = record {
 
 -- no call, and one call more
 pub led_nowhere : {X : Type 0} (w : World X) → IsWorld w → IsLed w w
-led_nowhere w h = record { world = h; objects = refl; acting = λ o a. a; settled = λ o s. s; plan = λ until. stays_so until w }
+led_nowhere w h = record {
+  world = h;
+  objects = refl;
+  acting = λ o a. a;
+  settled = λ o s. s;
+  plan = λ until. stays_so until w;
+}
 
 pub led_on : {X : Type 0} (w v u : World X) → IsLed w v → IsStep v u → IsLed w u
 led_on w v u l s = record {
@@ -53,19 +66,23 @@ led_on w v u l s = record {
 -- How scripts run keeps to the engine: a script, or a stored action, that runs as one of the
 -- objects, or as none, leads a world on by calls.
 pub record KeepsToEngine {X : Type 0} (runner : Runner X) : Type 0 where
-  pub script : (script self : ℕ) (w : World X) → IsWorld w → self ≤ count w → IsLed w (runner.script script self w).world
-  pub stored : (x : X) (self : ℕ) (w : World X) → IsWorld w → self ≤ count w → IsLed w (runner.stored x self w).world
+  pub script : (script self : ℕ) (w : World X) → IsWorld w → self ≤ count w
+      → IsLed w (runner.script script self w).world
+  pub stored : (x : X) (self : ℕ) (w : World X) → IsWorld w → self ≤ count w
+      → IsLed w (runner.stored x self w).world
 
 -- ---- the laws
 
 -- a plan's events of the area's objects make a world that is between entries
 abbrev pub NewIsBetween : Type 0 → Type 0
 NewIsBetween X = (area : PlainArea) (random : List ℕ) (events : List Planned) (version : ℕ)
-    → AllByRecursion (λ (p : Planned). p.object ≤ length area.objects) events → IsBetween (new_world {X = X} area random events version)
+    → AllByRecursion (λ (p : Planned). p.object ≤ length area.objects) events
+    → IsBetween (new_world {X = X} area random events version)
 
 -- What a plan gives a world before its play: the clock at 0, the file of its area, version and
 -- random numbers, so many entries, and all of them due by a time.
-pub record IsPlanned {X : Type 0} (area : PlainArea) (plan_random : List ℕ) (plan_version time events : ℕ) (w : World X) : Type 0 where
+pub record IsPlanned {X : Type 0} (area : PlainArea) (plan_random : List ℕ)
+    (plan_version time events : ℕ) (w : World X) : Type 0 where
   pub clock : w.clock ≡ 0
   pub tree : w.area.tree ≡ area.tree
   pub version : w.version ≡ plan_version
@@ -76,7 +93,8 @@ pub record IsPlanned {X : Type 0} (area : PlainArea) (plan_random : List ℕ) (p
 abbrev pub NewIsPlanned : Type 0 → Type 0
 NewIsPlanned X = (area : PlainArea) (random : List ℕ) (events : List Planned) (version time : ℕ)
     → AllByRecursion (λ (p : Planned). p.due ≤ time) events
-    → IsPlanned area random version time (length events) (new_world {X = X} area random events version)
+    → IsPlanned area random version time (length events)
+    (new_world {X = X} area random events version)
 
 -- An entry that is due by a time leaves what every world keeps, and the world in its plan. Unless
 -- it is stopped, the world is between entries again.
@@ -91,7 +109,8 @@ EntriesSettle X = (runner : Runner X) (until : ℕ) (w : World X) → KeepsToEng
 
 -- The same of a play from a world on that is between entries: it stays in its plan, takes no more
 -- entries than it may, and none more than it was to take.
-pub record HasSettled {X : Type 0} (bounds : Bounds) (left : ℕ) (p : Progress X) (q : Played X) : Type 0 where
+pub record HasSettled {X : Type 0} (bounds : Bounds) (left : ℕ) (p : Progress X)
+    (q : Played X) : Type 0 where
   pub world : IsWorld q.last.world
   pub between : q.ending ≢ StoppedInside → IsBetween q.last.world
   pub plan : StaysInPlan bounds.until p.world q.last.world
@@ -99,5 +118,6 @@ pub record HasSettled {X : Type 0} (bounds : Bounds) (left : ℕ) (p : Progress 
   pub further : q.last.entries ≤ p.entries + left
 
 abbrev pub PlaysSettle : Type 0 → Type 0
-PlaysSettle X = (runner : Runner X) (bounds : Bounds) (further : ℕ) (p : Progress X) → KeepsToEngine runner → IsBetween p.world
+PlaysSettle X = (runner : Runner X) (bounds : Bounds) (further : ℕ) (p : Progress X)
+    → KeepsToEngine runner → IsBetween p.world
     → HasSettled bounds further p (plays runner bounds further p)

@@ -66,7 +66,13 @@ abbrev pub entry_begun : {X : Type 0} → ℕ → List (Entry X) → World X →
 entry_begun until [] w = None
 entry_begun until (e ∷ rest) w =
     if nat_le e.due until
-    then Some (record { entry = e; world = record (with_entries rest w) { clock = e.due; user = user_number e.kind } }) else None
+    then Some (record {
+      entry = e;
+      world = record (with_entries rest w) {
+        clock = e.due;
+        user = user_number e.kind;
+      };
+    }) else None
 
 -- the entry that is taken next, where one is due by this time: the clock goes on to when it is due
 abbrev pub begin : {X : Type 0} → ℕ → World X → Option (Begun X)
@@ -91,8 +97,14 @@ pub record Turned (X : Type 0) : Type 0 where
 abbrev pub turned : {X : Type 0} → ℕ → List (Item X) → World X → Turned X
 turned o [] w = record { action = None; world = with_busy o false w }
 turned o (Do x ∷ rest) w = record { action = Some x; world = with_actions o rest w }
-turned o (Wait ms ∷ rest) w = record { action = None; world = post (later ms w) (Turn o) (with_actions o rest w) }
-turned o (Speak bytes ∷ rest) w = record { action = None; world = turn_done o (told o (line.Speak bytes) (with_actions o rest w)) }
+turned o (Wait ms ∷ rest) w = record {
+  action = None;
+  world = post (later ms w) (Turn o) (with_actions o rest w);
+}
+turned o (Speak bytes ∷ rest) w = record {
+  action = None;
+  world = turn_done o (told o (line.Speak bytes) (with_actions o rest w));
+}
 
 -- the object turns to the first action of its queue
 abbrev pub turn : {X : Type 0} → ℕ → World X → Turned X
@@ -103,7 +115,8 @@ turn o w = turned o (queue_of o w).actions w
 abbrev pub expired : {X : Type 0} → ℕ → ℕ → Option Stood → World X → World X
 expired o number None w = w
 expired o number (Some s) w =
-    told o (line.Expire s.effect) (with_effects o (without_first (is_numbered number) (effects_of o w)) w)
+    told o (line.Expire s.effect)
+    (with_effects o (without_first (is_numbered number) (effects_of o w)) w)
 
 -- the first effect of this number that stands on the object ends, where there is one
 abbrev pub unapply : {X : Type 0} → ℕ → ℕ → World X → World X

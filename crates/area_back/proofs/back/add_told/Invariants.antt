@@ -7,4 +7,6 @@ use Rattle.area_back.proofs.back.add_told.Given as goal
 
 abbrev pub invariant-loop-entry : goal.invariant-loop-entry
 invariant-loop-entry l =
-    (v : Variable) → (list_any (same_variable v) l.told || list_any (same_variable v) (variables_in (map plain_node (drop l.entry-index l.entries)))) ≡ list_any (same_variable v) (variables_in (map plain_node l.entries))
+    (v : Variable) → (list_any (same_variable v) l.told
+    || list_any (same_variable v) (variables_in (map plain_node (drop l.entry-index l.entries))))
+    ≡ list_any (same_variable v) (variables_in (map plain_node l.entries))

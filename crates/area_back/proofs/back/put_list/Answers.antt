@@ -14,6 +14,8 @@ returns-in-None c =
 pub returns-in_ok-leaf-in-Some : goal.returns-in_ok-leaf-in-Some
 returns-in_ok-leaf-in-Some c =
     let node = plain_node c.args.top.now in
-    taken_back c.fields_tell.ensures.fields node (plain_node c.replace.new.self) (plain_node c.replace-in-Some.new.self) c.args.label.now _ (plain_leaf c.in_ok-leaf-in-Some.leaf) c.in-Some.ensures.new c.replace-in-Some.ensures.new
+    taken_back c.fields_tell.ensures.fields node (plain_node c.replace.new.self)
+    (plain_node c.replace-in-Some.new.self) c.args.label.now _
+    (plain_leaf c.in_ok-leaf-in-Some.leaf) c.in-Some.ensures.new c.replace-in-Some.ensures.new
     ∙ (ap (λ l. node_from (kind_of node) (replaced c.args.label.now l (fields_of node))) c.in_ok-leaf-in-Some.ensures
     ∙ ap (node_from (kind_of node)) (sym (ap (λ o. list_back c.args.label.now c.args.objects.now o (fields_of node)) c.in-Some.ensures.old)))

@@ -20,7 +20,8 @@ loop-list-preserved c =
     record {
       places = lists_next c.loop-list.list (drop c.loop-list.list list_labels) (drop (c.loop-list.list + 1) list_labels) c.list_label.result.now fields (leaf_in c.find-leaf.result) _
           c.list_label.ensures.label there c.loop-list.invariant.places c.in_ok-add_list.ensures.whole;
-      objects = under_next c.loop-list.objects.items c.add_list.new.objects.items _ (drop c.loop-list.list list_labels) (drop (c.loop-list.list + 1) list_labels) c.list_label.result.now fields (leaf_in c.find-leaf.result)
+      objects = under_next c.loop-list.objects.items c.add_list.new.objects.items _ (drop c.loop-list.list list_labels)
+          (drop (c.loop-list.list + 1) list_labels) c.list_label.result.now fields (leaf_in c.find-leaf.result)
           c.list_label.ensures.label there c.loop-list.invariant.objects c.in_ok-add_list.ensures.objects;
     }
 
@@ -30,5 +31,6 @@ returns-in_err-add_list-clause-first c =
     let there = find_is (found c.list_label.result.now fields) c.find-leaf.result c.find-leaf.ensures.leaf in
     let p = err_from_is_err_and c.from_residual.result c.from_residual.ensures.1 in
     if_first c.from_residual.result c.in_err-add_list.field-0.0 _ (p.1 ∙ ap Err p.2)
-    (lists_first c.in_err-add_list.field-0.0 c.loop-list.list (drop c.loop-list.list list_labels) (drop (c.loop-list.list + 1) list_labels) c.list_label.result.now fields (leaf_in c.find-leaf.result) _
+    (lists_first c.in_err-add_list.field-0.0 c.loop-list.list (drop c.loop-list.list list_labels)
+    (drop (c.loop-list.list + 1) list_labels) c.list_label.result.now fields (leaf_in c.find-leaf.result) _
     c.list_label.ensures.label there c.loop-list.invariant.places c.in_err-add_list.ensures.first)

@@ -50,7 +50,9 @@ pub expression-returns-in-Name : goal.expression-returns-in-Name
 expression-returns-in-Name t c = known_lines _ _ _ _ _ _ _ _ (plain_name _ _ _ c.in-Name.is) refl refl c.emit_name.ensures
 
 pub expression-returns-in-Call : goal.expression-returns-in-Call
-expression-returns-in-Call t c = known_code _ _ _ _ _ _ _ _ _ (call_is_of _ _ _ _ _ _ _ (plain_call _ _ _ _ _ c.in-Call.is) c.as_slice.ensures.value c.as_slice-in-Call.ensures.items) refl refl c.call.ensures
+expression-returns-in-Call t c = known_code _ _ _ _ _ _ _ _ _
+    (call_is_of _ _ _ _ _ _ _
+    (plain_call _ _ _ _ _ c.in-Call.is) c.as_slice.ensures.value c.as_slice-in-Call.ensures.items) refl refl c.call.ensures
 
 pub expression-returns-in-Member : goal.expression-returns-in-Member
 expression-returns-in-Member t c = known_code _ _ _ _ _ _ _ _ _ (member_is_of _ _ _ _ _ (plain_member _ _ _ _ c.in-Member.is) c.deref.ensures) refl refl c.member.ensures
@@ -167,18 +169,35 @@ or_else-expression-requires t c = (
 pub or_else-expression-requires-2 : goal.or_else-expression-requires-2
 or_else-expression-requires-2 t c = (
   falls_second (weight (plain c.args.left.now)) (weight (plain c.args.right.now)) t c.decreases,
-  simp (c.in_ok-skip_right.ensures, c.in_ok-expression.ensures, c.in_ok-end.ensures.made, c.in_ok-other.ensures.made, c.cells.ensures.cells, c.ty.ensures.ty) (at_labels _ _ _ _ _ (omega arith) c.requires.second),
+  simp (
+    c.in_ok-skip_right.ensures,
+    c.in_ok-expression.ensures,
+    c.in_ok-end.ensures.made,
+    c.in_ok-other.ensures.made,
+    c.cells.ensures.cells,
+    c.ty.ensures.ty,
+  ) (at_labels _ _ _ _ _ (omega arith) c.requires.second),
 )
 
 pub or_else-returns : goal.or_else-returns
 or_else-returns t c =
-    or_code c.args.layout.now (plain c.args.left.now) (plain c.args.right.now) _ c.args.depth _ (c.args.depth + cells c.args.layout.now.structs (type_of (plain c.args.left.now))) _ _ _ _ _ _ _ _ _ _ c.in_ok-other.ensures.number c.in_ok-end.ensures.number c.in_ok-other.ensures.made c.in_ok-end.ensures.made c.in_ok-expression.ensures
-    c.in_ok-skip_right.ensures (ap (λ n. c.args.depth + n) (c.cells.ensures.cells ∙ ap (cells c.args.layout.now.structs) c.ty.ensures.ty)) c.in_ok-expression-2.ensures c.in_ok-op.ensures.ok c.place.ensures.placed
+    or_code c.args.layout.now (plain c.args.left.now) (plain c.args.right.now) _ c.args.depth _
+    (c.args.depth + cells c.args.layout.now.structs
+    (type_of (plain c.args.left.now))) _ _ _ _ _ _ _ _ _ _ c.in_ok-other.ensures.number c.in_ok-end.ensures.number c.in_ok-other.ensures.made c.in_ok-end.ensures.made c.in_ok-expression.ensures
+    c.in_ok-skip_right.ensures
+    (ap (λ n. c.args.depth + n)
+    (c.cells.ensures.cells ∙ ap
+    (cells c.args.layout.now.structs) c.ty.ensures.ty)) c.in_ok-expression-2.ensures c.in_ok-op.ensures.ok c.place.ensures.placed
 
 pub and_then-returns : goal.and_then-returns
 and_then-returns t c =
-    and_code c.args.layout.now (plain c.args.left.now) (plain c.args.right.now) _ c.args.depth _ (c.args.depth + cells c.args.layout.now.structs (type_of (plain c.args.left.now))) c.in_ok-end.end _ _ _ _ _ _ _ _ c.in_ok-end.ensures.number c.in_ok-end.ensures.made c.in_ok-expression.ensures
-    c.in_ok-emit_top_again.ensures.ok c.in_ok-jump.ensures.ok (ap (λ n. c.args.depth + n) (c.cells.ensures.cells ∙ ap (cells c.args.layout.now.structs) c.ty.ensures.ty)) c.in_ok-expression-2.ensures c.in_ok-op.ensures.ok c.place.ensures.placed
+    and_code c.args.layout.now (plain c.args.left.now) (plain c.args.right.now) _ c.args.depth _
+    (c.args.depth + cells c.args.layout.now.structs
+    (type_of (plain c.args.left.now))) c.in_ok-end.end _ _ _ _ _ _ _ _ c.in_ok-end.ensures.number c.in_ok-end.ensures.made c.in_ok-expression.ensures
+    c.in_ok-emit_top_again.ensures.ok c.in_ok-jump.ensures.ok
+    (ap (λ n. c.args.depth + n)
+    (c.cells.ensures.cells ∙ ap
+    (cells c.args.layout.now.structs) c.ty.ensures.ty)) c.in_ok-expression-2.ensures c.in_ok-op.ensures.ok c.place.ensures.placed
 
 pub assign-returns : goal.assign-returns
 assign-returns t c =
@@ -187,11 +206,16 @@ assign-returns t c =
     assign_code _ c.args.out.now _ _ _ _ _ _ _ _ (code.read_first (code.is_set c.args.operator) (code.at_home (code.read c.args.layout.now c.args.depth count) home))
     (code.emit c.args.layout.now c.args.out.now.labels (c.args.depth + code.cells_first (code.is_set c.args.operator) count) (plain c.args.value.now))
     (code.at_home (code.write c.args.layout.now (c.args.depth + count) count) home) _ c.in_ok-first.ensures.lines c.in_ok-expression.ensures c.in_ok-combine.ensures
-    (simp (c.home_of-home.ensures.home, c.cells-count.ensures.cells) refl) (simp (c.in_ok-first.ensures.lines, c.in_ok-first.ensures.cells, c.cells-count.ensures.cells) refl) (simp (c.home_of-home.ensures.home, c.cells-count.ensures.cells) refl) c.emit_write.ensures
+    (simp (c.home_of-home.ensures.home, c.cells-count.ensures.cells) refl)
+    (simp (c.in_ok-first.ensures.lines, c.in_ok-first.ensures.cells, c.cells-count.ensures.cells) refl)
+    (simp (c.home_of-home.ensures.home, c.cells-count.ensures.cells) refl) c.emit_write.ensures
 
 pub argument-returns : goal.argument-returns
 argument-returns t c =
-    captured_code c.args.layout.now (plain c.args.given.now) c.args.depth c.in_ok-end.end _ _ _ _ _ _ _ _ c.in_ok-end.ensures.number (ap is_void (sym c.ty.ensures.ty) ∙ (sym c.is_void.ensures ∙ c.if-not-is_void.false)) (simp c.globals.ensures.globals refl)
+    captured_code c.args.layout.now
+    (plain c.args.given.now) c.args.depth c.in_ok-end.end _ _ _ _ _ _ _ _ c.in_ok-end.ensures.number
+    (ap is_void (sym c.ty.ensures.ty) ∙ (sym c.is_void.ensures ∙ c.if-not-is_void.false))
+    (simp c.globals.ensures.globals refl)
     c.in_ok-end.ensures.made c.in_ok-op.ensures.ok c.in_ok-jump.ensures.ok c.in_ok-expression.ensures c.in_ok-op-2.ensures.ok c.place.ensures.placed
 
 -- ---- calls

@@ -70,7 +70,11 @@ pub statement-emit_return-requires-clause-small : goal.statement-emit_return-req
 statement-emit_return-requires-clause-small t c = small _ _ _ t _ _ c.requires.ready
 
 pub statement-emit_names-requires : goal.statement-emit_names-requires
-statement-emit_names-requires t c = record { ready = names_part _ _ _ t _ _ _ _ _ (declaration_is _ _ _ _ _ (tree_declaration _ _ _ _ c.in-Declaration.is) c.as_slice-in-Declaration.ensures.items) c.requires.ready }
+statement-emit_names-requires t c = record {
+  ready = names_part _ _ _ t _ _ _ _ _
+      (declaration_is _ _ _ _ _
+      (tree_declaration _ _ _ _ c.in-Declaration.is) c.as_slice-in-Declaration.ensures.items) c.requires.ready;
+}
 
 pub statement-returns-in-Block : goal.statement-returns-in-Block
 statement-returns-in-Block t c = known_code _ _ _ _ _ _ _ (block_is _ _ _ _ (tree_block _ _ _ c.in-Block.is) c.as_slice.ensures.value) _ c.block.ensures
@@ -118,7 +122,8 @@ statement-returns-in-Default t c = known_none _ c.args.layout.now (plain_exits c
 
 pub statements-place_label-at-requires-clause-open : goal.statements-place_label-at-requires-clause-open
 statements-place_label-at-requires-clause-open t c =
-    open_at _ _ c.loop-stmt.at _ _ (open_known c.args.layout.now c.args.exits c.args.stmts.now c.loop-stmt.stmt-index c.stmt-item.result c.stmt-item.is c.loop-stmt-test.true _ _ c.loop-stmt.at c.loop-stmt.invariant.1)
+    open_at _ _ c.loop-stmt.at _ _
+    (open_known c.args.layout.now c.args.exits c.args.stmts.now c.loop-stmt.stmt-index c.stmt-item.result c.stmt-item.is c.loop-stmt-test.true _ _ c.loop-stmt.at c.loop-stmt.invariant.1)
 
 pub statements-statement-requires : goal.statements-statement-requires
 statements-statement-requires t c = (
@@ -152,7 +157,9 @@ pub statements-loop-stmt-preserved : goal.statements-loop-stmt-preserved
 statements-loop-stmt-preserved t c =
     let deeper : c.loop-stmt.depth + c.declared_cells-depth.result ≡ _ = ap (λ k. c.loop-stmt.depth + k) c.declared_cells-depth.ensures in (
       rest_ready c.args.layout.now c.args.exits c.args.stmts.now c.loop-stmt.stmt-index c.stmt-item.result c.stmt-item.is c.loop-stmt-test.true c.loop-stmt.out.labels _ c.loop-stmt.depth _ c.loop-stmt.invariant.0
-          (ap (λ (d : LabelledCode). d.labels) c.in_ok-statement.ensures ∙ ap (λ (d : LabelledCode). d.labels + code.stmt_labels (typed_stmt c.stmt-item.result)) c.place_label-at.ensures.placed) deeper,
+          (ap (λ (d : LabelledCode). d.labels) c.in_ok-statement.ensures
+          ∙ ap (λ (d : LabelledCode). d.labels + code.stmt_labels
+          (typed_stmt c.stmt-item.result)) c.place_label-at.ensures.placed) deeper,
       open_after c.args.layout.now c.args.exits c.args.stmts.now c.loop-stmt.stmt-index c.stmt-item.result c.stmt-item.is c.loop-stmt-test.true c.part_laws.ensures.parts.placements c.places_above.ensures.above.stmt (plain_exits c.args.exits)
           c.loop-stmt.out c.place_label-at.new.out c.statement.new.out c.loop-stmt.depth c.loop-stmt.at c.place_label-at.result c.place_label-at.ensures.placed c.in_ok-statement.ensures c.place_label-at.ensures.next
           c.loop-stmt.invariant.1,
@@ -162,7 +169,8 @@ statements-loop-stmt-preserved t c =
     )
 
 pub statements-returns-clause-code : goal.statements-returns-clause-code
-statements-returns-clause-code t c = code_done c.args.layout.now (plain_exits c.args.exits) _ _ c.args.stmts.now c.loop-stmt.stmt-index c.loop-stmt.depth c.loop-stmt.at c.loop-stmt-test.false c.loop-stmt.invariant.2
+statements-returns-clause-code t c = code_done c.args.layout.now
+    (plain_exits c.args.exits) _ _ c.args.stmts.now c.loop-stmt.stmt-index c.loop-stmt.depth c.loop-stmt.at c.loop-stmt-test.false c.loop-stmt.invariant.2
 
 pub statements-returns-clause-depth : goal.statements-returns-clause-depth
 statements-returns-clause-depth t c = cells_done c.args.layout.now c.args.stmts.now c.loop-stmt.stmt-index c.loop-stmt.depth _ c.loop-stmt-test.false c.loop-stmt.invariant.3
@@ -174,32 +182,46 @@ block-drop_cells-requires t c = record { small = omega (arith, c.in_ok-behind.en
 
 pub block-returns : goal.block-returns
 block-returns t c =
-    block_code c.args.layout.now c.args.depth c.args.out.now _ (plain_exits c.args.exits) (typed_stmts c.args.items.now) _ _ _ c.in_ok-behind.ensures.code (omega (arith, c.in_ok-behind.ensures.depth)) c.drop_cells.ensures.ok
+    block_code c.args.layout.now c.args.depth c.args.out.now _ (plain_exits c.args.exits)
+    (typed_stmts c.args.items.now) _ _ _ c.in_ok-behind.ensures.code
+    (omega (arith, c.in_ok-behind.ensures.depth)) c.drop_cells.ensures.ok
 
 pub if_only-returns : goal.if_only-returns
 if_only-returns t c =
-    if_only_code c.args.layout.now c.args.depth c.args.out.now (plain_exits c.args.exits) (plain c.args.condition.now) (typed_stmt c.args.then.now) c.in_ok-end.end _ _ _ _ _ c.in_ok-end.ensures.number c.in_ok-end.ensures.made c.in_ok-emit_expr.ensures.ok
+    if_only_code c.args.layout.now c.args.depth c.args.out.now (plain_exits c.args.exits) (plain c.args.condition.now)
+    (typed_stmt c.args.then.now) c.in_ok-end.end _ _ _ _ _ c.in_ok-end.ensures.number c.in_ok-end.ensures.made c.in_ok-emit_expr.ensures.ok
     c.in_ok-jump.ensures.ok c.in_ok-statement.ensures c.place.ensures.placed
 
 pub if_else-returns : goal.if_else-returns
 if_else-returns t c =
-    if_else_code c.args.layout.now c.args.depth c.args.out.now (plain_exits c.args.exits) (plain c.args.condition.now) (typed_stmt c.args.then.now) (typed_stmt c.args.otherwise.now) c.in_ok-other.other _ _ _ _ _ _ _ _ c.in_ok-other.ensures.first c.in_ok-other.ensures.made
+    if_else_code c.args.layout.now c.args.depth c.args.out.now (plain_exits c.args.exits) (plain c.args.condition.now)
+    (typed_stmt c.args.then.now)
+    (typed_stmt c.args.otherwise.now) c.in_ok-other.other _ _ _ _ _ _ _ _ c.in_ok-other.ensures.first c.in_ok-other.ensures.made
     c.in_ok-emit_expr.ensures.ok c.in_ok-jump.ensures.ok c.in_ok-statement.ensures c.in_ok-jump-2.ensures.ok c.place.ensures.placed c.in_ok-statement-2.ensures c.place-2.ensures.placed
 
 pub while_loop-returns : goal.while_loop-returns
 while_loop-returns t c =
-    while_code c.args.layout.now c.args.depth c.args.out.now (plain_exits c.in_loop-exits.result) (plain c.args.condition.now) (typed_stmt c.args.body.now) c.in_ok-next.next _ _ _ _ _ _ _ c.in_ok-next.ensures.first (plain_in_loop c.in_loop-exits.result _ _ _ c.in_loop-exits.ensures.breaks c.in_loop-exits.ensures.continues) c.in_ok-next.ensures.made
+    while_code c.args.layout.now c.args.depth c.args.out.now (plain_exits c.in_loop-exits.result)
+    (plain c.args.condition.now)
+    (typed_stmt c.args.body.now) c.in_ok-next.next _ _ _ _ _ _ _ c.in_ok-next.ensures.first
+    (plain_in_loop c.in_loop-exits.result _ _ _ c.in_loop-exits.ensures.breaks c.in_loop-exits.ensures.continues) c.in_ok-next.ensures.made
     c.place.ensures.placed c.in_ok-emit_expr.ensures.ok c.in_ok-jump.ensures.ok c.in_ok-statement.ensures c.in_ok-jump-2.ensures.ok c.place-2.ensures.placed
 
 pub do_loop-returns : goal.do_loop-returns
 do_loop-returns t c =
-    do_code c.args.layout.now c.args.depth c.args.out.now (plain_exits c.in_loop-exits.result) (typed_stmt c.args.body.now) (plain c.args.condition.now) c.in_ok-top.top _ _ _ _ _ _ _ c.in_ok-top.ensures.first (plain_in_loop c.in_loop-exits.result _ _ _ c.in_loop-exits.ensures.breaks c.in_loop-exits.ensures.continues) c.in_ok-top.ensures.made
+    do_code c.args.layout.now c.args.depth c.args.out.now (plain_exits c.in_loop-exits.result)
+    (typed_stmt c.args.body.now)
+    (plain c.args.condition.now) c.in_ok-top.top _ _ _ _ _ _ _ c.in_ok-top.ensures.first
+    (plain_in_loop c.in_loop-exits.result _ _ _ c.in_loop-exits.ensures.breaks c.in_loop-exits.ensures.continues) c.in_ok-top.ensures.made
     c.place.ensures.placed c.in_ok-statement.ensures c.place-2.ensures.placed c.in_ok-emit_expr.ensures.ok c.in_ok-jump.ensures.ok c.place-3.ensures.placed
 
 pub for_loop-returns : goal.for_loop-returns
 for_loop-returns t c =
-    for_code c.args.layout.now c.args.depth c.args.out.now (plain_exits c.in_loop-exits.result) (option_map plain c.args.start.now) (option_map plain c.args.condition.now) (option_map plain c.args.step.now) (typed_stmt c.args.body.now) c.in_ok-top.top _ _ _ _ _ _
-    c.in_ok-top.ensures.first (plain_in_loop c.in_loop-exits.result _ _ _ c.in_loop-exits.ensures.breaks c.in_loop-exits.ensures.continues) c.in_ok-top.ensures.made c.in_ok-emit_evaluated.ensures c.in_ok-emit_turn.ensures c.in_ok-statement.ensures c.in_ok-emit_again.ensures c.place.ensures.placed
+    for_code c.args.layout.now c.args.depth c.args.out.now (plain_exits c.in_loop-exits.result)
+    (option_map plain c.args.start.now) (option_map plain c.args.condition.now) (option_map plain c.args.step.now)
+    (typed_stmt c.args.body.now) c.in_ok-top.top _ _ _ _ _ _
+    c.in_ok-top.ensures.first
+    (plain_in_loop c.in_loop-exits.result _ _ _ c.in_loop-exits.ensures.breaks c.in_loop-exits.ensures.continues) c.in_ok-top.ensures.made c.in_ok-emit_evaluated.ensures c.in_ok-emit_turn.ensures c.in_ok-statement.ensures c.in_ok-emit_again.ensures c.place.ensures.placed
 
 -- ---- a `for`, and a switch
 
@@ -219,7 +241,9 @@ switch-statements-requires t c =
     let after = ap (λ (d : LabelledCode). d.labels) c.in_ok-emit_choice.ensures in (
       falls_row (all_size (typed_stmts c.args.body.now)) t c.decreases,
       (
-        body_of_switch_ready (c.args.out.now.labels + 1 + code.count_labels (typed_stmts c.args.body.now) + labels (plain c.args.value.now)) c.emit_choice.new.out.labels c.args.layout.now (c.args.depth + 1) (c.args.depth + 1)
+        body_of_switch_ready (c.args.out.now.labels + 1 + code.count_labels (typed_stmts c.args.body.now) + labels
+            (plain c.args.value.now)) c.emit_choice.new.out.labels c.args.layout.now (c.args.depth + 1)
+            (c.args.depth + 1)
             c.in_switch-exits.result c.args.exits (typed_stmts c.args.body.now) (record { label = c.in_ok-end.end; depth = c.args.depth + 1 }) c.requires.body
             (omega (arith, made, after, c.count_labels.ensures)) refl c.in_switch-exits.ensures.breaks c.in_switch-exits.ensures.continues (omega (arith, made, after, c.in_ok-end.ensures.first)),
         record {
@@ -239,7 +263,9 @@ pub switch-close_switch-requires-clause-unplaced : goal.switch-close_switch-requ
 switch-close_switch-requires-clause-unplaced t c =
     let made = ap (λ (d : LabelledCode). d.labels) c.in_ok-end.ensures.made in
     let after = ap (λ (d : LabelledCode). d.labels) c.in_ok-emit_choice.ensures in
-    close_open c.part_laws.ensures.parts.placements c.places_above.ensures.above.stmt c.args.layout.now (plain_exits c.in_switch-exits.result) (c.args.depth + 1) (c.in_ok-end.end + 1) c.in_ok-end.end (typed_stmts c.args.body.now) _ _
+    close_open c.part_laws.ensures.parts.placements c.places_above.ensures.above.stmt c.args.layout.now
+    (plain_exits c.in_switch-exits.result) (c.args.depth + 1) (c.in_ok-end.end + 1) c.in_ok-end.end
+    (typed_stmts c.args.body.now) _ _
     c.in_ok-behind.ensures.code (omega (arith, made, after, c.in_ok-end.ensures.first)) (omega arith)
     (choice_open c.part_laws.ensures.parts.placements c.places_above.ensures.above.exprs c.args.layout.now c.args.depth c.in_ok-end.end _ (plain c.args.value.now) (typed_stmts c.args.body.now) _ _ c.in_ok-emit_choice.ensures c.in_ok-end.end
     (omega (arith, made, c.in_ok-end.ensures.first))
@@ -250,5 +276,7 @@ switch-returns t c =
     switch_code c.args.layout.now (plain_exits c.args.exits) (plain_exits c.in_switch-exits.result) c.args.depth _ (plain c.args.value.now) (typed_stmts c.args.body.now) _ _ _ _ c.in_ok-end.end _ _
     c.in_ok-end.ensures.first
     (c.in_ok-end.ensures.made ∙ ap (λ (k : ℕ). record c.args.out.now { labels = c.args.out.now.labels + (1 + k) }) c.count_labels.ensures)
-    c.in_ok-emit_choice.ensures (plain_in_switch c.in_switch-exits.result c.args.exits c.in_ok-end.end (c.args.depth + 1) c.in_switch-exits.ensures.breaks c.in_switch-exits.ensures.continues) c.in_ok-behind.ensures.code (omega (arith, c.in_ok-behind.ensures.depth))
+    c.in_ok-emit_choice.ensures
+    (plain_in_switch c.in_switch-exits.result c.args.exits c.in_ok-end.end
+    (c.args.depth + 1) c.in_switch-exits.ensures.breaks c.in_switch-exits.ensures.continues) c.in_ok-behind.ensures.code (omega (arith, c.in_ok-behind.ensures.depth))
     c.close_switch.ensures

@@ -11,7 +11,8 @@ abbrev pub invariant-statements-loop-stmt : goal.invariant-statements-loop-stmt
 invariant-statements-loop-stmt l =
     StmtsReady l.out.labels l.layout l.depth l.exits (typed_stmts (drop l.stmt-index l.stmts))
     × AreOpenIn l.out.labels l.out.lines l.at (typed_stmts (drop l.stmt-index l.stmts))
-    × (extended l.out (code.emit_stmts l.layout (plain_exits l.exits) l.out.labels l.depth l.at (typed_stmts (drop l.stmt-index l.stmts))) (code.all_stmt_labels (typed_stmts (drop l.stmt-index l.stmts)))
+    × (extended l.out (code.emit_stmts l.layout (plain_exits l.exits) l.out.labels l.depth l.at
+    (typed_stmts (drop l.stmt-index l.stmts))) (code.all_stmt_labels (typed_stmts (drop l.stmt-index l.stmts)))
     ≡ extended l.initial.out (code.emit_stmts l.layout (plain_exits l.exits) l.initial.out.labels l.initial.depth l.initial.at (typed_stmts l.stmts)) (code.all_stmt_labels (typed_stmts l.stmts)))
     × (l.depth + all_declared_cells l.layout.structs (typed_stmts (drop l.stmt-index l.stmts)) ≡ l.initial.depth + all_declared_cells l.layout.structs (typed_stmts l.stmts))
 

@@ -5,7 +5,14 @@ use Rattle.codegen_unit.proofs.switches.count_labels.Goals as goal
 
 pub behind-count-requires : goal.behind-count-requires
 behind-count-requires c =
-    record { small = omega (arith, count_step c.args.stmts.now c.loop-stmt.stmt-index c.loop-stmt.count c.stmt-item.result c.stmt-item.is c.loop-stmt-test.true, c.loop-stmt.invariant, c.requires.small) }
+    record {
+      small = omega (
+        arith,
+        count_step c.args.stmts.now c.loop-stmt.stmt-index c.loop-stmt.count c.stmt-item.result c.stmt-item.is c.loop-stmt-test.true,
+        c.loop-stmt.invariant,
+        c.requires.small,
+      );
+    }
 
 pub loop-stmt-preserved : goal.loop-stmt-preserved
 loop-stmt-preserved c =

@@ -14,4 +14,5 @@ drop_cells-requires c = record { small = omega (arith, c.in_ok-behind.ensures.de
 pub returns-clause-code : goal.returns-clause-code
 returns-clause-code c =
     function_code _ c.args.layout.now (plain_exits c.no_exits.result) c.args.number c.params_cells-depth.result _ c.args.parameters.now (typed_stmts c.args.body.now) _ _ _ _ _ _
-    c.place.ensures.placed c.params_cells-depth.ensures c.no_exits.ensures.plain c.in_ok-behind.ensures.code (omega (arith, c.in_ok-behind.ensures.depth)) c.in_ok-drop_cells.ensures.ok c.in_ok-drop_cells-2.ensures.ok c.op.ensures.ok
+    c.place.ensures.placed c.params_cells-depth.ensures c.no_exits.ensures.plain c.in_ok-behind.ensures.code
+    (omega (arith, c.in_ok-behind.ensures.depth)) c.in_ok-drop_cells.ensures.ok c.in_ok-drop_cells-2.ensures.ok c.op.ensures.ok

@@ -6,8 +6,23 @@ use Rattle.codegen_unit.proofs.units.emit_global.Goals as goal
 
 pub names_cells-requires : goal.names_cells-requires
 names_cells-requires c =
-    record { few = omega (arith, one_few _ _ _ _ c.in-Global.token c.in-Global.ty _ (ap typed_item c.in-Global.is ∙ ap (λ ys. global c.in-Global.token c.in-Global.ty (typed_names ys)) (sym c.as_slice-in-Global.ensures.items)) c.requires.ready) }
+    record {
+      few = omega (
+        arith,
+        one_few _ _ _ _ c.in-Global.token c.in-Global.ty _
+            (ap typed_item c.in-Global.is
+            ∙ ap (λ ys. global c.in-Global.token c.in-Global.ty (typed_names ys))
+            (sym c.as_slice-in-Global.ensures.items)) c.requires.ready,
+      );
+    }
 
 pub overflow_add-result : goal.overflow_add-result
 overflow_add-result c =
-    omega (arith, c.names_cells.ensures, one_few _ _ _ _ c.in-Global.token c.in-Global.ty _ (ap typed_item c.in-Global.is ∙ ap (λ ys. global c.in-Global.token c.in-Global.ty (typed_names ys)) (sym c.as_slice-in-Global.ensures.items)) c.requires.ready)
+    omega (
+      arith,
+      c.names_cells.ensures,
+      one_few _ _ _ _ c.in-Global.token c.in-Global.ty _
+          (ap typed_item c.in-Global.is
+          ∙ ap (λ ys. global c.in-Global.token c.in-Global.ty (typed_names ys))
+          (sym c.as_slice-in-Global.ensures.items)) c.requires.ready,
+    )

@@ -9,5 +9,7 @@ pub finish-requires : goal.finish-requires
 finish-requires c =
     record {
       placed = λ label lt. subst (λ (d : LabelledCode). label < d.labels → 1 ≤ placements d.lines label) (sym c.in_ok-emit_unit.ensures)
-          (placed_some (units.unit_code (typed_unit c.args.unit.now)).lines label (units.unit_code (typed_unit c.args.unit.now)).labels (c.each_placed_once.ensures.once (typed_unit c.args.unit.now) label)) lt;
+          (placed_some (units.unit_code (typed_unit c.args.unit.now)).lines label
+          (units.unit_code (typed_unit c.args.unit.now)).labels
+          (c.each_placed_once.ensures.once (typed_unit c.args.unit.now) label)) lt;
     }

@@ -7,4 +7,6 @@ returns-in-Err-clause-names g c = keeps_all (IsGameFile c.args.game.to.now) (g.F
 
 pub returns-in-Ok-clause-names : goal.returns-in-Ok-clause-names
 returns-in-Ok-clause-names g c =
-    keeps_after (IsGameFile c.args.game.to.now) (g.F.Files.contents c.args.files.now) (g.F.Files.contents c.read_plan_file.new.files) (g.F.Files.contents c.play_under.new.files) c.in-Ok.ensures.same c.play_under.ensures.names
+    keeps_after (IsGameFile c.args.game.to.now) (g.F.Files.contents c.args.files.now)
+    (g.F.Files.contents c.read_plan_file.new.files)
+    (g.F.Files.contents c.play_under.new.files) c.in-Ok.ensures.same c.play_under.ensures.names

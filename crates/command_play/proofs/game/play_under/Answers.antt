@@ -7,4 +7,6 @@ returns-in-Err-clause-names g c = keeps_all (IsGameFile c.args.game.to.now) (g.F
 
 pub returns-in-Ok-clause-names : goal.returns-in-Ok-clause-names
 returns-in-Ok-clause-names g c =
-    keeps_after (IsGameFile c.args.game.to.now) (g.F.Files.contents c.args.files.now) (g.F.Files.contents c.read_table.new.files) (g.F.Files.contents c.play_scripts.new.files) c.in-Ok.ensures.same c.play_scripts.ensures.names
+    keeps_after (IsGameFile c.args.game.to.now) (g.F.Files.contents c.args.files.now)
+    (g.F.Files.contents c.read_table.new.files)
+    (g.F.Files.contents c.play_scripts.new.files) c.in-Ok.ensures.same c.play_scripts.ensures.names

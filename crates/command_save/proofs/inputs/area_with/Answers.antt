@@ -12,6 +12,8 @@ unfolding Rattle.command_save.specs.Inputs.area_in
 returns-in-Ok-clause-does g c = λ tells d.
     then_ok (area_of_bytes c.args.name.now c.args.bytes) (λ (area : PlainArea). Gives (area_file c.args.bytes area)) c.in-Ok.area d d d
     (g.S.Sink.taken c.args.out.now) (g.S.Sink.taken c.area_of_bytes.new.out) (g.S.Sink.taken c.area_of_bytes.new.out)
-    (Ok (area_file c.args.bytes c.in-Ok.area)) (subst (λ (bytes : List ℕ). Does (area_of_bytes c.args.name.now bytes) d (g.S.Sink.taken c.args.out.now) (Ok c.in-Ok.area) d (g.S.Sink.taken c.area_of_bytes.new.out))
+    (Ok (area_file c.args.bytes c.in-Ok.area))
+    (subst (λ (bytes : List ℕ). Does (area_of_bytes c.args.name.now bytes) d (g.S.Sink.taken c.args.out.now)
+    (Ok c.in-Ok.area) d (g.S.Sink.taken c.area_of_bytes.new.out))
     c.as_slice.ensures.items (c.in-Ok.ensures.does tells d))
     (gives_does (area_file c.args.bytes c.in-Ok.area) d (g.S.Sink.taken c.area_of_bytes.new.out))

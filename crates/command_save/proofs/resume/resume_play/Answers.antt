@@ -7,4 +7,6 @@ returns-in-Err-clause-names g c = keeps_all (IsName c.args.to.now) (g.F.Files.co
 
 pub returns-in-Ok-clause-names : goal.returns-in-Ok-clause-names
 returns-in-Ok-clause-names g c =
-    keeps_after (IsName c.args.to.now) (g.F.Files.contents c.args.files.now) (g.F.Files.contents c.read_state_file.new.files) (g.F.Files.contents c.resume_state.new.files) c.in-Ok.ensures.same c.resume_state.ensures.names
+    keeps_after (IsName c.args.to.now) (g.F.Files.contents c.args.files.now)
+    (g.F.Files.contents c.read_state_file.new.files)
+    (g.F.Files.contents c.resume_state.new.files) c.in-Ok.ensures.same c.resume_state.ensures.names

@@ -7,4 +7,6 @@ returns-in-Err-clause-names g c = keeps_all (IsName c.args.words.state.now) (g.F
 
 pub returns-in-Ok-clause-names : goal.returns-in-Ok-clause-names
 returns-in-Ok-clause-names g c =
-    keeps_after (IsName c.args.words.state.now) (g.F.Files.contents c.args.files.now) (g.F.Files.contents c.read_area_file.new.files) (g.F.Files.contents c.save_plan.new.files) c.in-Ok.ensures.same c.save_plan.ensures.names
+    keeps_after (IsName c.args.words.state.now) (g.F.Files.contents c.args.files.now)
+    (g.F.Files.contents c.read_area_file.new.files)
+    (g.F.Files.contents c.save_plan.new.files) c.in-Ok.ensures.same c.save_plan.ensures.names

@@ -4,11 +4,19 @@ use Rattle.engine_table.proofs.reader.read_lines.Goals as goal
 
 pub returns-in-End-clause-table : goal.returns-in-End-clause-table
 returns-in-End-clause-table c =
-    read_all_ok c.args.bytes.now c.loop-known.at (record { known = c.loop-known.known; stage = c.loop-known.stage }) c.finish.result c.loop-known.invariant c.in-End.ensures.first c.finish.ensures.ended
+    read_all_ok c.args.bytes.now c.loop-known.at
+    (record {
+      known = c.loop-known.known;
+      stage = c.loop-known.stage;
+    }) c.finish.result c.loop-known.invariant c.in-End.ensures.first c.finish.ensures.ended
 
 pub returns-in-End-clause-refused : goal.returns-in-End-clause-refused
 returns-in-End-clause-refused c =
-    read_all_err c.args.bytes.now c.loop-known.at (record { known = c.loop-known.known; stage = c.loop-known.stage }) c.finish.result c.loop-known.invariant c.in-End.ensures.first c.finish.ensures.ended
+    read_all_err c.args.bytes.now c.loop-known.at
+    (record {
+      known = c.loop-known.known;
+      stage = c.loop-known.stage;
+    }) c.finish.result c.loop-known.invariant c.in-End.ensures.first c.finish.ensures.ended
 
 pub returns-in-Bad-clause-refused : goal.returns-in-Bad-clause-refused
 returns-in-Bad-clause-refused c =
@@ -26,5 +34,6 @@ returns-in-None-clause-refused c =
 
 pub loop-known-preserved : goal.loop-known-preserved
 loop-known-preserved c =
-    read_more c.args.bytes.now c.loop-known.at (record { known = c.loop-known.known; stage = c.loop-known.stage }) (record { known = c.read.new.known; stage = c.in-Ok.next }) (plain c.in-Token.token) c.loop-known.invariant
+    read_more c.args.bytes.now c.loop-known.at (record { known = c.loop-known.known; stage = c.loop-known.stage })
+    (record { known = c.read.new.known; stage = c.in-Ok.next }) (plain c.in-Token.token) c.loop-known.invariant
     c.in-Token.ensures.first c.in-Ok.ensures.goes c.in-Ok.ensures.keeps c.in-Ok.ensures.counted

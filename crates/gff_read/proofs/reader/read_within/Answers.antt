@@ -7,7 +7,9 @@ invariant_of-result c = record { sound = read_sound c.args.view.now c.deref_mut.
 
 pub returns-clause-found : goal.returns-clause-found
 returns-clause-found c =
-    stands_read c.args.view.now c.deref_mut.result.now _ _ c.file_type.result (c.deref_mut.ensures.value ∙ c.in_ok-marks.ensures.none) c.in_ok-top.ensures.read c.file_type.ensures.is_file c.file_type.ensures.bytes
+    stands_read c.args.view.now c.deref_mut.result.now _ _ c.file_type.result
+    (c.deref_mut.ensures.value
+    ∙ c.in_ok-marks.ensures.none) c.in_ok-top.ensures.read c.file_type.ensures.is_file c.file_type.ensures.bytes
 
 pub returns-clause-few : goal.returns-clause-few
 returns-clause-few c = read_few c.args.view.now c.deref_mut.result.now _ _ (c.deref_mut.ensures.value ∙ c.in_ok-marks.ensures.none) c.in_ok-top.ensures.read c.in_ok-marks.ensures.few

@@ -40,7 +40,9 @@ read_fields-loop-row-preserved t c =
     record {
       goes = tt;
       ends = tt;
-      read = fields_step (node_at c.args.depth c.args.view.now) c.loop-row.fields.items c.push.new.self.items (plain_row c.in-Some.row) (map plain_row (into_iter_items c.loop-row.row-iterator)) (map plain_row (into_iter_items c.next.new.self)) c.loop-row.marks c.read_leaf.new.marks field _
+      read = fields_step (node_at c.args.depth c.args.view.now) c.loop-row.fields.items c.push.new.self.items
+          (plain_row c.in-Some.row) (map plain_row (into_iter_items c.loop-row.row-iterator))
+          (map plain_row (into_iter_items c.next.new.self)) c.loop-row.marks c.read_leaf.new.marks field _
           c.loop-row.invariant.read (ap (map plain_row) c.in-Some.ensures.steps.0) c.in_ok-leaf.ensures.read refl c.in_ok-push.ensures.items;
       whole = c.read_leaf.auto.marks ∙ c.loop-row.invariant.whole;
       charged = omega (
@@ -59,7 +61,9 @@ read_nodes-loop-n-preserved t c =
     let lt : i < length c.args.numbers.now = c.loop-n-test.true in
     let next : drop i c.args.numbers.now ≡ get_or c.args.numbers.now i 0 ∷ drop (i + 1) c.args.numbers.now = rw (add-one, drop-cons c.args.numbers.now i 0) refl in
     record {
-      read = nodes_step (node_at c.args.depth c.args.view.now) c.loop-n.nodes.items c.push.new.self.items (get_or c.args.numbers.now i 0) (drop i c.args.numbers.now) (drop (i + 1) c.args.numbers.now) c.loop-n.marks c.read_node.new.marks c.in_ok-read_node.field-0 _
+      read = nodes_step (node_at c.args.depth c.args.view.now) c.loop-n.nodes.items c.push.new.self.items
+          (get_or c.args.numbers.now i 0) (drop i c.args.numbers.now)
+          (drop (i + 1) c.args.numbers.now) c.loop-n.marks c.read_node.new.marks c.in_ok-read_node.field-0 _
           c.loop-n.invariant.read next c.in_ok-read_node.ensures.read c.in_ok-push.ensures.items;
       whole = c.read_node.auto.marks ∙ c.loop-n.invariant.whole;
       charged = omega (

@@ -16,7 +16,8 @@ put_below-returns-after-loop-node t c =
     let none : drop c.loop-node.node-index c.deref-node-items.result.now ≡ [] = drop_all _ _ c.loop-node-test.false in
     let all : c.loop-node.out.items ++ [] ≡ c.args.out.now.items ++ list_lines c.args.depth (nodes_list c.deref-node-items.result.now) = rw none at c.loop-node.invariant in
     let listed : lines_below c.args.depth (plain_leaf c.args.leaf.now) ≡ list_lines c.args.depth (nodes_list c.deref-node-items.result.now) =
-    ap (lines_below c.args.depth) (c.readings_tell.ensures.list c.args.leaf.now c.in-List.nodes c.in-List.is) ∙ ap (λ ns. list_lines c.args.depth (nodes_list ns)) (sym c.deref-node-items.ensures.value) in
+    ap (lines_below c.args.depth) (c.readings_tell.ensures.list c.args.leaf.now c.in-List.nodes c.in-List.is)
+    ∙ ap (λ ns. list_lines c.args.depth (nodes_list ns)) (sym c.deref-node-items.ensures.value) in
     sym (append-nil c.loop-node.out.items) ∙ (all ∙ ap (λ ls. c.args.out.now.items ++ ls) (sym listed))
 
 pub put_struct-loop-field-preserved : goal.put_struct-loop-field-preserved

@@ -34,7 +34,8 @@ flatten_leaf-returns-after-loop-node t c =
     let none : drop c.loop-node.node-index c.deref-node-items.result.now ≡ [] = drop_all _ _ c.loop-node-test.false in
     let all : c.loop-node.rows ++ [] ≡ c.args.rows.now ++ list_rows (length c.args.rows.now) (nodes_list c.deref-node-items.result.now) = rw none at c.loop-node.invariant in
     let listed : leaf_rows (length c.args.rows.now) (plain_leaf c.args.leaf.now) ≡ list_rows (length c.args.rows.now) (nodes_list c.deref-node-items.result.now) =
-    ap (leaf_rows (length c.args.rows.now)) (c.readings_tell.ensures.list c.args.leaf.now c.in-List.nodes c.in-List.is) ∙ ap (λ ns. list_rows (length c.args.rows.now) (nodes_list ns)) (sym c.deref-node-items.ensures.value) in
+    ap (leaf_rows (length c.args.rows.now)) (c.readings_tell.ensures.list c.args.leaf.now c.in-List.nodes c.in-List.is)
+    ∙ ap (λ ns. list_rows (length c.args.rows.now) (nodes_list ns)) (sym c.deref-node-items.ensures.value) in
     sym (append-nil c.loop-node.rows) ∙ (all ∙ ap (λ rs. c.args.rows.now ++ rs) (sym listed))
 
 pub flatten_node-loop-field-preserved : goal.flatten_node-loop-field-preserved
@@ -49,6 +50,10 @@ flatten_node-returns t c =
     let first = ap (λ n. n + 1) c.len.ensures.len in
     let same = c.deref.ensures.value ∙ sym c.deref-field-items.ensures.value in
     let read : c.put_fields.new.entries ≡ entries_from (length c.args.rows.now + 1) (fields_list c.deref-field-items.result.now) =
-    (rw c.new-fields.ensures.empty at c.in_ok-put_fields.ensures) ∙ (ap (λ n. entries_from n (fields_list c.deref.result.now)) first ∙ ap (λ fs. entries_from (length c.args.rows.now + 1) (fields_list fs)) same) in
+    (rw c.new-fields.ensures.empty at c.in_ok-put_fields.ensures)
+    ∙ (ap (λ n. entries_from n (fields_list c.deref.result.now)) first
+    ∙ ap (λ fs. entries_from (length c.args.rows.now + 1) (fields_list fs)) same) in
     node_done c.args.rows.now c.push.new.self c.loop-field.rows c.args.node.now _ _ c.deref-field-items.result.now
-    (sym (append-nil c.loop-field.rows) ∙ all) c.in_ok-push.ensures.ok read (c.readings_tell.ensures.node c.args.node.now ∙ ap (λ fs. Struct (out-Node c.args.node.now).kind (fields_list fs)) (sym c.deref-field-items.ensures.value))
+    (sym (append-nil c.loop-field.rows) ∙ all) c.in_ok-push.ensures.ok read
+    (c.readings_tell.ensures.node c.args.node.now
+    ∙ ap (λ fs. Struct (out-Node c.args.node.now).kind (fields_list fs)) (sym c.deref-field-items.ensures.value))

@@ -22,7 +22,9 @@ add_below-returns-after-loop-node t c =
     let none : drop c.loop-node.node-index c.deref-node-items.result.now ≡ [] = drop_all _ _ c.loop-node-test.false in
     let first = values_of c.args.rows.now.entries in
     let all : values_of c.loop-node.rows.entries ≡ with_labels first (list_labels (nodes_list c.deref-node-items.result.now)) =
-    subst (λ (ns : List Node). with_labels (values_of c.loop-node.rows.entries) (list_labels (nodes_list ns)) ≡ with_labels first (list_labels (nodes_list c.deref-node-items.result.now))) none c.loop-node.invariant.labels in
+    subst (λ (ns : List Node). with_labels (values_of c.loop-node.rows.entries) (list_labels (nodes_list ns))
+    ≡ with_labels first (list_labels
+    (nodes_list c.deref-node-items.result.now))) none c.loop-node.invariant.labels in
     record {
       table = c.loop-node.invariant.table;
       rows =
@@ -45,7 +47,8 @@ add_labels-returns t c =
     let first = values_of c.args.rows.now.entries in
     let middle = values_of c.add_own.new.rows.entries in
     let all : values_of c.loop-field.rows.entries ≡ with_labels middle (labels_below (fields_list items)) =
-    subst (λ (fs : List Field). with_labels (values_of c.loop-field.rows.entries) (labels_below (fields_list fs)) ≡ with_labels middle (labels_below (fields_list items))) none c.loop-field.invariant.labels in
+    subst (λ (fs : List Field). with_labels (values_of c.loop-field.rows.entries) (labels_below (fields_list fs))
+    ≡ with_labels middle (labels_below (fields_list items))) none c.loop-field.invariant.labels in
     let same = c.deref.ensures.value ∙ sym c.deref-field-items.ensures.value in
     let own : middle ≡ with_labels first (own_labels (fields_list items)) =
     c.in_ok-add_own.ensures.rows ∙ ap (λ fs. with_labels first (own_labels (fields_list fs))) same in

@@ -8,7 +8,8 @@ use Rattle.gff_write.proofs.labels.+add.Given as goal
 abbrev pub invariant-add_labels-loop-field : goal.invariant-add_labels-loop-field
 invariant-add_labels-loop-field l = record {
   table : IsTable l.rows.entries l.numbers;
-  labels : with_labels (values_of l.rows.entries) (labels_below (fields_list (drop l.field-index l.field-items))) ≡ with_labels (values_of l.initial.rows.entries) (labels_below (fields_list l.field-items));
+  labels : with_labels (values_of l.rows.entries) (labels_below (fields_list (drop l.field-index l.field-items)))
+      ≡ with_labels (values_of l.initial.rows.entries) (labels_below (fields_list l.field-items));
 }
 
 abbrev pub invariant-add_below-loop-node : goal.invariant-add_below-loop-node

@@ -13,5 +13,6 @@ returns-then-is_some-clause-rows c =
 pub returns-clause-rows : goal.returns-clause-rows
 returns-clause-rows c =
     let new : is_some (first_place c.args.label.now (values_of c.args.rows.now.entries)) ≡ false
-    = sym (ap is_some (c.get.ensures.number ∙ ap (λ x. number_under x c.args.numbers.now) c.as_slice.ensures ∙ c.requires.table.places c.args.label.now)) ∙ sym c.is_some.ensures ∙ c.if-is_some.false in
+    = sym (ap is_some (c.get.ensures.number ∙ ap (λ x. number_under x c.args.numbers.now) c.as_slice.ensures
+    ∙ c.requires.table.places c.args.label.now)) ∙ sym c.is_some.ensures ∙ c.if-is_some.false in
     c.in_ok-push_label.ensures.rows ∙ lacks_label c.args.label.now (values_of c.args.rows.now.entries) new

@@ -33,7 +33,10 @@ pub leaf_size-returns-after-loop-node : goal.leaf_size-returns-after-loop-node
 leaf_size-returns-after-loop-node t c =
     let none : drop c.loop-node.node-index c.deref-node-items.result.now ≡ [] = drop_all _ _ c.loop-node-test.false in
     let all : c.loop-node.total ≡ capped (4 + nodes_bytes (nodes_list c.deref-node-items.result.now)) =
-    end c.loop-node.total _ (subst (λ (ns : List Node). capped (c.loop-node.total + nodes_bytes (nodes_list ns)) ≡ capped (4 + nodes_bytes (nodes_list c.deref-node-items.result.now))) none c.loop-node.invariant.sum) c.loop-node.invariant.small in
+    end c.loop-node.total _ (subst
+    (λ (ns : List Node). capped (c.loop-node.total + nodes_bytes (nodes_list ns))
+    ≡ capped (4 + nodes_bytes
+    (nodes_list c.deref-node-items.result.now))) none c.loop-node.invariant.sum) c.loop-node.invariant.small in
     all ∙ (ap (λ ns. capped (4 + nodes_bytes (nodes_list ns))) c.deref-node-items.ensures.value
     ∙ sym (ap (λ l. capped (leaf_bytes l)) (c.readings_tell.ensures.list c.args.leaf.now c.in-List.nodes c.in-List.is)))
 
@@ -50,7 +53,10 @@ node_size-returns t c =
     let none : drop c.loop-field.field-index c.deref-field-items.result.now ≡ [] = drop_all _ _ c.loop-field-test.false in
     let items = c.deref-field-items.result.now in
     let all : c.loop-field.total ≡ capped (12 + index_bytes (length items) + fields_bytes (fields_list items)) =
-    end c.loop-field.total _ (subst (λ (fs : List Field). capped (c.loop-field.total + fields_bytes (fields_list fs)) ≡ capped (12 + index_bytes (length items) + fields_bytes (fields_list items))) none c.loop-field.invariant.sum) c.loop-field.invariant.small in
+    end c.loop-field.total _ (subst
+    (λ (fs : List Field). capped (c.loop-field.total + fields_bytes (fields_list fs))
+    ≡ capped (12 + index_bytes (length items) + fields_bytes
+    (fields_list items))) none c.loop-field.invariant.sum) c.loop-field.invariant.small in
     all ∙ (ap (λ n. capped (12 + index_bytes n + fields_bytes (fields_list items))) (sym (own_counted items))
     ∙ (ap (λ fs. capped (12 + index_bytes (own_count (fields_list fs)) + fields_bytes (fields_list fs))) c.deref-field-items.ensures.value
     ∙ sym (ap (λ x. capped (node_bytes x)) (c.readings_tell.ensures.node c.args.node.now))))

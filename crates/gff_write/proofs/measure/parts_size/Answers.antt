@@ -17,4 +17,6 @@ loop-part-preserved c = record {
 pub returns : goal.returns
 returns c =
     let none : drop c.loop-part.part-index c.args.parts.now ≡ [] = drop_all _ _ c.loop-part-test.false in
-    end c.loop-part.total _ (subst (λ ps. capped (c.loop-part.total + length (flat_map part_bytes ps)) ≡ capped (12 + length (flat_map part_bytes c.args.parts.now))) none c.loop-part.invariant.sum) c.loop-part.invariant.small
+    end c.loop-part.total _ (subst
+    (λ ps. capped (c.loop-part.total + length (flat_map part_bytes ps))
+    ≡ capped (12 + length (flat_map part_bytes c.args.parts.now))) none c.loop-part.invariant.sum) c.loop-part.invariant.small

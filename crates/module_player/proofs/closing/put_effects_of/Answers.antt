@@ -11,6 +11,7 @@ returns-in-None c = record {
 pub loop-i-preserved : goal.loop-i-preserved
 loop-i-preserved c = record {
   text =
-      effects_go c.args.object c.loop-i.i _ (effects_of c.args.object c.args.world.now.world) _ _ _ c.in-Some.effect.now refl c.loop-i.invariant.text c.in-Some.ensures.effect c.in_ok-put_standing-in-Some.ensures.line;
+      effects_go c.args.object c.loop-i.i _
+      (effects_of c.args.object c.args.world.now.world) _ _ _ c.in-Some.effect.now refl c.loop-i.invariant.text c.in-Some.ensures.effect c.in_ok-put_standing-in-Some.ensures.line;
   long = effects_long c.args.object c.loop-i.i _ _ _ c.in-Some.effect.now refl c.loop-i.invariant.long c.in_ok-put_standing-in-Some.ensures.line;
 }

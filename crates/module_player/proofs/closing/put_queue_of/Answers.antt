@@ -13,7 +13,8 @@ returns-in-None c = record {
 pub loop-i-preserved : goal.loop-i-preserved
 loop-i-preserved c = record {
   text =
-      items_go (script_name (scripts_of c.args.scripts.now)) c.args.object c.loop-i.i _ (queue_of c.args.object c.args.world.now.world).actions _ _ _ c.in-Some.item.now refl c.loop-i.invariant.text c.in-Some.ensures.item
+      items_go (script_name (scripts_of c.args.scripts.now)) c.args.object c.loop-i.i _
+      (queue_of c.args.object c.args.world.now.world).actions _ _ _ c.in-Some.item.now refl c.loop-i.invariant.text c.in-Some.ensures.item
       c.in_ok-put_item-in-Some.ensures.line;
   long =
       items_long (script_name (scripts_of c.args.scripts.now)) c.args.object c.loop-i.i _ _ _ c.in-Some.item.now refl c.loop-i.invariant.long c.in_ok-put_item-in-Some.ensures.line;

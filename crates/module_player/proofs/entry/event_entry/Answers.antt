@@ -6,12 +6,16 @@ use Rattle.module_player.proofs.entry.event_entry.Goals as goal
 
 pub returns-in_ok-no_script-in-None : goal.returns-in_ok-no_script-in-None
 returns-in_ok-no_script-in-None g c = record {
-  entered = event_unlisted _ _ _ _ _ _ (some_bytes _ _ _ c.bytes.ensures.same c.is_empty.ensures c.if-is_empty.false) (sym c.in-None.ensures.number) c.in_ok-no_script-in-None.ensures.ok c.requires.fit;
+  entered = event_unlisted _ _ _ _ _ _ (some_bytes _ _ _ c.bytes.ensures.same c.is_empty.ensures c.if-is_empty.false)
+      (sym c.in-None.ensures.number) c.in_ok-no_script-in-None.ensures.ok c.requires.fit;
   cut = tt;
 }
 
 pub returns-in-Some : goal.returns-in-Some
 returns-in-Some g c = record {
-  entered = listed_event _ _ _ _ _ c.script_entry.result _ _ (some_bytes _ _ _ c.bytes.ensures.same c.is_empty.ensures c.if-is_empty.false) (sym c.in-Some.ensures.number) c.script_entry.ensures.entered;
-  cut = listed_cut (scene c.args.setting.now.scripts.now c.args.setting.now.table.now (map (λ h. h.known) c.args.setting.now.hooks.now.all.items)) c.args.limit c.args.object _ c.args.name.now c.script_entry.result c.args.world.now.world c.script_entry.new.world.world (some_bytes _ _ _ c.bytes.ensures.same c.is_empty.ensures c.if-is_empty.false) (sym c.in-Some.ensures.number) c.script_entry.ensures.cut;
+  entered = listed_event _ _ _ _ _ c.script_entry.result _ _
+      (some_bytes _ _ _ c.bytes.ensures.same c.is_empty.ensures c.if-is_empty.false)
+      (sym c.in-Some.ensures.number) c.script_entry.ensures.entered;
+  cut = listed_cut (scene c.args.setting.now.scripts.now c.args.setting.now.table.now
+      (map (λ h. h.known) c.args.setting.now.hooks.now.all.items)) c.args.limit c.args.object _ c.args.name.now c.script_entry.result c.args.world.now.world c.script_entry.new.world.world (some_bytes _ _ _ c.bytes.ensures.same c.is_empty.ensures c.if-is_empty.false) (sym c.in-Some.ensures.number) c.script_entry.ensures.cut;
 }

@@ -9,4 +9,5 @@ pub run_machine-requires-clause-safe : goal.run_machine-requires-clause-safe
 run_machine-requires-clause-safe g c =
     subst (IsSafeFrame (scripts_of c.args.setting.now.scripts.now) (tables_of c.args.setting.now.scripts.now))
     (sym (ap (λ (m : Frames). m.running) c.of-machine.ensures.frames ∙ c.started.ensures.frame))
-    (start_safe c.args.setting.now.scripts.now (tables_of c.args.setting.now.scripts.now) c.args.setting.now.table.now c.args.script c.args.caller c.entries_begin_safely.ensures.scripts c.requires.listed c.requires.meets)
+    (start_safe c.args.setting.now.scripts.now
+    (tables_of c.args.setting.now.scripts.now) c.args.setting.now.table.now c.args.script c.args.caller c.entries_begin_safely.ensures.scripts c.requires.listed c.requires.meets)

@@ -8,7 +8,10 @@ use Rattle.ncs_machine.proofs.entry.run_machine.Goals as goal
 
 pub script-script-requires : goal.script-script-requires
 script-script-requires g c = record {
-  listed = still_listed c.args.scripts.now (engine_view c.args.table.now (map (λ h. h.known) c.args.hooks.now.all.items)) (tables_of c.args.scripts.now) c.args.limit (state c.args.machine.now c.args.world.now.world) 0 c.args.machine.now c.args.world.now.world
+  listed = still_listed c.args.scripts.now
+      (engine_view c.args.table.now (map (λ h. h.known) c.args.hooks.now.all.items))
+      (tables_of c.args.scripts.now) c.args.limit
+      (state c.args.machine.now c.args.world.now.world) 0 c.args.machine.now c.args.world.now.world
       (run_begins (scripts_of c.args.scripts.now) _ (tables_of c.args.scripts.now) c.args.limit c.args.machine.now c.args.world.now.world
       c.steps_are_safe.ensures.steps c.calls_keep_worlds.ensures.engine c.calls_keep_worlds.ensures.no_script c.calls_keep_worlds.ensures.too_deep
       c.tables_type_execute_script.ensures.typed c.keeps-2.ensures.table c.keeps.ensures.kept c.requires.meets
@@ -49,7 +52,8 @@ returns-in-Ends-clause-run g c =
 
 pub returns-in-Divides-clause-run : goal.returns-in-Divides-clause-run
 returns-in-Divides-clause-run g c =
-    divided_run (scripts_of c.args.scripts.now) _ (tables_of c.args.scripts.now) c.args.limit c.loop-done.machine c.args.machine.now c.args.world.now.world c.loop-done.world.world c.step.new.world.world
+    divided_run (scripts_of c.args.scripts.now) _
+    (tables_of c.args.scripts.now) c.args.limit c.loop-done.machine c.args.machine.now c.args.world.now.world c.loop-done.world.world c.step.new.world.world
     c.loop-done.done c.loop-done.own c.loop-done.invariant.running c.loop-done-test.true
     (c.in-Ok.ensures.next ∙ ap (λ n. Some (next_of n (state c.step.new.self c.step.new.world.world))) c.in-Divides.is)
     c.loop-done.invariant.own

@@ -6,7 +6,8 @@ use Rattle.ncs_machine.proofs.entry.run_machine.Given as goal
 
 abbrev pub invariant-loop-done : goal.invariant-loop-done
 invariant-loop-done g l = record {
-  running : SoFar (scripts_of l.scripts) (engine_view l.table (map (λ h. h.known) l.hooks.all.items)) (tables_of l.scripts) l.limit (state l.fn.machine l.fn.world.world) l.done (state l.machine l.world.world);
+  running : SoFar (scripts_of l.scripts) (engine_view l.table (map (λ h. h.known) l.hooks.all.items))
+      (tables_of l.scripts) l.limit (state l.fn.machine l.fn.world.world) l.done (state l.machine l.world.world);
   script : slice_get l.scripts l.machine.running.script ≡ Some l.script;
   own : l.own ≡ l.machine.running.self;
   room : l.fn.world.room ≤ l.world.room;

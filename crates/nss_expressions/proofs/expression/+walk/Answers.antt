@@ -18,7 +18,12 @@ use Rattle.nss_expressions.proofs.expression.+walk.Goals as goal
 -- ---- an expression that is known
 
 pub expression-call-requires : goal.expression-call-requires
-expression-call-requires t c = (falls _ (tree.call c.in-Call.token c.in-Call.name (plain_exprs c.deref.result.now)) t (all_size (plain_exprs c.deref.result.now) + 1) (call_is _ _ _ _ _ (plain_call _ _ _ _ c.in-Call.is) c.deref.ensures.value) c.decreases (omega arith), tt)
+expression-call-requires t c = (
+  falls _ (tree.call c.in-Call.token c.in-Call.name (plain_exprs c.deref.result.now)) t
+      (all_size (plain_exprs c.deref.result.now) + 1)
+      (call_is _ _ _ _ _ (plain_call _ _ _ _ c.in-Call.is) c.deref.ensures.value) c.decreases (omega arith),
+  tt,
+)
 
 pub expression-returns-in-Call : goal.expression-returns-in-Call
 expression-returns-in-Call t c =
@@ -32,7 +37,12 @@ expression-returns-in-Call t c =
     }
 
 pub expression-member-requires : goal.expression-member-requires
-expression-member-requires t c = (falls _ (tree.member c.in-Member.token (plain_expr c.deref-in-Member.result.now) c.in-Member.name) t (size (plain_expr c.deref-in-Member.result.now) + 1) (member_is _ _ _ _ _ (plain_member _ _ _ _ c.in-Member.is) c.deref-in-Member.ensures) c.decreases (omega arith), tt)
+expression-member-requires t c = (
+  falls _ (tree.member c.in-Member.token (plain_expr c.deref-in-Member.result.now) c.in-Member.name) t
+      (size (plain_expr c.deref-in-Member.result.now) + 1)
+      (member_is _ _ _ _ _ (plain_member _ _ _ _ c.in-Member.is) c.deref-in-Member.ensures) c.decreases (omega arith),
+  tt,
+)
 
 pub expression-returns-in-Member : goal.expression-returns-in-Member
 expression-returns-in-Member t c =
@@ -46,7 +56,12 @@ expression-returns-in-Member t c =
     }
 
 pub expression-prefix-requires : goal.expression-prefix-requires
-expression-prefix-requires t c = (falls _ (tree.prefix c.in-Prefix.token c.in-Prefix.operator (plain_expr c.deref-in-Prefix.result.now)) t (size (plain_expr c.deref-in-Prefix.result.now) + 1) (prefix_is _ _ _ _ _ (plain_prefix _ _ _ _ c.in-Prefix.is) c.deref-in-Prefix.ensures) c.decreases (omega arith), tt)
+expression-prefix-requires t c = (
+  falls _ (tree.prefix c.in-Prefix.token c.in-Prefix.operator (plain_expr c.deref-in-Prefix.result.now)) t
+      (size (plain_expr c.deref-in-Prefix.result.now) + 1)
+      (prefix_is _ _ _ _ _ (plain_prefix _ _ _ _ c.in-Prefix.is) c.deref-in-Prefix.ensures) c.decreases (omega arith),
+  tt,
+)
 
 pub expression-returns-in-Prefix : goal.expression-returns-in-Prefix
 expression-returns-in-Prefix t c =
@@ -60,7 +75,13 @@ expression-returns-in-Prefix t c =
     }
 
 pub expression-postfix-requires : goal.expression-postfix-requires
-expression-postfix-requires t c = (falls _ (tree.postfix c.in-Postfix.token c.in-Postfix.operator (plain_expr c.deref-in-Postfix.result.now)) t (size (plain_expr c.deref-in-Postfix.result.now) + 1) (postfix_is _ _ _ _ _ (plain_postfix _ _ _ _ c.in-Postfix.is) c.deref-in-Postfix.ensures) c.decreases (omega arith), tt)
+expression-postfix-requires t c = (
+  falls _ (tree.postfix c.in-Postfix.token c.in-Postfix.operator (plain_expr c.deref-in-Postfix.result.now)) t
+      (size (plain_expr c.deref-in-Postfix.result.now) + 1)
+      (postfix_is _ _ _ _ _ (plain_postfix _ _ _ _ c.in-Postfix.is) c.deref-in-Postfix.ensures) c.decreases
+      (omega arith),
+  tt,
+)
 
 pub expression-returns-in-Postfix : goal.expression-returns-in-Postfix
 expression-returns-in-Postfix t c =
@@ -74,7 +95,13 @@ expression-returns-in-Postfix t c =
     }
 
 pub expression-binary-requires : goal.expression-binary-requires
-expression-binary-requires t c = (falls _ (tree.binary c.in-Binary.token c.in-Binary.operator (plain_expr c.deref-in-Binary.result.now) (plain_expr c.deref-in-Binary-2.result.now)) t (size (plain_expr c.deref-in-Binary.result.now) + size (plain_expr c.deref-in-Binary-2.result.now) + 1) (binary_is _ _ _ _ _ _ _ (plain_binary _ _ _ _ _ c.in-Binary.is) c.deref-in-Binary.ensures c.deref-in-Binary-2.ensures) c.decreases (omega arith), tt)
+expression-binary-requires t c = (
+  falls _ (tree.binary c.in-Binary.token c.in-Binary.operator (plain_expr c.deref-in-Binary.result.now)
+      (plain_expr c.deref-in-Binary-2.result.now)) t
+      (size (plain_expr c.deref-in-Binary.result.now) + size (plain_expr c.deref-in-Binary-2.result.now) + 1)
+      (binary_is _ _ _ _ _ _ _ (plain_binary _ _ _ _ _ c.in-Binary.is) c.deref-in-Binary.ensures c.deref-in-Binary-2.ensures) c.decreases (omega arith),
+  tt,
+)
 
 pub expression-returns-in-Binary : goal.expression-returns-in-Binary
 expression-returns-in-Binary t c =
@@ -88,7 +115,13 @@ expression-returns-in-Binary t c =
     }
 
 pub expression-assign-requires : goal.expression-assign-requires
-expression-assign-requires t c = (falls _ (tree.assign c.in-Assign.token c.in-Assign.operator (plain_expr c.deref-in-Assign.result.now) (plain_expr c.deref-in-Assign-2.result.now)) t (size (plain_expr c.deref-in-Assign.result.now) + size (plain_expr c.deref-in-Assign-2.result.now) + 1) (assign_is _ _ _ _ _ _ _ (plain_assign _ _ _ _ _ c.in-Assign.is) c.deref-in-Assign.ensures c.deref-in-Assign-2.ensures) c.decreases (omega arith), tt)
+expression-assign-requires t c = (
+  falls _ (tree.assign c.in-Assign.token c.in-Assign.operator (plain_expr c.deref-in-Assign.result.now)
+      (plain_expr c.deref-in-Assign-2.result.now)) t
+      (size (plain_expr c.deref-in-Assign.result.now) + size (plain_expr c.deref-in-Assign-2.result.now) + 1)
+      (assign_is _ _ _ _ _ _ _ (plain_assign _ _ _ _ _ c.in-Assign.is) c.deref-in-Assign.ensures c.deref-in-Assign-2.ensures) c.decreases (omega arith),
+  tt,
+)
 
 pub expression-returns-in-Assign : goal.expression-returns-in-Assign
 expression-returns-in-Assign t c =
@@ -115,11 +148,18 @@ call-returns t c =
     let xs = c.in_ok-xs.ensures.value ∙ ap (λ ps. all_fine hs s ps es) for_these in
     record {
       value =
-          two_value plain (verdict hs s b) (faults hs s b) c.args.token c.judge_call.result d d refl (λ x y. asked (call_rows c.args.c.now.at_file b) (call_rule c.args.c.now.at_file b) (two x y)) (option_map plain_all c.in_ok-xs.xs) (all_fine hs s (wanted hs c.args.given.now.table.now c.args.name.now) es)
+          two_value plain (verdict hs s b) (faults hs s b) c.args.token c.judge_call.result d d refl
+          (λ x y. asked (call_rows c.args.c.now.at_file b) (call_rule c.args.c.now.at_file b) (two x y))
+          (option_map plain_all c.in_ok-xs.xs)
+          (all_fine hs s (wanted hs c.args.given.now.table.now c.args.name.now) es)
           (option_map (option_map called_of) c.callee-called.result) (callee hs c.args.given.now.table.now c.args.name.now) xs named refl c.judge_call.ensures.value;
       least =
-          call_least plain (verdict hs s b) (faults hs s b) c.args.token c.judge_call.result d d refl (λ x y. asked (call_rows c.args.c.now.at_file b) (call_rule c.args.c.now.at_file b) (two x y)) (option_map plain_all c.in_ok-xs.xs) (all_fine hs s (wanted hs c.args.given.now.table.now c.args.name.now) es)
-          (option_map (option_map called_of) c.callee-called.result) (callee hs c.args.given.now.table.now c.args.name.now) c.args.least.now c.arguments.new.least c.judge_call.new.least (all_faults hs s (wanted hs c.args.given.now.table.now c.args.name.now) es)
+          call_least plain (verdict hs s b) (faults hs s b) c.args.token c.judge_call.result d d refl
+          (λ x y. asked (call_rows c.args.c.now.at_file b) (call_rule c.args.c.now.at_file b) (two x y))
+          (option_map plain_all c.in_ok-xs.xs)
+          (all_fine hs s (wanted hs c.args.given.now.table.now c.args.name.now) es)
+          (option_map (option_map called_of) c.callee-called.result)
+          (callee hs c.args.given.now.table.now c.args.name.now) c.args.least.now c.arguments.new.least c.judge_call.new.least (all_faults hs s (wanted hs c.args.given.now.table.now c.args.name.now) es)
           xs named refl (c.in_ok-xs.ensures.least ∙ ap (λ ps. kept c.args.least.now (all_faults hs s ps es)) for_these) c.judge_call.ensures.least;
     }
 
@@ -130,9 +170,13 @@ member-returns t c =
     let e = plain_expr c.args.of.now in
     let d = tree.member c.args.token e c.args.name.now in
     record {
-      value = one_value plain (verdict hs s false) (faults hs s false) c.args.token c.judge_member.result d d refl (asked member_rows (member_rule c.args.c.now.structs c.args.name.now)) (option_map plain c.in_ok-of.of) (value hs s e) c.in_ok-of.ensures.value refl (rw c.bytes.ensures.same at c.judge_member.ensures.value);
+      value = one_value plain (verdict hs s false) (faults hs s false) c.args.token c.judge_member.result d d refl
+          (asked member_rows (member_rule c.args.c.now.structs c.args.name.now)) (option_map plain c.in_ok-of.of)
+          (value hs s e) c.in_ok-of.ensures.value refl (rw c.bytes.ensures.same at c.judge_member.ensures.value);
       least =
-          one_least plain (verdict hs s false) (faults hs s false) c.args.token c.judge_member.result d d refl (asked member_rows (member_rule c.args.c.now.structs c.args.name.now)) (option_map plain c.in_ok-of.of) (value hs s e) c.args.least.now c.expression.new.least c.judge_member.new.least (value_faults hs s e)
+          one_least plain (verdict hs s false) (faults hs s false) c.args.token c.judge_member.result d d refl
+          (asked member_rows (member_rule c.args.c.now.structs c.args.name.now)) (option_map plain c.in_ok-of.of)
+          (value hs s e) c.args.least.now c.expression.new.least c.judge_member.new.least (value_faults hs s e)
           c.in_ok-of.ensures.value refl c.in_ok-of.ensures.least (rw c.bytes.ensures.same at c.judge_member.ensures.least);
     }
 
@@ -143,9 +187,13 @@ prefix-returns t c =
     let e = plain_expr c.args.of.now in
     let d = tree.prefix c.args.token c.args.operator e in
     record {
-      value = one_value plain (verdict hs s false) (faults hs s false) c.args.token c.judge_prefix.result d d refl (asked (prefix_rows c.args.operator) (prefix_rule c.args.operator)) (option_map plain c.in_ok-of.of) (value hs s e) c.in_ok-of.ensures.value refl c.judge_prefix.ensures.value;
+      value = one_value plain (verdict hs s false) (faults hs s false) c.args.token c.judge_prefix.result d d refl
+          (asked (prefix_rows c.args.operator) (prefix_rule c.args.operator)) (option_map plain c.in_ok-of.of)
+          (value hs s e) c.in_ok-of.ensures.value refl c.judge_prefix.ensures.value;
       least =
-          one_least plain (verdict hs s false) (faults hs s false) c.args.token c.judge_prefix.result d d refl (asked (prefix_rows c.args.operator) (prefix_rule c.args.operator)) (option_map plain c.in_ok-of.of) (value hs s e) c.args.least.now c.expression.new.least c.judge_prefix.new.least (value_faults hs s e)
+          one_least plain (verdict hs s false) (faults hs s false) c.args.token c.judge_prefix.result d d refl
+          (asked (prefix_rows c.args.operator) (prefix_rule c.args.operator)) (option_map plain c.in_ok-of.of)
+          (value hs s e) c.args.least.now c.expression.new.least c.judge_prefix.new.least (value_faults hs s e)
           c.in_ok-of.ensures.value refl c.in_ok-of.ensures.least c.judge_prefix.ensures.least;
     }
 
@@ -156,9 +204,13 @@ postfix-returns t c =
     let e = plain_expr c.args.of.now in
     let d = tree.postfix c.args.token c.args.operator e in
     record {
-      value = one_value plain (verdict hs s false) (faults hs s false) c.args.token c.judge_postfix.result d d refl (asked postfix_rows (postfix_rule c.args.operator)) (option_map plain c.in_ok-of.of) (value hs s e) c.in_ok-of.ensures.value refl c.judge_postfix.ensures.value;
+      value = one_value plain (verdict hs s false) (faults hs s false) c.args.token c.judge_postfix.result d d refl
+          (asked postfix_rows (postfix_rule c.args.operator)) (option_map plain c.in_ok-of.of)
+          (value hs s e) c.in_ok-of.ensures.value refl c.judge_postfix.ensures.value;
       least =
-          one_least plain (verdict hs s false) (faults hs s false) c.args.token c.judge_postfix.result d d refl (asked postfix_rows (postfix_rule c.args.operator)) (option_map plain c.in_ok-of.of) (value hs s e) c.args.least.now c.expression.new.least c.judge_postfix.new.least (value_faults hs s e)
+          one_least plain (verdict hs s false) (faults hs s false) c.args.token c.judge_postfix.result d d refl
+          (asked postfix_rows (postfix_rule c.args.operator)) (option_map plain c.in_ok-of.of)
+          (value hs s e) c.args.least.now c.expression.new.least c.judge_postfix.new.least (value_faults hs s e)
           c.in_ok-of.ensures.value refl c.in_ok-of.ensures.least c.judge_postfix.ensures.least;
     }
 
@@ -171,10 +223,14 @@ binary-returns-in-Ok t c =
     let d = tree.binary c.args.token c.args.operator a b in
     record {
       value =
-          two_value plain (verdict hs s false) (faults hs s false) c.args.token c.judge_binary.result d d refl (λ x y. asked binary_rows (binary_rule c.args.operator) (two x y)) (option_map plain c.in_ok-left.left) (value hs s a) (option_map plain c.in-Ok.right) (value hs s b)
+          two_value plain (verdict hs s false) (faults hs s false) c.args.token c.judge_binary.result d d refl
+          (λ x y. asked binary_rows (binary_rule c.args.operator) (two x y)) (option_map plain c.in_ok-left.left)
+          (value hs s a) (option_map plain c.in-Ok.right) (value hs s b)
           c.in_ok-left.ensures.value c.in-Ok.ensures.value refl c.judge_binary.ensures.value;
       least =
-          two_least plain (verdict hs s false) (faults hs s false) c.args.token c.judge_binary.result d d refl (λ x y. asked binary_rows (binary_rule c.args.operator) (two x y)) (option_map plain c.in_ok-left.left) (value hs s a) (option_map plain c.in-Ok.right) (value hs s b)
+          two_least plain (verdict hs s false) (faults hs s false) c.args.token c.judge_binary.result d d refl
+          (λ x y. asked binary_rows (binary_rule c.args.operator) (two x y)) (option_map plain c.in_ok-left.left)
+          (value hs s a) (option_map plain c.in-Ok.right) (value hs s b)
           c.args.least.now c.expression.new.least c.expression-2.new.least c.judge_binary.new.least (value_faults hs s a) (value_faults hs s b)
           c.in_ok-left.ensures.value c.in-Ok.ensures.value refl c.in_ok-left.ensures.least c.in-Ok.ensures.least c.judge_binary.ensures.least;
     }
@@ -188,10 +244,14 @@ assign-returns-in-Ok t c =
     let d = tree.assign c.args.token c.args.operator a b in
     record {
       value =
-          two_value plain (verdict hs s false) (faults hs s false) c.args.token c.judge_assign.result d d refl (λ x y. asked assign_rows (assign_rule c.args.operator) (two x y)) (option_map plain c.in_ok-place.place) (value hs s a) (option_map plain c.in-Ok.value) (value hs s b)
+          two_value plain (verdict hs s false) (faults hs s false) c.args.token c.judge_assign.result d d refl
+          (λ x y. asked assign_rows (assign_rule c.args.operator) (two x y)) (option_map plain c.in_ok-place.place)
+          (value hs s a) (option_map plain c.in-Ok.value) (value hs s b)
           c.in_ok-place.ensures.value c.in-Ok.ensures.value refl c.judge_assign.ensures.value;
       least =
-          two_least plain (verdict hs s false) (faults hs s false) c.args.token c.judge_assign.result d d refl (λ x y. asked assign_rows (assign_rule c.args.operator) (two x y)) (option_map plain c.in_ok-place.place) (value hs s a) (option_map plain c.in-Ok.value) (value hs s b)
+          two_least plain (verdict hs s false) (faults hs s false) c.args.token c.judge_assign.result d d refl
+          (λ x y. asked assign_rows (assign_rule c.args.operator) (two x y)) (option_map plain c.in_ok-place.place)
+          (value hs s a) (option_map plain c.in-Ok.value) (value hs s b)
           c.args.least.now c.expression.new.least c.expression-2.new.least c.judge_assign.new.least (value_faults hs s a) (value_faults hs s b)
           c.in_ok-place.ensures.value c.in-Ok.ensures.value refl c.in_ok-place.ensures.least c.in-Ok.ensures.least c.judge_assign.ensures.least;
     }
@@ -207,20 +267,26 @@ arguments-loop-e-init t c =
 
 pub arguments-loop-e-preserved : goal.arguments-loop-e-preserved
 arguments-loop-e-preserved t c = (
-  next_value (heads_in c.args.given.now) (sight_in c.args.given.now c.args.c.now) c.args.es.now c.loop-e.e-index c.e-item.result c.loop-e.rest.now c.others-rest.result.now c.takes_action.result c.loop-e-test.true c.e-item.is
+  next_value (heads_in c.args.given.now)
+      (sight_in c.args.given.now c.args.c.now) c.args.es.now c.loop-e.e-index c.e-item.result c.loop-e.rest.now c.others-rest.result.now c.takes_action.result c.loop-e-test.true c.e-item.is
       c.takes_action.ensures.test c.others-rest.ensures.others (option_map plain_all c.loop-e.all) (option_map plain_all c.in_ok-all.all) (option_map plain c.in_ok-one.one) _
       c.in_ok-one.ensures.value c.in_ok-all.ensures c.loop-e.invariant.0,
-  next_least (heads_in c.args.given.now) (sight_in c.args.given.now c.args.c.now) c.args.es.now c.loop-e.e-index c.e-item.result c.loop-e.rest.now c.others-rest.result.now c.takes_action.result c.loop-e-test.true c.e-item.is
+  next_least (heads_in c.args.given.now)
+      (sight_in c.args.given.now c.args.c.now) c.args.es.now c.loop-e.e-index c.e-item.result c.loop-e.rest.now c.others-rest.result.now c.takes_action.result c.loop-e-test.true c.e-item.is
       c.takes_action.ensures.test c.others-rest.ensures.others c.loop-e.least c.expression.new.least _ c.in_ok-one.ensures.least c.loop-e.invariant.1,
 )
 
 pub arguments-returns-clause-value : goal.arguments-returns-clause-value
 arguments-returns-clause-value t c =
-    end_value (heads_in c.args.given.now) (sight_in c.args.given.now c.args.c.now) c.args.es.now c.loop-e.e-index c.loop-e.rest.now (option_map plain_all c.loop-e.all) _ (omega (arith, c.loop-e-test.false)) c.loop-e.invariant.0
+    end_value (heads_in c.args.given.now)
+    (sight_in c.args.given.now c.args.c.now) c.args.es.now c.loop-e.e-index c.loop-e.rest.now
+    (option_map plain_all c.loop-e.all) _ (omega (arith, c.loop-e-test.false)) c.loop-e.invariant.0
 
 pub arguments-returns-clause-least : goal.arguments-returns-clause-least
 arguments-returns-clause-least t c =
-    end_least (heads_in c.args.given.now) (sight_in c.args.given.now c.args.c.now) c.args.es.now c.loop-e.e-index c.loop-e.rest.now c.loop-e.least _ (omega (arith, c.loop-e-test.false)) c.loop-e.invariant.1
+    end_least (heads_in c.args.given.now)
+    (sight_in c.args.given.now c.args.c.now) c.args.es.now c.loop-e.e-index c.loop-e.rest.now c.loop-e.least _
+    (omega (arith, c.loop-e-test.false)) c.loop-e.invariant.1
 
 -- ---- from a part to its own part
 
@@ -352,5 +418,6 @@ expression-returns-in-Name t c =
     let r = c.judge_name.result in
     record {
       value = one_value plain (verdict hs s b) (faults hs s b) c.in-Name.token r _ _ node (asked name_rows (name_rule s.at_file)) _ _ is refl c.judge_name.ensures.value;
-      least = one_least plain (verdict hs s b) (faults hs s b) c.in-Name.token r _ _ node (asked name_rows (name_rule s.at_file)) _ _ c.args.least.now c.args.least.now c.judge_name.new.least [] is refl refl c.judge_name.ensures.least;
+      least = one_least plain (verdict hs s b) (faults hs s b) c.in-Name.token r _ _ node
+          (asked name_rows (name_rule s.at_file)) _ _ c.args.least.now c.args.least.now c.judge_name.new.least [] is refl refl c.judge_name.ensures.least;
     }

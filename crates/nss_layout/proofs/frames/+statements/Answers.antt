@@ -19,7 +19,8 @@ pub stmt_positions-returns-in_ok-stmt_positions-in-IfElse : goal.stmt_positions-
 stmt_positions-returns-in_ok-stmt_positions-in-IfElse t c =
     two_put _ _ _ _ _ _ _ _ _ _ (tree_if_else _ _ _ _ _ c.in-IfElse.is)
     (ap (λ y. laid.positions c.args.structs.now c.args.depth (typed_stmt y) ++ laid.positions c.args.structs.now c.args.depth (typed_stmt c.in-IfElse.otherwise.value)) (sym c.deref-in-IfElse.ensures)
-    ∙ ap (λ y. laid.positions c.args.structs.now c.args.depth (typed_stmt c.deref-in-IfElse.result.now) ++ laid.positions c.args.structs.now c.args.depth (typed_stmt y)) (sym c.deref-in-IfElse-2.ensures))
+    ∙ ap (λ y. laid.positions c.args.structs.now c.args.depth (typed_stmt c.deref-in-IfElse.result.now)
+    ++ laid.positions c.args.structs.now c.args.depth (typed_stmt y)) (sym c.deref-in-IfElse-2.ensures))
     c.in_ok-stmt_positions-in-IfElse.ensures c.stmt_positions-in-IfElse-2.ensures
 
 pub stmt_positions-returns-in-While : goal.stmt_positions-returns-in-While

@@ -4,4 +4,6 @@ use Rattle.emission_rules.specs.Layout as laid
 use Rattle.nss_layout.proofs.frames.+statements.Given as goal
 
 abbrev pub invariant-stmts_positions-loop-stmt : goal.invariant-stmts_positions-loop-stmt
-invariant-stmts_positions-loop-stmt l = l.positions ++ laid.all_positions l.structs l.depth (typed_stmts (drop l.stmt-index l.stmts)) ≡ l.initial.positions ++ laid.all_positions l.structs l.initial.depth (typed_stmts l.stmts)
+invariant-stmts_positions-loop-stmt l = l.positions
+    ++ laid.all_positions l.structs l.depth (typed_stmts (drop l.stmt-index l.stmts))
+    ≡ l.initial.positions ++ laid.all_positions l.structs l.initial.depth (typed_stmts l.stmts)

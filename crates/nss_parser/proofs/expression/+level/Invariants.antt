@@ -39,7 +39,11 @@ decreases-primary l = 6 * l.depth + 4
 
 -- what is left to read gives what all gives
 abbrev pub invariant-some_arguments-loop-turn : goal.invariant-some_arguments-loop-turn
-invariant-some_arguments-loop-turn l = read.arguments_from l.fn.depth (read.level l.fn.depth) l.fn.depth no_expr l.fn.tokens ≡ read.arguments_from l.fn.depth (read.level l.fn.depth) (l.depth - l._turn) (plain_exprs l.all) l.tokens
+invariant-some_arguments-loop-turn l = read.arguments_from l.fn.depth
+    (read.level l.fn.depth) l.fn.depth no_expr l.fn.tokens
+    ≡ read.arguments_from l.fn.depth (read.level l.fn.depth) (l.depth - l._turn) (plain_exprs l.all) l.tokens
 
 abbrev pub invariant-climb-loop-turn : goal.invariant-climb-loop-turn
-invariant-climb-loop-turn l = read.climb l.fn.depth (read.level l.fn.depth) l.fn.depth l.fn.least (plain_expr l.fn.left) l.fn.tokens ≡ read.climb l.fn.depth (read.level l.fn.depth) (l.depth - l._turn) l.fn.least (plain_expr l.left) l.tokens
+invariant-climb-loop-turn l = read.climb l.fn.depth (read.level l.fn.depth) l.fn.depth l.fn.least
+    (plain_expr l.fn.left) l.fn.tokens
+    ≡ read.climb l.fn.depth (read.level l.fn.depth) (l.depth - l._turn) l.fn.least (plain_expr l.left) l.tokens

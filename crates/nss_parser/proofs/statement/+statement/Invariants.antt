@@ -42,4 +42,7 @@ decreases-while_statement l = 7 * l.depth + 1
 
 -- what is left to read gives what all gives
 abbrev pub invariant-entries-loop-turn : goal.invariant-entries-loop-turn
-invariant-entries-loop-turn l = read.entries_from l.fn.depth (read.statement l.fn.depth) l.fn.labels l.fn.depth no_stmt l.fn.tokens ≡ read.entries_from l.fn.depth (read.statement l.fn.depth) l.fn.labels (l.depth - l._turn) (plain_stmts l.all) l.tokens
+invariant-entries-loop-turn l = read.entries_from l.fn.depth
+    (read.statement l.fn.depth) l.fn.labels l.fn.depth no_stmt l.fn.tokens
+    ≡ read.entries_from l.fn.depth (read.statement l.fn.depth) l.fn.labels (l.depth - l._turn)
+    (plain_stmts l.all) l.tokens

@@ -16,7 +16,9 @@ returns-then-is_condition c =
     let y = tree.for_loop c.args.token (option_map plain c.args.start) (option_map plain c.args.condition) (option_map plain c.args.step) (typed_stmt c.args.body) in
     let known = sym c.is_condition.ensures ∙ c.if-is_condition.true in
     record {
-      value = made_as typed_stmt _ c.for_loop.result c.some_made.result _ c.some_made.ensures.made (λ s is. ap Some (ap (map_stmt plain) is) ∙ sym (ap (λ b. fine (ruled Mismatch (when b y))) known)) c.for_loop.ensures.made;
+      value = made_as typed_stmt _ c.for_loop.result c.some_made.result _ c.some_made.ensures.made
+          (λ s is. ap Some (ap (map_stmt plain) is)
+          ∙ sym (ap (λ b. fine (ruled Mismatch (when b y))) known)) c.for_loop.ensures.made;
       least = always c.some_made.result (sym (ap (λ b. kept c.args.least.now (at c.args.token (ruled Mismatch (when b y)))) known));
     }
 

@@ -17,8 +17,14 @@ returns-in-Some c =
     let o = two c.args.condition c.args.then in
     let read = two_read plain typed_stmt c.args.condition c.args.then in
     record {
-      value = made_as typed_stmt _ c.if_only.result c.some_made.result _ c.some_made.ensures.made (λ s is. made_value (λ p. (plain p.0, typed_stmt p.1)) if_rows (if_rule n) (λ p. is_int (type_of (plain p.0))) (λ p. tree.if_only n (plain p.0) (typed_stmt p.1)) (λ p. refl) (λ p. refl) o _ _ _ read c.in-Some.ensures.value (ap Some (ap (map_stmt plain) is))) c.if_only.ensures.made;
-      least = always c.some_made.result (made_least (λ p. (plain p.0, typed_stmt p.1)) if_rows (if_rule n) (λ p. is_int (type_of (plain p.0))) (λ p. tree.if_only n (plain p.0) (typed_stmt p.1)) (λ p. refl) (λ p. refl) n c.args.least.now _ o _ read c.in-Some.ensures.least);
+      value = made_as typed_stmt _ c.if_only.result c.some_made.result _ c.some_made.ensures.made
+          (λ s is. made_value (λ p. (plain p.0, typed_stmt p.1)) if_rows (if_rule n) (λ p. is_int (type_of (plain p.0)))
+          (λ p. tree.if_only n (plain p.0) (typed_stmt p.1)) (λ p. refl)
+          (λ p. refl) o _ _ _ read c.in-Some.ensures.value (ap Some (ap (map_stmt plain) is))) c.if_only.ensures.made;
+      least = always c.some_made.result
+          (made_least (λ p. (plain p.0, typed_stmt p.1)) if_rows (if_rule n) (λ p. is_int (type_of (plain p.0)))
+          (λ p. tree.if_only n (plain p.0) (typed_stmt p.1)) (λ p. refl)
+          (λ p. refl) n c.args.least.now _ o _ read c.in-Some.ensures.least);
     }
 
 pub returns-in-None : goal.returns-in-None
@@ -27,6 +33,10 @@ returns-in-None c =
     let o = two c.args.condition c.args.then in
     let read = two_read plain typed_stmt c.args.condition c.args.then in
     record {
-      value = made_value (λ p. (plain p.0, typed_stmt p.1)) if_rows (if_rule n) (λ p. is_int (type_of (plain p.0))) (λ p. tree.if_only n (plain p.0) (typed_stmt p.1)) (λ p. refl) (λ p. refl) o _ _ _ read c.in-None.ensures.value refl;
-      least = made_least (λ p. (plain p.0, typed_stmt p.1)) if_rows (if_rule n) (λ p. is_int (type_of (plain p.0))) (λ p. tree.if_only n (plain p.0) (typed_stmt p.1)) (λ p. refl) (λ p. refl) n c.args.least.now _ o _ read c.in-None.ensures.least;
+      value = made_value (λ p. (plain p.0, typed_stmt p.1)) if_rows (if_rule n) (λ p. is_int (type_of (plain p.0)))
+          (λ p. tree.if_only n (plain p.0) (typed_stmt p.1)) (λ p. refl)
+          (λ p. refl) o _ _ _ read c.in-None.ensures.value refl;
+      least = made_least (λ p. (plain p.0, typed_stmt p.1)) if_rows (if_rule n) (λ p. is_int (type_of (plain p.0)))
+          (λ p. tree.if_only n (plain p.0) (typed_stmt p.1)) (λ p. refl)
+          (λ p. refl) n c.args.least.now _ o _ read c.in-None.ensures.least;
     }

@@ -19,8 +19,15 @@ returns-in-Some c =
     let read = three_read plain typed_stmt c.args.condition c.args.then c.args.otherwise
     ∙ ap (λ q. option_map (λ p. (plain p.0, typed_stmt p.1.0, typed_stmt p.1.1)) (two c.args.condition q)) (sym c.two.ensures.both) in
     record {
-      value = made_as typed_stmt _ c.if_else.result c.some_made.result _ c.some_made.ensures.made (λ s is. made_value (λ p. (plain p.0, typed_stmt p.1.0, typed_stmt p.1.1)) if_else_rows (if_else_rule n) (λ p. is_int (type_of (plain p.0))) (λ p. tree.if_else n (plain p.0) (typed_stmt p.1.0) (typed_stmt p.1.1)) (λ p. refl) (λ p. refl) o _ _ _ read c.in-Some.ensures.value (ap Some (ap (map_stmt plain) is))) c.if_else.ensures.made;
-      least = always c.some_made.result (made_least (λ p. (plain p.0, typed_stmt p.1.0, typed_stmt p.1.1)) if_else_rows (if_else_rule n) (λ p. is_int (type_of (plain p.0))) (λ p. tree.if_else n (plain p.0) (typed_stmt p.1.0) (typed_stmt p.1.1)) (λ p. refl) (λ p. refl) n c.args.least.now _ o _ read c.in-Some.ensures.least);
+      value = made_as typed_stmt _ c.if_else.result c.some_made.result _ c.some_made.ensures.made
+          (λ s is. made_value (λ p. (plain p.0, typed_stmt p.1.0, typed_stmt p.1.1)) if_else_rows (if_else_rule n)
+          (λ p. is_int (type_of (plain p.0))) (λ p. tree.if_else n (plain p.0) (typed_stmt p.1.0) (typed_stmt p.1.1))
+          (λ p. refl) (λ p. refl) o _ _ _ read c.in-Some.ensures.value
+          (ap Some (ap (map_stmt plain) is))) c.if_else.ensures.made;
+      least = always c.some_made.result
+          (made_least (λ p. (plain p.0, typed_stmt p.1.0, typed_stmt p.1.1)) if_else_rows (if_else_rule n)
+          (λ p. is_int (type_of (plain p.0))) (λ p. tree.if_else n (plain p.0) (typed_stmt p.1.0) (typed_stmt p.1.1))
+          (λ p. refl) (λ p. refl) n c.args.least.now _ o _ read c.in-Some.ensures.least);
     }
 
 pub returns-in-None : goal.returns-in-None
@@ -30,6 +37,10 @@ returns-in-None c =
     let read = three_read plain typed_stmt c.args.condition c.args.then c.args.otherwise
     ∙ ap (λ q. option_map (λ p. (plain p.0, typed_stmt p.1.0, typed_stmt p.1.1)) (two c.args.condition q)) (sym c.two.ensures.both) in
     record {
-      value = made_value (λ p. (plain p.0, typed_stmt p.1.0, typed_stmt p.1.1)) if_else_rows (if_else_rule n) (λ p. is_int (type_of (plain p.0))) (λ p. tree.if_else n (plain p.0) (typed_stmt p.1.0) (typed_stmt p.1.1)) (λ p. refl) (λ p. refl) o _ _ _ read c.in-None.ensures.value refl;
-      least = made_least (λ p. (plain p.0, typed_stmt p.1.0, typed_stmt p.1.1)) if_else_rows (if_else_rule n) (λ p. is_int (type_of (plain p.0))) (λ p. tree.if_else n (plain p.0) (typed_stmt p.1.0) (typed_stmt p.1.1)) (λ p. refl) (λ p. refl) n c.args.least.now _ o _ read c.in-None.ensures.least;
+      value = made_value (λ p. (plain p.0, typed_stmt p.1.0, typed_stmt p.1.1)) if_else_rows (if_else_rule n)
+          (λ p. is_int (type_of (plain p.0))) (λ p. tree.if_else n (plain p.0) (typed_stmt p.1.0) (typed_stmt p.1.1))
+          (λ p. refl) (λ p. refl) o _ _ _ read c.in-None.ensures.value refl;
+      least = made_least (λ p. (plain p.0, typed_stmt p.1.0, typed_stmt p.1.1)) if_else_rows (if_else_rule n)
+          (λ p. is_int (type_of (plain p.0))) (λ p. tree.if_else n (plain p.0) (typed_stmt p.1.0) (typed_stmt p.1.1))
+          (λ p. refl) (λ p. refl) n c.args.least.now _ o _ read c.in-None.ensures.least;
     }

@@ -17,8 +17,15 @@ returns-in-Some c =
     let o = two c.args.condition c.args.body in
     let read = two_read plain typed_stmt c.args.condition c.args.body in
     record {
-      value = made_as typed_stmt _ c.while_loop.result c.some_made.result _ c.some_made.ensures.made (λ s is. made_value (λ p. (plain p.0, typed_stmt p.1)) if_rows (while_rule n) (λ p. is_int (type_of (plain p.0))) (λ p. tree.while_loop n (plain p.0) (typed_stmt p.1)) (λ p. refl) (λ p. refl) o _ _ _ read c.in-Some.ensures.value (ap Some (ap (map_stmt plain) is))) c.while_loop.ensures.made;
-      least = always c.some_made.result (made_least (λ p. (plain p.0, typed_stmt p.1)) if_rows (while_rule n) (λ p. is_int (type_of (plain p.0))) (λ p. tree.while_loop n (plain p.0) (typed_stmt p.1)) (λ p. refl) (λ p. refl) n c.args.least.now _ o _ read c.in-Some.ensures.least);
+      value = made_as typed_stmt _ c.while_loop.result c.some_made.result _ c.some_made.ensures.made
+          (λ s is. made_value (λ p. (plain p.0, typed_stmt p.1)) if_rows (while_rule n)
+          (λ p. is_int (type_of (plain p.0))) (λ p. tree.while_loop n (plain p.0) (typed_stmt p.1)) (λ p. refl)
+          (λ p. refl) o _ _ _ read c.in-Some.ensures.value
+          (ap Some (ap (map_stmt plain) is))) c.while_loop.ensures.made;
+      least = always c.some_made.result
+          (made_least (λ p. (plain p.0, typed_stmt p.1)) if_rows (while_rule n) (λ p. is_int (type_of (plain p.0)))
+          (λ p. tree.while_loop n (plain p.0) (typed_stmt p.1)) (λ p. refl)
+          (λ p. refl) n c.args.least.now _ o _ read c.in-Some.ensures.least);
     }
 
 pub returns-in-None : goal.returns-in-None
@@ -27,6 +34,10 @@ returns-in-None c =
     let o = two c.args.condition c.args.body in
     let read = two_read plain typed_stmt c.args.condition c.args.body in
     record {
-      value = made_value (λ p. (plain p.0, typed_stmt p.1)) if_rows (while_rule n) (λ p. is_int (type_of (plain p.0))) (λ p. tree.while_loop n (plain p.0) (typed_stmt p.1)) (λ p. refl) (λ p. refl) o _ _ _ read c.in-None.ensures.value refl;
-      least = made_least (λ p. (plain p.0, typed_stmt p.1)) if_rows (while_rule n) (λ p. is_int (type_of (plain p.0))) (λ p. tree.while_loop n (plain p.0) (typed_stmt p.1)) (λ p. refl) (λ p. refl) n c.args.least.now _ o _ read c.in-None.ensures.least;
+      value = made_value (λ p. (plain p.0, typed_stmt p.1)) if_rows (while_rule n) (λ p. is_int (type_of (plain p.0)))
+          (λ p. tree.while_loop n (plain p.0) (typed_stmt p.1)) (λ p. refl)
+          (λ p. refl) o _ _ _ read c.in-None.ensures.value refl;
+      least = made_least (λ p. (plain p.0, typed_stmt p.1)) if_rows (while_rule n) (λ p. is_int (type_of (plain p.0)))
+          (λ p. tree.while_loop n (plain p.0) (typed_stmt p.1)) (λ p. refl)
+          (λ p. refl) n c.args.least.now _ o _ read c.in-None.ensures.least;
     }

@@ -53,7 +53,10 @@ returns-returns-else-returns b c =
 pub some_returns-returns-then-returns : goal.some_returns-returns-then-returns
 some_returns-returns-then-returns b c =
     let is : c.returns.result ≡ true = search rules in
-    record { test = any_here some_returns returns (λ x xs. refl) c.args.xs.now c.loop-x.x-index c.x-item.result c.returns.result _ c.loop-x-test.true c.x-item.is c.returns.ensures is c.loop-x.invariant }
+    record {
+      test = any_here some_returns returns
+          (λ x xs. refl) c.args.xs.now c.loop-x.x-index c.x-item.result c.returns.result _ c.loop-x-test.true c.x-item.is c.returns.ensures is c.loop-x.invariant;
+    }
 
 pub some_returns-loop-x-preserved : goal.some_returns-loop-x-preserved
 some_returns-loop-x-preserved b c =

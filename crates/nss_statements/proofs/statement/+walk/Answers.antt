@@ -24,7 +24,12 @@ use Rattle.nss_statements.proofs.statement.+walk.Goals as goal
 -- ---- a statement that is known
 
 pub statement-block-requires : goal.statement-block-requires
-statement-block-requires t c = (falls _ (tree.block c.in-Block.token (plain_stmts c.deref.result.now)) t (all_size (plain_stmts c.deref.result.now) + 2) (block_is _ _ _ _ (tree_block _ _ _ c.in-Block.is) c.deref.ensures.value) c.decreases (omega arith), tt)
+statement-block-requires t c = (
+  falls _ (tree.block c.in-Block.token (plain_stmts c.deref.result.now)) t
+      (all_size (plain_stmts c.deref.result.now) + 2)
+      (block_is _ _ _ _ (tree_block _ _ _ c.in-Block.is) c.deref.ensures.value) c.decreases (omega arith),
+  tt,
+)
 
 pub statement-returns-in-Block : goal.statement-returns-in-Block
 statement-returns-in-Block t c =
@@ -60,7 +65,12 @@ statement-returns-in-Expression t c =
     }
 
 pub statement-if_only-requires : goal.statement-if_only-requires
-statement-if_only-requires t c = (falls _ (tree.if_only c.in-If.token (plain_expr c.in-If.condition) (plain_stmt c.deref-in-If.result.now)) t (size (plain_stmt c.deref-in-If.result.now) + 2) (if_only_is _ _ _ _ _ (tree_if_only _ _ _ _ c.in-If.is) c.deref-in-If.ensures) c.decreases (omega arith), tt)
+statement-if_only-requires t c = (
+  falls _ (tree.if_only c.in-If.token (plain_expr c.in-If.condition) (plain_stmt c.deref-in-If.result.now)) t
+      (size (plain_stmt c.deref-in-If.result.now) + 2)
+      (if_only_is _ _ _ _ _ (tree_if_only _ _ _ _ c.in-If.is) c.deref-in-If.ensures) c.decreases (omega arith),
+  tt,
+)
 
 pub statement-returns-in-If : goal.statement-returns-in-If
 statement-returns-in-If t c =
@@ -74,7 +84,15 @@ statement-returns-in-If t c =
     }
 
 pub statement-if_else-requires : goal.statement-if_else-requires
-statement-if_else-requires t c = (falls _ (tree.if_else c.in-IfElse.token (plain_expr c.in-IfElse.condition) (plain_stmt c.deref-in-IfElse.result.now) (plain_stmt c.deref-in-IfElse-2.result.now)) t (size (plain_stmt c.deref-in-IfElse.result.now) + size (plain_stmt c.deref-in-IfElse-2.result.now) + 2) (if_else_is _ _ _ _ _ _ _ (tree_if_else _ _ _ _ _ c.in-IfElse.is) c.deref-in-IfElse.ensures c.deref-in-IfElse-2.ensures) c.decreases (omega arith), tt)
+statement-if_else-requires t c = (
+  falls _ (tree.if_else c.in-IfElse.token (plain_expr c.in-IfElse.condition)
+      (plain_stmt c.deref-in-IfElse.result.now) (plain_stmt c.deref-in-IfElse-2.result.now)) t
+      (size (plain_stmt c.deref-in-IfElse.result.now) + size (plain_stmt c.deref-in-IfElse-2.result.now) + 2)
+      (if_else_is _ _ _ _ _ _ _
+      (tree_if_else _ _ _ _ _ c.in-IfElse.is) c.deref-in-IfElse.ensures c.deref-in-IfElse-2.ensures) c.decreases
+      (omega arith),
+  tt,
+)
 
 pub statement-returns-in-IfElse : goal.statement-returns-in-IfElse
 statement-returns-in-IfElse t c =
@@ -88,7 +106,12 @@ statement-returns-in-IfElse t c =
     }
 
 pub statement-while_loop-requires : goal.statement-while_loop-requires
-statement-while_loop-requires t c = (falls _ (tree.while_loop c.in-While.token (plain_expr c.in-While.condition) (plain_stmt c.deref-in-While.result.now)) t (size (plain_stmt c.deref-in-While.result.now) + 2) (while_is _ _ _ _ _ (tree_while_loop _ _ _ _ c.in-While.is) c.deref-in-While.ensures) c.decreases (omega arith), tt)
+statement-while_loop-requires t c = (
+  falls _ (tree.while_loop c.in-While.token (plain_expr c.in-While.condition)
+      (plain_stmt c.deref-in-While.result.now)) t (size (plain_stmt c.deref-in-While.result.now) + 2)
+      (while_is _ _ _ _ _ (tree_while_loop _ _ _ _ c.in-While.is) c.deref-in-While.ensures) c.decreases (omega arith),
+  tt,
+)
 
 pub statement-returns-in-While : goal.statement-returns-in-While
 statement-returns-in-While t c =
@@ -102,7 +125,12 @@ statement-returns-in-While t c =
     }
 
 pub statement-do_loop-requires : goal.statement-do_loop-requires
-statement-do_loop-requires t c = (falls _ (tree.do_loop c.in-Do.token (plain_stmt c.deref-in-Do.result.now) (plain_expr c.in-Do.condition)) t (size (plain_stmt c.deref-in-Do.result.now) + 2) (do_is _ _ _ _ _ (tree_do_loop _ _ _ _ c.in-Do.is) c.deref-in-Do.ensures) c.decreases (omega arith), tt)
+statement-do_loop-requires t c = (
+  falls _ (tree.do_loop c.in-Do.token (plain_stmt c.deref-in-Do.result.now) (plain_expr c.in-Do.condition)) t
+      (size (plain_stmt c.deref-in-Do.result.now) + 2)
+      (do_is _ _ _ _ _ (tree_do_loop _ _ _ _ c.in-Do.is) c.deref-in-Do.ensures) c.decreases (omega arith),
+  tt,
+)
 
 pub statement-returns-in-Do : goal.statement-returns-in-Do
 statement-returns-in-Do t c =
@@ -116,7 +144,13 @@ statement-returns-in-Do t c =
     }
 
 pub statement-for_loop-requires : goal.statement-for_loop-requires
-statement-for_loop-requires t c = (falls _ (tree.for_loop c.in-For.token (option_map plain_expr c.in-For.start) (option_map plain_expr c.in-For.condition) (option_map plain_expr c.in-For.step) (plain_stmt c.deref-in-For.result.now)) t (size (plain_stmt c.deref-in-For.result.now) + 2) (for_is _ _ _ _ _ _ _ (tree_for_loop _ _ _ _ _ _ c.in-For.is) c.deref-in-For.ensures) c.decreases (omega arith), tt)
+statement-for_loop-requires t c = (
+  falls _ (tree.for_loop c.in-For.token (option_map plain_expr c.in-For.start)
+      (option_map plain_expr c.in-For.condition) (option_map plain_expr c.in-For.step)
+      (plain_stmt c.deref-in-For.result.now)) t (size (plain_stmt c.deref-in-For.result.now) + 2)
+      (for_is _ _ _ _ _ _ _ (tree_for_loop _ _ _ _ _ _ c.in-For.is) c.deref-in-For.ensures) c.decreases (omega arith),
+  tt,
+)
 
 pub statement-returns-in-For : goal.statement-returns-in-For
 statement-returns-in-For t c =
@@ -130,7 +164,13 @@ statement-returns-in-For t c =
     }
 
 pub statement-switch-requires : goal.statement-switch-requires
-statement-switch-requires t c = (falls _ (tree.switch c.in-Switch.token (plain_expr c.in-Switch.value) (plain_stmts c.deref-in-Switch.result.now)) t (all_size (plain_stmts c.deref-in-Switch.result.now) + 2) (switch_is _ _ _ _ _ (tree_switch _ _ _ _ c.in-Switch.is) c.deref-in-Switch.ensures.value) c.decreases (omega arith), tt)
+statement-switch-requires t c = (
+  falls _ (tree.switch c.in-Switch.token (plain_expr c.in-Switch.value) (plain_stmts c.deref-in-Switch.result.now)) t
+      (all_size (plain_stmts c.deref-in-Switch.result.now) + 2)
+      (switch_is _ _ _ _ _ (tree_switch _ _ _ _ c.in-Switch.is) c.deref-in-Switch.ensures.value) c.decreases
+      (omega arith),
+  tt,
+)
 
 pub statement-returns-in-Switch : goal.statement-returns-in-Switch
 statement-returns-in-Switch t c =
@@ -267,9 +307,15 @@ if_only-returns-in-Ok t c =
     let a = plain_stmt c.args.then.now in
     let d = tree.if_only c.args.token e a in
     record {
-      value = two_value typed_stmt (stmt_verdict hs s) (stmt_faults hs s) c.args.token c.judge_if.result d d refl (λ x y. asked if_rows (if_rule c.args.token) (two x y)) (option_map plain c.in_ok-condition.condition) (value hs s e) (option_map typed_stmt c.in-Ok.then) (fine (stmt_verdict hs (inside s) a)) c.in_ok-condition.ensures.value c.in-Ok.ensures.value refl c.judge_if.ensures.value;
+      value = two_value typed_stmt (stmt_verdict hs s) (stmt_faults hs s) c.args.token c.judge_if.result d d refl
+          (λ x y. asked if_rows (if_rule c.args.token) (two x y)) (option_map plain c.in_ok-condition.condition)
+          (value hs s e) (option_map typed_stmt c.in-Ok.then)
+          (fine (stmt_verdict hs (inside s) a)) c.in_ok-condition.ensures.value c.in-Ok.ensures.value refl c.judge_if.ensures.value;
       least =
-          two_least typed_stmt (stmt_verdict hs s) (stmt_faults hs s) c.args.token c.judge_if.result d d refl (λ x y. asked if_rows (if_rule c.args.token) (two x y)) (option_map plain c.in_ok-condition.condition) (value hs s e) (option_map typed_stmt c.in-Ok.then) (fine (stmt_verdict hs (inside s) a)) c.args.least.now c.expression.new.least c.in_branch.new.least c.judge_if.new.least (value_faults hs s e) (stmt_faults hs (inside s) a)
+          two_least typed_stmt (stmt_verdict hs s) (stmt_faults hs s) c.args.token c.judge_if.result d d refl
+          (λ x y. asked if_rows (if_rule c.args.token) (two x y)) (option_map plain c.in_ok-condition.condition)
+          (value hs s e) (option_map typed_stmt c.in-Ok.then)
+          (fine (stmt_verdict hs (inside s) a)) c.args.least.now c.expression.new.least c.in_branch.new.least c.judge_if.new.least (value_faults hs s e) (stmt_faults hs (inside s) a)
           c.in_ok-condition.ensures.value c.in-Ok.ensures.value refl c.in_ok-condition.ensures.least c.in-Ok.ensures.least c.judge_if.ensures.least;
       sight = always c.judge_if.result c.in-Ok.ensures.sight;
     }
@@ -282,9 +328,15 @@ while_loop-returns-in-Ok t c =
     let a = plain_stmt c.args.body.now in
     let d = tree.while_loop c.args.token e a in
     record {
-      value = two_value typed_stmt (stmt_verdict hs s) (stmt_faults hs s) c.args.token c.judge_while.result d d refl (λ x y. asked if_rows (while_rule c.args.token) (two x y)) (option_map plain c.in_ok-condition.condition) (value hs s e) (option_map typed_stmt c.in-Ok.body) (fine (stmt_verdict hs (looped s) a)) c.in_ok-condition.ensures.value c.in-Ok.ensures.value refl c.judge_while.ensures.value;
+      value = two_value typed_stmt (stmt_verdict hs s) (stmt_faults hs s) c.args.token c.judge_while.result d d refl
+          (λ x y. asked if_rows (while_rule c.args.token) (two x y)) (option_map plain c.in_ok-condition.condition)
+          (value hs s e) (option_map typed_stmt c.in-Ok.body)
+          (fine (stmt_verdict hs (looped s) a)) c.in_ok-condition.ensures.value c.in-Ok.ensures.value refl c.judge_while.ensures.value;
       least =
-          two_least typed_stmt (stmt_verdict hs s) (stmt_faults hs s) c.args.token c.judge_while.result d d refl (λ x y. asked if_rows (while_rule c.args.token) (two x y)) (option_map plain c.in_ok-condition.condition) (value hs s e) (option_map typed_stmt c.in-Ok.body) (fine (stmt_verdict hs (looped s) a)) c.args.least.now c.expression.new.least c.in_loop.new.least c.judge_while.new.least (value_faults hs s e) (stmt_faults hs (looped s) a)
+          two_least typed_stmt (stmt_verdict hs s) (stmt_faults hs s) c.args.token c.judge_while.result d d refl
+          (λ x y. asked if_rows (while_rule c.args.token) (two x y)) (option_map plain c.in_ok-condition.condition)
+          (value hs s e) (option_map typed_stmt c.in-Ok.body)
+          (fine (stmt_verdict hs (looped s) a)) c.args.least.now c.expression.new.least c.in_loop.new.least c.judge_while.new.least (value_faults hs s e) (stmt_faults hs (looped s) a)
           c.in_ok-condition.ensures.value c.in-Ok.ensures.value refl c.in_ok-condition.ensures.least c.in-Ok.ensures.least c.judge_while.ensures.least;
       sight = always c.judge_while.result c.in-Ok.ensures.sight;
     }
@@ -301,12 +353,23 @@ if_else-returns-in-Ok-in_branch t c =
     let d = tree.if_else c.args.token e a b in
     record {
       value =
-          three_value typed_stmt (stmt_verdict hs s) (stmt_faults hs s) c.args.token c.judge_if_else.result d d refl (λ x y z. asked if_else_rows (if_else_rule c.args.token) (three x y z)) (option_map plain c.in_ok-condition.condition) (value hs s e) (option_map typed_stmt c.in-Ok.then) (fine (stmt_verdict hs (inside s) a)) (option_map typed_stmt c.in-Ok-in_branch.otherwise) (fine (stmt_verdict hs (inside between) b))
+          three_value typed_stmt (stmt_verdict hs s) (stmt_faults hs s) c.args.token c.judge_if_else.result d d refl
+          (λ x y z. asked if_else_rows (if_else_rule c.args.token) (three x y z))
+          (option_map plain c.in_ok-condition.condition) (value hs s e) (option_map typed_stmt c.in-Ok.then)
+          (fine (stmt_verdict hs (inside s) a)) (option_map typed_stmt c.in-Ok-in_branch.otherwise)
+          (fine (stmt_verdict hs (inside between) b))
           c.in_ok-condition.ensures.value c.in-Ok.ensures.value (c.in-Ok-in_branch.ensures.value ∙ ap (λ k. fine (stmt_verdict hs (inside k) b)) is) refl c.judge_if_else.ensures.value;
       least =
-          three_least typed_stmt (stmt_verdict hs s) (stmt_faults hs s) c.args.token c.judge_if_else.result d d refl (λ x y z. asked if_else_rows (if_else_rule c.args.token) (three x y z)) (option_map plain c.in_ok-condition.condition) (value hs s e) (option_map typed_stmt c.in-Ok.then) (fine (stmt_verdict hs (inside s) a)) (option_map typed_stmt c.in-Ok-in_branch.otherwise) (fine (stmt_verdict hs (inside between) b))
+          three_least typed_stmt (stmt_verdict hs s) (stmt_faults hs s) c.args.token c.judge_if_else.result d d refl
+          (λ x y z. asked if_else_rows (if_else_rule c.args.token) (three x y z))
+          (option_map plain c.in_ok-condition.condition) (value hs s e) (option_map typed_stmt c.in-Ok.then)
+          (fine (stmt_verdict hs (inside s) a)) (option_map typed_stmt c.in-Ok-in_branch.otherwise)
+          (fine (stmt_verdict hs (inside between) b))
           c.args.least.now c.expression.new.least c.in_branch.new.least c.in_branch-in-Ok.new.least c.judge_if_else.new.least (value_faults hs s e) (stmt_faults hs (inside s) a) (stmt_faults hs (inside between) b)
-          c.in_ok-condition.ensures.value c.in-Ok.ensures.value (c.in-Ok-in_branch.ensures.value ∙ ap (λ k. fine (stmt_verdict hs (inside k) b)) is) refl c.in_ok-condition.ensures.least c.in-Ok.ensures.least
+          c.in_ok-condition.ensures.value c.in-Ok.ensures.value
+          (c.in-Ok-in_branch.ensures.value
+          ∙ ap (λ k. fine (stmt_verdict hs
+          (inside k) b)) is) refl c.in_ok-condition.ensures.least c.in-Ok.ensures.least
           (c.in-Ok-in_branch.ensures.least ∙ ap (λ k. kept c.in_branch.new.least (stmt_faults hs (inside k) b)) is) c.judge_if_else.ensures.least;
       sight = always c.judge_if_else.result (c.in-Ok-in_branch.ensures.sight ∙ ap (λ k. left k (after (inside k) b)) is);
     }
@@ -321,10 +384,23 @@ do_loop-returns-in-Ok t c =
     let is = c.in_ok-body.ensures.sight in
     let d = tree.do_loop c.args.token a e in
     record {
-      value = two_value typed_stmt (stmt_verdict hs s) (stmt_faults hs s) c.args.token c.judge_do.result d d refl (λ x y. asked do_rows (do_rule c.args.token) (two x y)) (option_map typed_stmt c.in_ok-body.body) (fine (stmt_verdict hs (looped s) a)) (option_map plain c.in-Ok.condition) (value hs s e) c.in_ok-body.ensures.value (c.in-Ok.ensures.value ∙ (ap (λ k. value hs k e) is ∙ ap fine (same_verdict hs s next false e))) refl c.judge_do.ensures.value;
+      value = two_value typed_stmt (stmt_verdict hs s) (stmt_faults hs s) c.args.token c.judge_do.result d d refl
+          (λ x y. asked do_rows (do_rule c.args.token) (two x y)) (option_map typed_stmt c.in_ok-body.body)
+          (fine (stmt_verdict hs (looped s) a)) (option_map plain c.in-Ok.condition)
+          (value hs s e) c.in_ok-body.ensures.value
+          (c.in-Ok.ensures.value ∙ (ap (λ k. value hs k e) is
+          ∙ ap fine (same_verdict hs s next false e))) refl c.judge_do.ensures.value;
       least =
-          two_least typed_stmt (stmt_verdict hs s) (stmt_faults hs s) c.args.token c.judge_do.result d d refl (λ x y. asked do_rows (do_rule c.args.token) (two x y)) (option_map typed_stmt c.in_ok-body.body) (fine (stmt_verdict hs (looped s) a)) (option_map plain c.in-Ok.condition) (value hs s e) c.args.least.now c.in_loop.new.least c.expression.new.least c.judge_do.new.least (stmt_faults hs (looped s) a) (value_faults hs s e)
-          c.in_ok-body.ensures.value (c.in-Ok.ensures.value ∙ (ap (λ k. value hs k e) is ∙ ap fine (same_verdict hs s next false e))) refl c.in_ok-body.ensures.least (c.in-Ok.ensures.least ∙ (ap (λ k. kept c.in_loop.new.least (value_faults hs k e)) is ∙ ap (kept c.in_loop.new.least) (same_faults hs s next false e))) c.judge_do.ensures.least;
+          two_least typed_stmt (stmt_verdict hs s) (stmt_faults hs s) c.args.token c.judge_do.result d d refl
+          (λ x y. asked do_rows (do_rule c.args.token) (two x y)) (option_map typed_stmt c.in_ok-body.body)
+          (fine (stmt_verdict hs (looped s) a)) (option_map plain c.in-Ok.condition)
+          (value hs s e) c.args.least.now c.in_loop.new.least c.expression.new.least c.judge_do.new.least
+          (stmt_faults hs (looped s) a) (value_faults hs s e)
+          c.in_ok-body.ensures.value
+          (c.in-Ok.ensures.value ∙ (ap (λ k. value hs k e) is
+          ∙ ap fine (same_verdict hs s next false e))) refl c.in_ok-body.ensures.least
+          (c.in-Ok.ensures.least ∙ (ap (λ k. kept c.in_loop.new.least (value_faults hs k e)) is
+          ∙ ap (kept c.in_loop.new.least) (same_faults hs s next false e))) c.judge_do.ensures.least;
       sight = always c.judge_do.result is;
     }
 
@@ -339,10 +415,20 @@ for_loop-returns-in-Ok t c =
     let d = tree.for_loop c.args.token x y z a in
     record {
       value =
-          four_value typed_stmt (stmt_verdict hs s) (stmt_faults hs s) c.args.token c.judge_for.result d d refl (λ i j k l. asked for_rows (for_rule c.args.token) (four i j k l)) (option_map (option_map plain) c.in_ok-head.head.start) (if_there (value hs s) x) (option_map (option_map plain) c.in_ok-head.head.condition) (if_there (value hs s) y) (option_map (option_map plain) c.in_ok-head.head.step) (if_there (value hs s) z) (option_map typed_stmt c.in-Ok.body) (fine (stmt_verdict hs (looped s) a))
+          four_value typed_stmt (stmt_verdict hs s) (stmt_faults hs s) c.args.token c.judge_for.result d d refl
+          (λ i j k l. asked for_rows (for_rule c.args.token) (four i j k l))
+          (option_map (option_map plain) c.in_ok-head.head.start) (if_there (value hs s) x)
+          (option_map (option_map plain) c.in_ok-head.head.condition) (if_there (value hs s) y)
+          (option_map (option_map plain) c.in_ok-head.head.step) (if_there (value hs s) z)
+          (option_map typed_stmt c.in-Ok.body) (fine (stmt_verdict hs (looped s) a))
           c.in_ok-head.ensures.start c.in_ok-head.ensures.condition c.in_ok-head.ensures.step c.in-Ok.ensures.value refl c.judge_for.ensures.value;
       least =
-          four_least typed_stmt (stmt_verdict hs s) (stmt_faults hs s) c.args.token c.judge_for.result d d refl (λ i j k l. asked for_rows (for_rule c.args.token) (four i j k l)) (option_map (option_map plain) c.in_ok-head.head.start) (if_there (value hs s) x) (option_map (option_map plain) c.in_ok-head.head.condition) (if_there (value hs s) y) (option_map (option_map plain) c.in_ok-head.head.step) (if_there (value hs s) z) (option_map typed_stmt c.in-Ok.body) (fine (stmt_verdict hs (looped s) a))
+          four_least typed_stmt (stmt_verdict hs s) (stmt_faults hs s) c.args.token c.judge_for.result d d refl
+          (λ i j k l. asked for_rows (for_rule c.args.token) (four i j k l))
+          (option_map (option_map plain) c.in_ok-head.head.start) (if_there (value hs s) x)
+          (option_map (option_map plain) c.in_ok-head.head.condition) (if_there (value hs s) y)
+          (option_map (option_map plain) c.in_ok-head.head.step) (if_there (value hs s) z)
+          (option_map typed_stmt c.in-Ok.body) (fine (stmt_verdict hs (looped s) a))
           c.args.least.now c.for_head.new.least c.in_loop.new.least c.in_loop.new.least c.judge_for.new.least
           (faults_there (value_faults hs s) x) (faults_there (value_faults hs s) y) (faults_there (value_faults hs s) z) (stmt_faults hs (looped s) a)
           c.in_ok-head.ensures.start c.in_ok-head.ensures.condition c.in_ok-head.ensures.step c.in-Ok.ensures.value refl c.in_ok-head.ensures.least c.in-Ok.ensures.least c.judge_for.ensures.least;
@@ -361,14 +447,24 @@ switch-returns-in-Ok t c =
     let d = tree.switch c.args.token e xs in
     record {
       value =
-          two_value typed_stmt (stmt_verdict hs s) (stmt_faults hs s) c.args.token (answered c.judge_switch.result) d d refl (λ x y. asked (switch_rows_by known) (switch_rule_by known c.args.token) (two x y)) (option_map plain c.in_ok-value.value) (value hs s e) (option_map typed_stmts c.in-Ok.body) (stmts_fine hs (switched s) xs)
+          two_value typed_stmt (stmt_verdict hs s) (stmt_faults hs s) c.args.token
+          (answered c.judge_switch.result) d d refl
+          (λ x y. asked (switch_rows_by known) (switch_rule_by known c.args.token) (two x y))
+          (option_map plain c.in_ok-value.value) (value hs s e) (option_map typed_stmts c.in-Ok.body)
+          (stmts_fine hs (switched s) xs)
           c.in_ok-value.ensures.value (c.in-Ok.ensures.value ∙ ap (λ k. stmts_fine hs k xs) is)
           (sym (ap (λ b. asked (switch_rows_by b) (switch_rule_by b c.args.token) (two (value hs s e) (stmts_fine hs (switched s) xs))) crosses)) c.judge_switch.ensures.value;
       least =
-          two_least typed_stmt (stmt_verdict hs s) (stmt_faults hs s) c.args.token (answered c.judge_switch.result) d d refl (λ x y. asked (switch_rows_by known) (switch_rule_by known c.args.token) (two x y)) (option_map plain c.in_ok-value.value) (value hs s e) (option_map typed_stmts c.in-Ok.body) (stmts_fine hs (switched s) xs)
+          two_least typed_stmt (stmt_verdict hs s) (stmt_faults hs s) c.args.token
+          (answered c.judge_switch.result) d d refl
+          (λ x y. asked (switch_rows_by known) (switch_rule_by known c.args.token) (two x y))
+          (option_map plain c.in_ok-value.value) (value hs s e) (option_map typed_stmts c.in-Ok.body)
+          (stmts_fine hs (switched s) xs)
           c.args.least.now c.expression.new.least c.statements-body.new.least c.judge_switch.new.least (value_faults hs s e) (stmts_faults hs (switched s) xs)
           c.in_ok-value.ensures.value (c.in-Ok.ensures.value ∙ ap (λ k. stmts_fine hs k xs) is)
-          (sym (ap (λ b. (value_faults hs s e ++ stmts_faults hs (switched s) xs) ++ at c.args.token (asked (switch_rows_by b) (switch_rule_by b c.args.token) (two (value hs s e) (stmts_fine hs (switched s) xs)))) crosses))
+          (sym (ap (λ b. (value_faults hs s e ++ stmts_faults hs (switched s) xs)
+          ++ at c.args.token (asked (switch_rows_by b) (switch_rule_by b c.args.token)
+          (two (value hs s e) (stmts_fine hs (switched s) xs)))) crosses))
           c.in_ok-value.ensures.least (c.in-Ok.ensures.least ∙ ap (λ k. kept c.expression.new.least (stmts_faults hs k xs)) is) c.judge_switch.ensures.least;
       sight =
           c.scopes_are_left.ensures.left c.args.given.now.table.now c.args.sight.now c.statements-body.new.sight c.leave.new.self c.enter_switch-mark.result (switched s) (afters (switched s) xs)
@@ -396,15 +492,20 @@ statements-loop-one-preserved t c = (
 
 pub statements-returns-clause-value : goal.statements-returns-clause-value
 statements-returns-clause-value t c =
-    row_end_value (stmt_laws (heads_in c.args.given.now)) c.args.statements.now c.loop-one.one-index (omega (arith, c.loop-one-test.false)) (sight_in c.args.given.now c.loop-one.sight) c.loop-one.all _ c.loop-one.invariant.0
+    row_end_value (stmt_laws (heads_in c.args.given.now)) c.args.statements.now c.loop-one.one-index
+    (omega (arith, c.loop-one-test.false))
+    (sight_in c.args.given.now c.loop-one.sight) c.loop-one.all _ c.loop-one.invariant.0
 
 pub statements-returns-clause-least : goal.statements-returns-clause-least
 statements-returns-clause-least t c =
-    row_end_least (stmt_laws (heads_in c.args.given.now)) c.args.statements.now c.loop-one.one-index (omega (arith, c.loop-one-test.false)) (sight_in c.args.given.now c.loop-one.sight) c.loop-one.least _ c.loop-one.invariant.1
+    row_end_least (stmt_laws (heads_in c.args.given.now)) c.args.statements.now c.loop-one.one-index
+    (omega (arith, c.loop-one-test.false))
+    (sight_in c.args.given.now c.loop-one.sight) c.loop-one.least _ c.loop-one.invariant.1
 
 pub statements-returns-clause-sight : goal.statements-returns-clause-sight
 statements-returns-clause-sight t c =
-    row_end_sight (stmt_laws (heads_in c.args.given.now)) c.args.statements.now c.loop-one.one-index (omega (arith, c.loop-one-test.false)) (sight_in c.args.given.now c.loop-one.sight) _ c.loop-one.invariant.2
+    row_end_sight (stmt_laws (heads_in c.args.given.now)) c.args.statements.now c.loop-one.one-index
+    (omega (arith, c.loop-one-test.false)) (sight_in c.args.given.now c.loop-one.sight) _ c.loop-one.invariant.2
 
 -- ---- from a part to its own part
 

@@ -13,11 +13,24 @@ returns-then-not-is_script_name c =
     elim c.then-not-is_script_name.branch [
       | then-not-is_script_name-via-then-not-is_script_name w ↦ record {
         test = tested_none c.args.scripts.now (c.loop-left.left - 1) c.index-scripts-left.result c.as_slice-name.result.now c.is_script_name.result _
-            (record { name = c.as_slice-name.ensures.items ∙ ap (λ (x : Script). x.name) (sym c.index-scripts-left.is); is = c.is_script_name.ensures.test; new = refl; inside = inside; at = c.index-scripts-left.is }) (search rules);
+            (record {
+              name = c.as_slice-name.ensures.items ∙ ap (λ (x : Script). x.name) (sym c.index-scripts-left.is);
+              is = c.is_script_name.ensures.test;
+              new = refl;
+              inside = inside;
+              at = c.index-scripts-left.is;
+            })
+            (search rules);
       }
       | then-not-is_script_name-via-else-not-is_script_name+then-not-is_new w ↦ record {
         test = tested_old c.args.scripts.now (c.loop-left.left - 1) c.index-scripts-left.result c.as_slice-name.result.now c.is_script_name.result w.is_new.result
-            (record { name = c.as_slice-name.ensures.items ∙ ap (λ (x : Script). x.name) (sym c.index-scripts-left.is); is = c.is_script_name.ensures.test; new = w.is_new.ensures.test; inside = inside; at = c.index-scripts-left.is }) (search rules);
+            (record {
+              name = c.as_slice-name.ensures.items ∙ ap (λ (x : Script). x.name) (sym c.index-scripts-left.is);
+              is = c.is_script_name.ensures.test;
+              new = w.is_new.ensures.test;
+              inside = inside;
+              at = c.index-scripts-left.is;
+            }) (search rules);
       }
     ]
 

@@ -15,7 +15,8 @@ pub state_bytes-requires : goal.state_bytes-requires
 state_bytes-requires c = record {
   counted = ap (λ (l : List (Things Saved)). length l) c.as_slice-beside.ensures.items ∙ c.requires.counted;
   queues = subst (λ (l : List (Things Saved)). QueuesHaveValues l) (sym c.as_slice-beside.ensures.items) c.requires.queues;
-  entries = subst (λ (l : List (Entry Saved)). AllByRecursion (λ (e : Entry Saved). KindHasValues e.kind) l) (sym (c.as_slice-waits.ensures.items ∙ c.in_ok-waiting.ensures.entries)) c.requires.entries;
+  entries = subst (λ (l : List (Entry Saved)). AllByRecursion (λ (e : Entry Saved). KindHasValues e.kind) l)
+      (sym (c.as_slice-waits.ensures.items ∙ c.in_ok-waiting.ensures.entries)) c.requires.entries;
 }
 
 pub returns : goal.returns

@@ -17,7 +17,10 @@ loop-i-preserved g c = objects_put c.args.area.now.objects c.args.things.now (g.
     c.in_ok-put_object.ensures.variables c.in_ok-put_object.ensures.form c.in_ok-put_object.ensures.short (omega (arith, c.requires.counted, c.loop-i-test.true)) c.loop-i-test.true c.index-things-i.is
 
 pub put_object-requires : goal.put_object-requires
-put_object-requires g c = record { values = all_at (λ (t : Things Saved). AllByRecursion HasValues t.queue.actions) c.args.things.now c.loop-i.i c.index-things-i.result c.requires.values c.loop-i-test.true c.index-things-i.is }
+put_object-requires g c = record {
+  values = all_at
+      (λ (t : Things Saved). AllByRecursion HasValues t.queue.actions) c.args.things.now c.loop-i.i c.index-things-i.result c.requires.values c.loop-i-test.true c.index-things-i.is;
+}
 
 pub returns : goal.returns
 returns g c = record {

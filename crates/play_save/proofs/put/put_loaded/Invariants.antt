@@ -7,4 +7,6 @@ use Rattle.play_save.proofs.Telling.{IsWritable}
 use Rattle.play_save.proofs.put.put_loaded.Given as goal
 
 abbrev pub invariant-loop-loaded : goal.invariant-loop-loaded
-invariant-loop-loaded g l = ArePut (λ (l : Loaded). l) IsWritable any_text (λ (l : Loaded). script_fields (script_part l)) (λ (l : Loaded). l) l.scripts (g.W.Writer.taken l.fn.out) l.loaded-index (g.W.Writer.taken l.out)
+invariant-loop-loaded g l = ArePut (λ (l : Loaded). l) IsWritable any_text
+    (λ (l : Loaded). script_fields (script_part l)) (λ (l : Loaded). l) l.scripts
+    (g.W.Writer.taken l.fn.out) l.loaded-index (g.W.Writer.taken l.out)

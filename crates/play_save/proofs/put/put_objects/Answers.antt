@@ -8,7 +8,8 @@ use Rattle.play_save.proofs.put.put_objects.Goals as goal
 
 pub returns-clause-put : goal.returns-clause-put
 returns-clause-put g c = on_ok_weaker c.put_beside.result
-    (put_listed object_fields (object_parts c.args.area.now.objects c.args.things.now) _ (g.W.Writer.taken c.args.out.now) (g.W.Writer.taken c.put_count.new.out) (g.W.Writer.taken c.put_beside.new.out)
+    (put_listed object_fields (object_parts c.args.area.now.objects c.args.things.now) _
+    (g.W.Writer.taken c.args.out.now) (g.W.Writer.taken c.put_count.new.out) (g.W.Writer.taken c.put_beside.new.out)
     c.in_ok-put_count.ensures.put (c.requires.counted ∙ sym (parts_count c.args.area.now.objects c.args.things.now c.requires.counted)))
     c.put_beside.ensures.put
 

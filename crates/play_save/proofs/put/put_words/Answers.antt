@@ -11,14 +11,20 @@ pub loop-n-init : goal.loop-n-init
 loop-n-init g c = put_none (λ (n : ℕ). n) (IsNumber 4) any_text (number_fields 4) (λ (n : ℕ). n) c.args.words.now (g.W.Writer.taken c.args.out.now)
 
 pub loop-n-preserved : goal.loop-n-preserved
-loop-n-preserved g c = put_got (λ (n : ℕ). n) (IsNumber 4) any_text (number_fields 4) (λ (n : ℕ). n) c.args.words.now (g.W.Writer.taken c.args.out.now) c.loop-n.n-index (get_or c.args.words.now c.loop-n.n-index 0) (g.W.Writer.taken c.loop-n.out)
+loop-n-preserved g c = put_got (λ (n : ℕ). n) (IsNumber 4) any_text (number_fields 4) (λ (n : ℕ). n) c.args.words.now
+    (g.W.Writer.taken c.args.out.now) c.loop-n.n-index (get_or c.args.words.now c.loop-n.n-index 0)
+    (g.W.Writer.taken c.loop-n.out)
     (g.W.Writer.taken c.put_random.new.out) c.loop-n.invariant c.in_ok-put_random.ensures.put (record { same = refl; form = c.in_ok-put_random.ensures.form; short = refl })
     (asked_by c.args.words.now c.loop-n.n-index 0 c.loop-n-test.true)
 
 pub returns : goal.returns
 returns g c =
-    let end = put_end (λ (n : ℕ). n) (IsNumber 4) any_text (number_fields 4) (λ (n : ℕ). n) c.args.words.now (g.W.Writer.taken c.args.out.now) c.loop-n.n-index (g.W.Writer.taken c.loop-n.out) c.loop-n.invariant c.loop-n-test.false in
-    let parts = parts_end (λ (n : ℕ). n) (IsNumber 4) any_text (number_fields 4) (λ (n : ℕ). n) c.args.words.now (g.W.Writer.taken c.args.out.now) c.loop-n.n-index (g.W.Writer.taken c.loop-n.out) c.loop-n.invariant c.loop-n-test.false in
+    let end = put_end (λ (n : ℕ). n) (IsNumber 4) any_text (number_fields 4) (λ (n : ℕ). n) c.args.words.now
+    (g.W.Writer.taken c.args.out.now) c.loop-n.n-index
+    (g.W.Writer.taken c.loop-n.out) c.loop-n.invariant c.loop-n-test.false in
+    let parts = parts_end (λ (n : ℕ). n) (IsNumber 4) any_text (number_fields 4) (λ (n : ℕ). n) c.args.words.now
+    (g.W.Writer.taken c.args.out.now) c.loop-n.n-index
+    (g.W.Writer.taken c.loop-n.out) c.loop-n.invariant c.loop-n-test.false in
     record {
       put = end ∙ ap (λ (l : List ℕ). g.W.Writer.taken c.args.out.now ++ joined (flat_map (number_fields 4) l)) (map_same c.args.words.now);
       form = subst (AllByRecursion (IsNumber 4)) (map_same c.args.words.now) parts.form;

@@ -41,7 +41,9 @@ pub loop-left-preserved : goal.loop-left-preserved
 loop-left-preserved c =
     let inside : c.loop-left.left - 1 < length c.args.entries.now = omega (arith, c.loop-left-test.true, c.loop-left.invariant.1.1) in (
       waiting_step c.args.next c.args.clock c.args.objects c.args.entries.now (c.loop-left.left - 1) c.loop-left.left c.index-entries-left.result
-          (c.is_waiting.ensures.test.0 (search rules)) (subst (IsBeforeFirst c.index-entries-left.result) (rest_whole (c.loop-left.left - 1 + 1) c.args.entries.now) (c.is_before.ensures.test.0 (search rules)))
+          (c.is_waiting.ensures.test.0 (search rules))
+          (subst (IsBeforeFirst c.index-entries-left.result)
+          (rest_whole (c.loop-left.left - 1 + 1) c.args.entries.now) (c.is_before.ensures.test.0 (search rules)))
           (number_new c.loop-left.numbers c.args.entries.now (c.loop-left.left - 1) c.loop-left.left c.index-entries-left.result c.in_ok-add.field-0 c.loop-left.invariant.1.0
           c.in_ok-add.ensures.new (search rules) (omega (arith, c.loop-left-test.true)))
           c.loop-left.invariant.0 (omega (arith, c.loop-left-test.true)) inside c.index-entries-left.is,

@@ -15,7 +15,10 @@ variables-requires c = tt
 
 pub loop-i-preserved : goal.loop-i-preserved
 loop-i-preserved c = given_more c.args.area c.loop-i.area c.put_vars.new.self c.args.objects.now c.loop-i.i _ c.index-objects-i.result c.in-Some.vars c.requires.counted c.loop-i.invariant
-    c.put_vars.ensures.vars refl (made_of c.in_ok-variables.field-0 c.as_slice.result.now c.index-objects-i.result c.in-Some.vars (c.as_slice.ensures.items ∙ ap (λ (o : Object). o.variables) (sym c.index-objects-i.is)) c.in-Some.is c.in_ok-variables.ensures.tells)
+    c.put_vars.ensures.vars refl
+    (made_of c.in_ok-variables.field-0 c.as_slice.result.now c.index-objects-i.result c.in-Some.vars
+    (c.as_slice.ensures.items
+    ∙ ap (λ (o : Object). o.variables) (sym c.index-objects-i.is)) c.in-Some.is c.in_ok-variables.ensures.tells)
     c.loop-i-test.true c.index-objects-i.is
 
 pub put_vars-requires : goal.put_vars-requires
@@ -25,7 +28,9 @@ put_vars-requires c = record {
 }
 
 pub unreachable-requires : goal.unreachable-requires
-unreachable-requires c = made_not c.in_ok-variables.field-0 c.as_slice.result.now c.index-objects-i.result (c.as_slice.ensures.items ∙ ap (λ (o : Object). o.variables) (sym c.index-objects-i.is)) c.in-None.is c.in_ok-variables.ensures.tells
+unreachable-requires c = made_not c.in_ok-variables.field-0 c.as_slice.result.now c.index-objects-i.result
+    (c.as_slice.ensures.items
+    ∙ ap (λ (o : Object). o.variables) (sym c.index-objects-i.is)) c.in-None.is c.in_ok-variables.ensures.tells
     (all_at (λ (o : Object). IsDistinct same_variable (variables_of o)) c.args.objects.now c.loop-i.i c.index-objects-i.result c.requires.distinct c.loop-i-test.true c.index-objects-i.is)
 
 pub returns : goal.returns

@@ -8,7 +8,14 @@ use Rattle.stack_check.proofs.calls.call_first.Goals as goal
 pub begin-requires-clause-begins : goal.begin-requires-clause-begins
 begin-requires-clause-begins c =
     subst (λ target. TrialBegins c.args.judged.now.table.now c.args.judged.now.code.now c.args.heap.now
-    (record { entry = Called target; taken = c.args.from.held.cells; under = c.args.from.held.under; given = None; unseen = record { cells = c.depth.result; under = c.depth-2.result }; at_first = record { cells = c.depth.result; under = c.depth-2.result } }))
+    (record {
+      entry = Called target;
+      taken = c.args.from.held.cells;
+      under = c.args.from.held.under;
+      given = None;
+      unseen = record { cells = c.depth.result; under = c.depth-2.result };
+      at_first = record { cells = c.depth.result; under = c.depth-2.result };
+    }))
     c.requires.op.leads
     (call_begins c.args.judged.now.table.now c.args.judged.now.code.now c.args.heap.now c.args.facts.now c.args.from.trial c.args.from.place c.requires.op.offset c.args.from.held _
     c.requires.keeps c.requires.row c.requires.op.stands c.depth.ensures.depth c.depth-2.ensures.depth c.depth.ensures.few c.depth-2.ensures.few)

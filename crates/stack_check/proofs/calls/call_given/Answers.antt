@@ -30,7 +30,9 @@ returns-then-branch c = record {
   sees = subst (λ (h : Heap). Sees c.args.judged.now.table.now c.args.judged.now.code.now c.args.heap.now h c.args.facts.now c.args.facts.now c.args.at.from.trial c.args.at.from.place c.args.at.from.held _)
       (sym c.in_ok-is_found.ensures.same)
       (given_there c.args.judged.now.table.now c.args.judged.now.code.now c.args.heap.now c.args.facts.now c.args.at.from.trial c.args.at.from.place c.requires.op.offset c.args.at.from.held c.args.callee c.args.given c.args.at.next _
-      c.requires.keeps c.requires.op.stands (subst (λ t. Calls c.args.facts.now t c.args.callee) (sym c.requires.op.leads) c.requires.calls) c.requires.given c.requires.next c.requires.begins c.requires.within (c.in_ok-is_found.ensures.found (search rules))
+      c.requires.keeps c.requires.op.stands
+      (subst (λ t. Calls c.args.facts.now t c.args.callee)
+      (sym c.requires.op.leads) c.requires.calls) c.requires.given c.requires.next c.requires.begins c.requires.within (c.in_ok-is_found.ensures.found (search rules))
       (behind_shape c.args.heap.now c.args.at.from.held c.args.callee c.args.given c.lower-rest.result _ _ (ap (λ n. n - c.args.callee.unseen.cells) c.depth.ensures.depth)
       (c.lower-rest.ensures.reads ∙ ap (λ (r : Reach). drop r.cells (read c.args.heap.now.slots c.args.at.from.held.cells)) c.window.ensures) refl));
   waits = refl;
@@ -49,7 +51,9 @@ follow-requires-clause-keeps c =
 pub follow-requires-clause-owed : goal.follow-requires-clause-owed
 follow-requires-clause-owed c =
     given_owed c.args.judged.now.table.now c.args.judged.now.code.now c.args.heap.now c.with_cells.new.heap c.args.facts.now c.args.at.from.trial c.args.at.from.place c.requires.op.offset c.args.at.from.held c.in_ok-now.now
-    c.args.callee c.args.given c.args.at.next c.requires.keeps c.requires.row c.requires.op.stands (subst (λ t. Calls c.args.facts.now t c.args.callee) (sym c.requires.op.leads) c.requires.calls) c.requires.given c.requires.next c.requires.within
+    c.args.callee c.args.given c.args.at.next c.requires.keeps c.requires.row c.requires.op.stands
+    (subst (λ t. Calls c.args.facts.now t c.args.callee)
+    (sym c.requires.op.leads) c.requires.calls) c.requires.given c.requires.next c.requires.within
     (holds_behind c.args.heap.now c.with_cells.new.heap c.args.at.from.held c.in_ok-now.now c.args.callee c.args.given c.lower-rest.result _
     (ap (λ n. n - c.args.callee.unseen.cells) c.depth.ensures.depth)
     (c.lower-rest.ensures.reads ∙ ap (λ (r : Reach). drop r.cells (read c.args.heap.now.slots c.args.at.from.held.cells)) c.window.ensures)

@@ -10,10 +10,26 @@ pub returns : goal.returns
 returns c = record {
   keeps = starts c.args.judged.now.table.now c.args.judged.now.code.now c.args.heap.now c.new-rows.result c.add.new.self c.push.new.self c.new.result c.new-2.result
       c.new-rows.ensures.empty c.in_ok-add.ensures.added
-      (c.in_ok-push.ensures.ok ∙ ap (λ trials. trials ++ record { entry = Start; taken = 0; under = 0; given = None; unseen = record { cells = 0; under = 0 }; at_first = record { cells = 0; under = 0 } } ∷ []) c.new-trials.ensures.empty)
+      (c.in_ok-push.ensures.ok ∙ ap
+      (λ trials. trials ++ record {
+        entry = Start;
+        taken = 0;
+        under = 0;
+        given = None;
+        unseen = record { cells = 0; under = 0 };
+        at_first = record { cells = 0; under = 0 };
+      } ∷ []) c.new-trials.ensures.empty)
       c.new.ensures.empty c.new-2.ensures.empty;
   begins = starts_found c.new-rows.result c.add.new.self c.push.new.self c.new.result c.new-2.result
       c.new-rows.ensures.empty c.in_ok-add.ensures.added
-      (c.in_ok-push.ensures.ok ∙ ap (λ trials. trials ++ record { entry = Start; taken = 0; under = 0; given = None; unseen = record { cells = 0; under = 0 }; at_first = record { cells = 0; under = 0 } } ∷ []) c.new-trials.ensures.empty)
+      (c.in_ok-push.ensures.ok ∙ ap
+      (λ trials. trials ++ record {
+        entry = Start;
+        taken = 0;
+        under = 0;
+        given = None;
+        unseen = record { cells = 0; under = 0 };
+        at_first = record { cells = 0; under = 0 };
+      } ∷ []) c.new-trials.ensures.empty)
       c.new.ensures.empty c.new-2.ensures.empty;
 }

@@ -24,7 +24,9 @@ returns-in-Ok-clause-ok g c =
     let now = c.insert.new.self in
     let here : has_stamp c.args.stamp (below c.args.stamp slots.items) slots.items ≡ false =
     sym (ap (λ k. has_stamp c.args.stamp k slots.items) c.below-at.ensures.place) ∙ sym c.is_of.ensures.test ∙ c.if-is_of.false in
-    (kept_added c.args.live c.args.stamp _ c.args.item slots.items now.items c.requires.kept here (c.in-Ok.ensures.items ∙ ap (λ k. insert slots.items k (record { stamp = c.args.stamp; item = Some c.args.item })) c.below-at.ensures.place)
+    (kept_added c.args.live c.args.stamp _ c.args.item slots.items now.items c.requires.kept here
+    (c.in-Ok.ensures.items ∙ ap
+    (λ k. insert slots.items k (record { stamp = c.args.stamp; item = Some c.args.item })) c.below-at.ensures.place)
     (sym now.ok.0 ∙ c.in-Ok.ensures.len ∙ ap (λ n. n + 1) slots.ok.0) _ (deque_capacity now) refl).0
 
 pub returns-in-Ok-clause-kept : goal.returns-in-Ok-clause-kept
@@ -33,5 +35,7 @@ returns-in-Ok-clause-kept g c =
     let now = c.insert.new.self in
     let here : has_stamp c.args.stamp (below c.args.stamp slots.items) slots.items ≡ false =
     sym (ap (λ k. has_stamp c.args.stamp k slots.items) c.below-at.ensures.place) ∙ sym c.is_of.ensures.test ∙ c.if-is_of.false in
-    (kept_added c.args.live c.args.stamp _ c.args.item slots.items now.items c.requires.kept here (c.in-Ok.ensures.items ∙ ap (λ k. insert slots.items k (record { stamp = c.args.stamp; item = Some c.args.item })) c.below-at.ensures.place)
+    (kept_added c.args.live c.args.stamp _ c.args.item slots.items now.items c.requires.kept here
+    (c.in-Ok.ensures.items ∙ ap
+    (λ k. insert slots.items k (record { stamp = c.args.stamp; item = Some c.args.item })) c.below-at.ensures.place)
     (sym now.ok.0 ∙ c.in-Ok.ensures.len ∙ ap (λ n. n + 1) slots.ok.0) _ (deque_capacity now) refl).1

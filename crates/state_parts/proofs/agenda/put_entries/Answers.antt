@@ -8,7 +8,9 @@ use Rattle.state_parts.proofs.agenda.put_entries.Goals as goal
 
 pub returns-clause-put : goal.returns-clause-put
 returns-clause-put g c = on_ok_weaker c.put_row.result
-    (listed_put entry_fields entry_part c.args.entries.now _ (g.W.Writer.taken c.args.out.now) (g.W.Writer.taken c.put_count.new.out) (g.W.Writer.taken c.put_row.new.out) c.in_ok-put_count.ensures.put (refl))
+    (listed_put entry_fields entry_part c.args.entries.now _ (g.W.Writer.taken c.args.out.now)
+    (g.W.Writer.taken c.put_count.new.out)
+    (g.W.Writer.taken c.put_row.new.out) c.in_ok-put_count.ensures.put (refl))
     c.put_row.ensures.put
 
 pub returns-clause-few : goal.returns-clause-few

@@ -15,7 +15,8 @@ pub loop-entry-init : goal.loop-entry-init
 loop-entry-init g c = put_none entry_of IsEntry is_short_entry entry_fields entry_part c.args.entries.now (g.W.Writer.taken c.args.out.now)
 
 pub loop-entry-preserved : goal.loop-entry-preserved
-loop-entry-preserved g c = put_got entry_of IsEntry is_short_entry entry_fields entry_part c.args.entries.now (g.W.Writer.taken c.args.out.now) c.loop-entry.entry-index c.entry-item.result (g.W.Writer.taken c.loop-entry.out)
+loop-entry-preserved g c = put_got entry_of IsEntry is_short_entry entry_fields entry_part c.args.entries.now
+    (g.W.Writer.taken c.args.out.now) c.loop-entry.entry-index c.entry-item.result (g.W.Writer.taken c.loop-entry.out)
     (g.W.Writer.taken c.put_entry.new.out) c.loop-entry.invariant c.in_ok-put_entry.ensures.put c.in_ok-put_entry.ensures.part
     (asked c.args.entries.now c.loop-entry.entry-index c.entry-item.result c.loop-entry-test.true c.entry-item.is)
 
@@ -27,6 +28,10 @@ put_entry-requires g c = record {
 
 pub returns : goal.returns
 returns g c = record {
-  put = put_end entry_of IsEntry is_short_entry entry_fields entry_part c.args.entries.now (g.W.Writer.taken c.args.out.now) c.loop-entry.entry-index (g.W.Writer.taken c.loop-entry.out) c.loop-entry.invariant c.loop-entry-test.false;
-  parts = parts_end entry_of IsEntry is_short_entry entry_fields entry_part c.args.entries.now (g.W.Writer.taken c.args.out.now) c.loop-entry.entry-index (g.W.Writer.taken c.loop-entry.out) c.loop-entry.invariant c.loop-entry-test.false;
+  put = put_end entry_of IsEntry is_short_entry entry_fields entry_part c.args.entries.now
+      (g.W.Writer.taken c.args.out.now) c.loop-entry.entry-index
+      (g.W.Writer.taken c.loop-entry.out) c.loop-entry.invariant c.loop-entry-test.false;
+  parts = parts_end entry_of IsEntry is_short_entry entry_fields entry_part c.args.entries.now
+      (g.W.Writer.taken c.args.out.now) c.loop-entry.entry-index
+      (g.W.Writer.taken c.loop-entry.out) c.loop-entry.invariant c.loop-entry-test.false;
 }

@@ -14,8 +14,11 @@ pub loop-i-init : goal.loop-i-init
 loop-i-init g c = put_none item_of IsItem is_short_item item_fields item_part c.args.queue.now.actions (g.W.Writer.taken c.args.out.now)
 
 pub loop-i-preserved : goal.loop-i-preserved
-loop-i-preserved g c = put_got item_of IsItem is_short_item item_fields item_part c.args.queue.now.actions (g.W.Writer.taken c.args.out.now) c.loop-i.i c.in-Some.next.now (g.W.Writer.taken c.loop-i.out) (g.W.Writer.taken c.put_item.new.out)
-    c.loop-i.invariant c.in_ok-put_item-in-Some.ensures.put c.in_ok-put_item-in-Some.ensures.part (lent_some c.args.queue.now.actions c.loop-i.i c.at.result c.in-Some.next c.at.ensures.action c.in-Some.is)
+loop-i-preserved g c = put_got item_of IsItem is_short_item item_fields item_part c.args.queue.now.actions
+    (g.W.Writer.taken c.args.out.now) c.loop-i.i c.in-Some.next.now (g.W.Writer.taken c.loop-i.out)
+    (g.W.Writer.taken c.put_item.new.out)
+    c.loop-i.invariant c.in_ok-put_item-in-Some.ensures.put c.in_ok-put_item-in-Some.ensures.part
+    (lent_some c.args.queue.now.actions c.loop-i.i c.at.result c.in-Some.next c.at.ensures.action c.in-Some.is)
 
 pub put_item-requires : goal.put_item-requires
 put_item-requires g c = record { values = all_got HasValues c.args.queue.now.actions c.loop-i.i c.in-Some.next.now c.requires.values (lent_some c.args.queue.now.actions c.loop-i.i c.at.result c.in-Some.next c.at.ensures.action c.in-Some.is) }
@@ -27,6 +30,10 @@ unreachable-requires g c =
 
 pub returns : goal.returns
 returns g c = record {
-  put = put_end item_of IsItem is_short_item item_fields item_part c.args.queue.now.actions (g.W.Writer.taken c.args.out.now) c.loop-i.i (g.W.Writer.taken c.loop-i.out) c.loop-i.invariant (omega (arith, c.loop-i-test.false, c.requires.count));
-  parts = parts_end item_of IsItem is_short_item item_fields item_part c.args.queue.now.actions (g.W.Writer.taken c.args.out.now) c.loop-i.i (g.W.Writer.taken c.loop-i.out) c.loop-i.invariant (omega (arith, c.loop-i-test.false, c.requires.count));
+  put = put_end item_of IsItem is_short_item item_fields item_part c.args.queue.now.actions
+      (g.W.Writer.taken c.args.out.now) c.loop-i.i (g.W.Writer.taken c.loop-i.out) c.loop-i.invariant
+      (omega (arith, c.loop-i-test.false, c.requires.count));
+  parts = parts_end item_of IsItem is_short_item item_fields item_part c.args.queue.now.actions
+      (g.W.Writer.taken c.args.out.now) c.loop-i.i (g.W.Writer.taken c.loop-i.out) c.loop-i.invariant
+      (omega (arith, c.loop-i-test.false, c.requires.count));
 }

@@ -12,8 +12,11 @@ pub loop-i-init : goal.loop-i-init
 loop-i-init g c = put_none stood_of IsStanding any_text standing_fields stood_part c.args.effects.now (g.W.Writer.taken c.args.out.now)
 
 pub loop-i-preserved : goal.loop-i-preserved
-loop-i-preserved g c = put_got stood_of IsStanding any_text standing_fields stood_part c.args.effects.now (g.W.Writer.taken c.args.out.now) c.loop-i.i c.in-Some.effect.now (g.W.Writer.taken c.loop-i.out) (g.W.Writer.taken c.put_stood.new.out)
-    c.loop-i.invariant c.in_ok-put_stood-in-Some.ensures.put c.in_ok-put_stood-in-Some.ensures.part (lent_some c.args.effects.now c.loop-i.i c.get.result c.in-Some.effect c.get.ensures.stood c.in-Some.is)
+loop-i-preserved g c = put_got stood_of IsStanding any_text standing_fields stood_part c.args.effects.now
+    (g.W.Writer.taken c.args.out.now) c.loop-i.i c.in-Some.effect.now (g.W.Writer.taken c.loop-i.out)
+    (g.W.Writer.taken c.put_stood.new.out)
+    c.loop-i.invariant c.in_ok-put_stood-in-Some.ensures.put c.in_ok-put_stood-in-Some.ensures.part
+    (lent_some c.args.effects.now c.loop-i.i c.get.result c.in-Some.effect c.get.ensures.stood c.in-Some.is)
 
 pub unreachable-requires : goal.unreachable-requires
 unreachable-requires g c =
@@ -22,6 +25,10 @@ unreachable-requires g c =
 
 pub returns : goal.returns
 returns g c = record {
-  put = put_end stood_of IsStanding any_text standing_fields stood_part c.args.effects.now (g.W.Writer.taken c.args.out.now) c.loop-i.i (g.W.Writer.taken c.loop-i.out) c.loop-i.invariant (omega (arith, c.loop-i-test.false, c.len-i-end.ensures.len));
-  parts = parts_end stood_of IsStanding any_text standing_fields stood_part c.args.effects.now (g.W.Writer.taken c.args.out.now) c.loop-i.i (g.W.Writer.taken c.loop-i.out) c.loop-i.invariant (omega (arith, c.loop-i-test.false, c.len-i-end.ensures.len));
+  put = put_end stood_of IsStanding any_text standing_fields stood_part c.args.effects.now
+      (g.W.Writer.taken c.args.out.now) c.loop-i.i (g.W.Writer.taken c.loop-i.out) c.loop-i.invariant
+      (omega (arith, c.loop-i-test.false, c.len-i-end.ensures.len));
+  parts = parts_end stood_of IsStanding any_text standing_fields stood_part c.args.effects.now
+      (g.W.Writer.taken c.args.out.now) c.loop-i.i (g.W.Writer.taken c.loop-i.out) c.loop-i.invariant
+      (omega (arith, c.loop-i-test.false, c.len-i-end.ensures.len));
 }

@@ -7,7 +7,9 @@ use Rattle.state_parts.proofs.objects.put_standing.Goals as goal
 
 pub returns-clause-put : goal.returns-clause-put
 returns-clause-put g c = on_ok_weaker c.put_effects.result
-    (listed_put standing_fields stood_part c.args.effects.now _ (g.W.Writer.taken c.args.out.now) (g.W.Writer.taken c.put_count.new.out) (g.W.Writer.taken c.put_effects.new.out) c.in_ok-put_count.ensures.put (c.len-2.ensures.len))
+    (listed_put standing_fields stood_part c.args.effects.now _ (g.W.Writer.taken c.args.out.now)
+    (g.W.Writer.taken c.put_count.new.out) (g.W.Writer.taken c.put_effects.new.out) c.in_ok-put_count.ensures.put
+    (c.len-2.ensures.len))
     c.put_effects.ensures.put
 
 pub returns-clause-few : goal.returns-clause-few

@@ -7,7 +7,9 @@ use Rattle.state_parts.proofs.objects.put_variables.Goals as goal
 
 pub returns-clause-put : goal.returns-clause-put
 returns-clause-put g c = on_ok_weaker c.put_walk.result
-    (listed_put variable_fields variable_part c.args.vars.now _ (g.W.Writer.taken c.args.out.now) (g.W.Writer.taken c.put_count.new.out) (g.W.Writer.taken c.put_walk.new.out) c.in_ok-put_count.ensures.put (c.len-2.ensures.len))
+    (listed_put variable_fields variable_part c.args.vars.now _ (g.W.Writer.taken c.args.out.now)
+    (g.W.Writer.taken c.put_count.new.out) (g.W.Writer.taken c.put_walk.new.out) c.in_ok-put_count.ensures.put
+    (c.len-2.ensures.len))
     c.put_walk.ensures.put
 
 pub returns-clause-few : goal.returns-clause-few

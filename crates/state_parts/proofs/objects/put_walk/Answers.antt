@@ -16,7 +16,9 @@ loop-done-init g c = (put_none variable_of IsVariable any_text variable_fields v
 pub loop-done-preserved : goal.loop-done-preserved
 loop-done-preserved g c =
     let next = c.next.ensures.first ∙ ap (λ (l : List Variable). slice_get l 0) c.loop-done.invariant.1 ∙ first_left c.args.vars.now c.loop-done._done in (
-      put_got variable_of IsVariable any_text variable_fields variable_part c.args.vars.now (g.W.Writer.taken c.args.out.now) c.loop-done._done (variable_seen c.in-Some.v) (g.W.Writer.taken c.loop-done.out) (g.W.Writer.taken c.put_variable.new.out)
+      put_got variable_of IsVariable any_text variable_fields variable_part c.args.vars.now
+          (g.W.Writer.taken c.args.out.now) c.loop-done._done (variable_seen c.in-Some.v)
+          (g.W.Writer.taken c.loop-done.out) (g.W.Writer.taken c.put_variable.new.out)
           c.loop-done.invariant.0 c.in_ok-put_variable-in-Some.ensures.put c.in_ok-put_variable-in-Some.ensures.part
           (seen_some variable_seen c.args.vars.now c.loop-done._done c.next.result c.in-Some.v next c.in-Some.is),
       c.next.ensures.rest ∙ ap (λ (l : List Variable). drop 1 l) c.loop-done.invariant.1 ∙ left_more c.args.vars.now c.loop-done._done,
@@ -30,6 +32,10 @@ unreachable-requires g c =
 
 pub returns : goal.returns
 returns g c = record {
-  put = put_end variable_of IsVariable any_text variable_fields variable_part c.args.vars.now (g.W.Writer.taken c.args.out.now) c.loop-done._done (g.W.Writer.taken c.loop-done.out) c.loop-done.invariant.0 (omega (arith, c.loop-done-test.false, c.len-done-end.ensures.len));
-  parts = parts_end variable_of IsVariable any_text variable_fields variable_part c.args.vars.now (g.W.Writer.taken c.args.out.now) c.loop-done._done (g.W.Writer.taken c.loop-done.out) c.loop-done.invariant.0 (omega (arith, c.loop-done-test.false, c.len-done-end.ensures.len));
+  put = put_end variable_of IsVariable any_text variable_fields variable_part c.args.vars.now
+      (g.W.Writer.taken c.args.out.now) c.loop-done._done (g.W.Writer.taken c.loop-done.out) c.loop-done.invariant.0
+      (omega (arith, c.loop-done-test.false, c.len-done-end.ensures.len));
+  parts = parts_end variable_of IsVariable any_text variable_fields variable_part c.args.vars.now
+      (g.W.Writer.taken c.args.out.now) c.loop-done._done (g.W.Writer.taken c.loop-done.out) c.loop-done.invariant.0
+      (omega (arith, c.loop-done-test.false, c.len-done-end.ensures.len));
 }

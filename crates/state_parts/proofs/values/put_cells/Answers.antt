@@ -7,7 +7,9 @@ use Rattle.state_parts.proofs.values.put_cells.Goals as goal
 
 pub returns-clause-put : goal.returns-clause-put
 returns-clause-put g c = on_ok_weaker c.put_row.result
-    (listed_put cell_fields cell_part c.args.cells.now _ (g.W.Writer.taken c.args.out.now) (g.W.Writer.taken c.put_count.new.out) (g.W.Writer.taken c.put_row.new.out) c.in_ok-put_count.ensures.put (c.len-2.ensures.count))
+    (listed_put cell_fields cell_part c.args.cells.now _ (g.W.Writer.taken c.args.out.now)
+    (g.W.Writer.taken c.put_count.new.out) (g.W.Writer.taken c.put_row.new.out) c.in_ok-put_count.ensures.put
+    (c.len-2.ensures.count))
     c.put_row.ensures.put
 
 pub returns-clause-few : goal.returns-clause-few

@@ -14,7 +14,9 @@ pub loop-i-init : goal.loop-i-init
 loop-i-init g c = put_none cell_of IsCell is_short_cell cell_fields cell_part c.args.cells.now (g.W.Writer.taken c.args.out.now)
 
 pub loop-i-preserved : goal.loop-i-preserved
-loop-i-preserved g c = put_got cell_of IsCell is_short_cell cell_fields cell_part c.args.cells.now (g.W.Writer.taken c.args.out.now) c.loop-i.i c.in-Some.held.now (g.W.Writer.taken c.loop-i.out) (g.W.Writer.taken c.put_cell.new.out)
+loop-i-preserved g c = put_got cell_of IsCell is_short_cell cell_fields cell_part c.args.cells.now
+    (g.W.Writer.taken c.args.out.now) c.loop-i.i c.in-Some.held.now (g.W.Writer.taken c.loop-i.out)
+    (g.W.Writer.taken c.put_cell.new.out)
     c.loop-i.invariant c.in_ok-put_cell-in-Some.ensures.put c.in_ok-put_cell-in-Some.ensures.part (lent_some c.args.cells.now c.loop-i.i c.get.result c.in-Some.held c.get.ensures.cell c.in-Some.is)
 
 pub put_cell-requires : goal.put_cell-requires
@@ -27,6 +29,10 @@ unreachable-requires g c =
 
 pub returns : goal.returns
 returns g c = record {
-  put = put_end cell_of IsCell is_short_cell cell_fields cell_part c.args.cells.now (g.W.Writer.taken c.args.out.now) c.loop-i.i (g.W.Writer.taken c.loop-i.out) c.loop-i.invariant (omega (arith, c.loop-i-test.false, c.len-i-end.ensures.count));
-  parts = parts_end cell_of IsCell is_short_cell cell_fields cell_part c.args.cells.now (g.W.Writer.taken c.args.out.now) c.loop-i.i (g.W.Writer.taken c.loop-i.out) c.loop-i.invariant (omega (arith, c.loop-i-test.false, c.len-i-end.ensures.count));
+  put = put_end cell_of IsCell is_short_cell cell_fields cell_part c.args.cells.now
+      (g.W.Writer.taken c.args.out.now) c.loop-i.i (g.W.Writer.taken c.loop-i.out) c.loop-i.invariant
+      (omega (arith, c.loop-i-test.false, c.len-i-end.ensures.count));
+  parts = parts_end cell_of IsCell is_short_cell cell_fields cell_part c.args.cells.now
+      (g.W.Writer.taken c.args.out.now) c.loop-i.i (g.W.Writer.taken c.loop-i.out) c.loop-i.invariant
+      (omega (arith, c.loop-i-test.false, c.len-i-end.ensures.count));
 }

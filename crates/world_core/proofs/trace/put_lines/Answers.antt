@@ -13,4 +13,5 @@ loop-line-preserved c =
 pub returns-in_err-put_line-clause-err : goal.returns-in_err-put_line-clause-err
 returns-in_err-put_line-clause-err c =
     on_err c.from_residual.result _
-    (taken_back_after c.args.out.now.items (flat_map line_text (take c.loop-line.line-index c.args.lines.now)) c.loop-line.out.items c.put_line.new.out.items c.loop-line.invariant c.in_err-put_line.ensures.err)
+    (taken_back_after c.args.out.now.items
+    (flat_map line_text (take c.loop-line.line-index c.args.lines.now)) c.loop-line.out.items c.put_line.new.out.items c.loop-line.invariant c.in_err-put_line.ensures.err)

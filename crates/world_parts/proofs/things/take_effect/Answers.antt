@@ -5,7 +5,8 @@ use Rattle.world_parts.proofs.things.take_effect.Goals as goal
 
 pub returns-clause-left : goal.returns-clause-left
 returns-clause-left g c =
-    effects_changed c.args.o c.args.things.now.items c.index_mut-object.result.now c.take.new.self (λ es. remove es c.args.at) c.requires.first c.requires.within c.index_mut-object.ensures.value c.take.ensures.left
+    effects_changed c.args.o c.args.things.now.items c.index_mut-object.result.now c.take.new.self
+    (λ es. remove es c.args.at) c.requires.first c.requires.within c.index_mut-object.ensures.value c.take.ensures.left
 
 pub returns-clause-taken : goal.returns-clause-taken
 returns-clause-taken g c =

@@ -8,7 +8,10 @@ use Rattle.gff_write.proofs.labels.Labels.place.Goals as goal
 pub returns-in-Some : goal.returns-in-Some
 returns-in-Some c =
     let table = values_of c.self.inside.rows.entries in
-    let at : Some c.in-Some.number ≡ first_place c.args.label.now table = c.in-Some.ensures.number ∙ ap (λ x. number_under x c.self.inside.numbers) c.as_slice.ensures ∙ c.self.invariant.places c.args.label.now in
+    let at : Some c.in-Some.number
+    ≡ first_place c.args.label.now table = c.in-Some.ensures.number
+    ∙ ap (λ x. number_under x c.self.inside.numbers) c.as_slice.ensures
+    ∙ c.self.invariant.places c.args.label.now in
     record { place = ap (λ o. or_else o (length table)) at ∙ place_is c.args.label.now table ∙ ap (λ t. label_index t c.args.label.now) c.self.view_is }
 
 pub returns-in-None : goal.returns-in-None

@@ -12,7 +12,10 @@ push_int-requires c = record { new = (no_int c.args.name.now c.self.invariant c.
 pub returns-in-None-clause-ok : goal.returns-in-None-clause-ok
 returns-in-None-clause-ok c =
     let none = (no_int c.args.name.now c.self.invariant c.self.view_is c.in-None.ensures.place).1 in
-    put_ok c.push_int.new.self _ _ c.push_int.result (put_last (IntVar c.args.name.now c.args.n) c.args.self.now none ∙ ap (λ m. c.args.self.now ++ IntVar c.args.name.now m ∷ []) (sym (to_z-of_z w32 c.args.n c.ranges.n))) c.push_int.ensures.ok
+    put_ok c.push_int.new.self _ _ c.push_int.result
+    (put_last (IntVar c.args.name.now c.args.n) c.args.self.now none
+    ∙ ap (λ m. c.args.self.now ++ IntVar c.args.name.now m ∷ [])
+    (sym (to_z-of_z w32 c.args.n c.ranges.n))) c.push_int.ensures.ok
 
 pub invariant_of-self : goal.invariant_of-self
 invariant_of-self c = (int_written c.args.name.now c.self.invariant c.self.view_is c.args.n c.in-Some.ensures.place c.index_mut.ensures.value (search rules) c.write.ensures).kept

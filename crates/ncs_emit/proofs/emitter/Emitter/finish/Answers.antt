@@ -41,7 +41,9 @@ pub returns-clause-file : goal.returns-clause-file
 returns-clause-file c =
     let whole = c.self.invariant.whole (omega (arith, c.size-size.ensures, c.if-size.false)) in
     let header = c.in_ok-extend_from_slice.ensures.items ∙ ap (λ (f : List ℕ). f ++ c.header.result) c.in_ok-file.ensures.items ∙ c.header.ensures.header in
-    let lines = ap (λ b. lines_of b c.as_slice-3.result.now) c.as_slice-2.ensures.value ∙ ap (lines_of c.self.inside.bytes.items) c.as_slice-3.ensures.value ∙ whole.same ∙ ap (λ d. d.lines) c.self.view_is in
+    let lines = ap (λ b. lines_of b c.as_slice-3.result.now) c.as_slice-2.ensures.value
+    ∙ ap (lines_of c.self.inside.bytes.items) c.as_slice-3.ensures.value ∙ whole.same
+    ∙ ap (λ d. d.lines) c.self.view_is in
     file_is _ _ _ _ _ c.in_ok-put_lines.ensures header lines (c.size-size.ensures ∙ file_size c.self.inside.tally ∙ ap (λ d. file_length (program d.lines)) c.self.view_is)
 
 pub returns-clause-bounded : goal.returns-clause-bounded

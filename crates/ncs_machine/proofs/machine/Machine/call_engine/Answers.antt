@@ -26,7 +26,10 @@ returns-in_err-ask-in-Some-clause-cut g c = on_err c.from_residual-in_err-ask-in
 
 pub ask-requires-clause-types : goal.ask-requires-clause-types
 ask-requires-clause-types g c =
-    call_typed (record { table = c.args.table.now; cell = λ name column row. [] }) c.args.call.number c.args.call.count c.in-Some.routine.now c.args.self.now.running c.take.new.self.running c.take.new.args
+    call_typed (record {
+      table = c.args.table.now;
+      cell = λ name column row. [];
+    }) c.args.call.number c.args.call.count c.in-Some.routine.now c.args.self.now.running c.take.new.self.running c.take.new.args
     (sym c.in-Some.ensures.entry) c.in_ok-take-in-Some.ensures.call
 
 pub take-requires-clause-case : goal.take-requires-clause-case
@@ -35,5 +38,8 @@ take-requires-clause-case g c =
 
 pub execute_named-requires-clause-both : goal.execute_named-requires-clause-both
 execute_named-requires-clause-both g c =
-    executes_both (record { table = c.args.table.now; cell = λ name column row. [] }) c.args.call.number c.args.call.count c.in-Some.routine.now c.args.self.now.running c.take.new.self.running c.take.new.args
+    executes_both (record {
+      table = c.args.table.now;
+      cell = λ name column row. [];
+    }) c.args.call.number c.args.call.count c.in-Some.routine.now c.args.self.now.running c.take.new.self.running c.take.new.args
     (sym c.in-Some.ensures.entry) (sym c.executes.ensures.test ∙ c.if-executes.true) c.requires.case c.in_ok-take-in-Some.ensures.call

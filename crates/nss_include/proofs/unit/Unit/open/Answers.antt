@@ -12,6 +12,9 @@ returns-clause-ok c =
 
 pub invariant_of-self-2 : goal.invariant_of-self-2
 invariant_of-self-2 c = (
-  subst (λ files. IsSound files c.self.inside.spans) (sym c.in_ok-push_file.ensures.ok) (sound_more c.self.inside.files.items (source c.args.name c.args.bytes) c.self.inside.spans c.requires.size (subst (λ files. length files < file_count_limit) (sym (ap (λ u. u.files) c.self.view_is)) c.requires.few) c.self.invariant.0),
+  subst (λ files. IsSound files c.self.inside.spans) (sym c.in_ok-push_file.ensures.ok)
+      (sound_more c.self.inside.files.items (source c.args.name c.args.bytes) c.self.inside.spans c.requires.size
+      (subst (λ files. length files < file_count_limit)
+      (sym (ap (λ u. u.files) c.self.view_is)) c.requires.few) c.self.invariant.0),
   c.push_file.ensures.names,
 )

@@ -14,6 +14,13 @@ returns c = record {
     cells = c.self.inside.cells;
     under = c.self.inside.under;
   }) c.args.target)) c.self.view_is
-      (callers_done (record { first = c.self.inside.first.items; later = c.self.inside.later.items; calls = c.self.inside.calls; called = c.self.inside.called; cells = c.self.inside.cells; under = c.self.inside.under })
+      (callers_done (record {
+        first = c.self.inside.first.items;
+        later = c.self.inside.later.items;
+        calls = c.self.inside.calls;
+        called = c.self.inside.called;
+        cells = c.self.inside.cells;
+        under = c.self.inside.under;
+      })
       _ c.args.target c.get-number.result c.put_all.result refl refl c.get-number.ensures.number c.put_all.ensures.put c.in_ok-put.ensures.put);
 }

@@ -17,7 +17,8 @@ returns-then-not-is_of-clause-left g c =
 
 pub invariant_of-self : goal.invariant_of-self
 invariant_of-self g c =
-    kept_empty c.self.inside.live (deque_capacity c.self.inside.slots) (deque_capacity c.exchange.new.slots) c.below-at.result c.self.inside.slots.items c.exchange.new.slots.items c.self.invariant c.exchange.ensures.now
+    kept_empty c.self.inside.live (deque_capacity c.self.inside.slots)
+    (deque_capacity c.exchange.new.slots) c.below-at.result c.self.inside.slots.items c.exchange.new.slots.items c.self.invariant c.exchange.ensures.now
     c.in-None.ensures.was c.exchange.ensures.room
 
 pub settle-requires-clause-ascend : goal.settle-requires-clause-ascend

@@ -8,7 +8,9 @@ use Rattle.world_core.proofs.world.World.engine.Goals as goal
 pub invariant_of-self : goal.invariant_of-self
 invariant_of-self g c =
     let caller = subst (λ h. c.args.caller ≤ count h.world) (sym c.self.view_is) c.requires.caller in (
-      engine_kept c.calls_keep_worlds.ensures.engine c.args.table.now (cells_of (map (λ h. h.known) c.args.hooks.now.all.items)) c.args.routine c.in-Some.found.now (call c.args.caller c.args.args c.args.action)
+      engine_kept c.calls_keep_worlds.ensures.engine c.args.table.now
+          (cells_of (map (λ h. h.known) c.args.hooks.now.all.items)) c.args.routine c.in-Some.found.now
+          (call c.args.caller c.args.args c.args.action)
           c.self.inside.parts.world c.by_role.new.parts.world c.by_role.result c.in-Some.ensures.entry c.by_role.ensures.ok c.by_role.ensures.err c.self.invariant.0 caller,
       c.by_role.ensures.posts,
       c.self.invariant.2,
