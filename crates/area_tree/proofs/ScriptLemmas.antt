@@ -70,27 +70,6 @@ first_next scripts i s old new lt at has notes x =
     one_taken (y ∷ ys) zero below here = ap (λ z. z ∷ []) here
     one_taken (y ∷ ys) (suc k) below here = ap (λ zs. y ∷ zs) (one_taken ys k (omega (arith, below)) here)
 
--- a label that has a place keeps it, and one that has none gets this
-pub noted_old : (label : List ℕ) (place : ℕ) (index : List (List ℕ × ℕ)) → is_some (number_under label index) ≡ true → NotesFirst label place index index
-noted_old label place index there x = by (number_under x index) refl (bytes_eq x label) refl
-  where
-    by : (o : Option ℕ) → number_under x index ≡ o → (b : Bool) → bytes_eq x label ≡ b → o ≡ place_or o (if b then Some place else None)
-    by (Some n) at b is = refl
-    by None at false is = refl
-    by None at true is = let none : number_under label index
-        ≡ None = ap (λ y. number_under y index) (sym ((bytes_decides x label).0 is)) ∙ at in let e : true
-        ≡ false = sym there ∙ ap is_some none in absurd cc
-
-pub noted_new : (label : List ℕ) (place : ℕ) (old new : List (List ℕ × ℕ)) → is_some (number_under label old) ≡ false → Puts label (Some place) old new → NotesFirst label place old new
-noted_new label place old new lacks puts x = puts x ∙ by (number_under x old) refl (bytes_eq x label) refl
-  where
-    by : (o : Option ℕ) → number_under x old ≡ o → (b : Bool) → bytes_eq x label ≡ b → (if b then Some place else o) ≡ place_or o (if b then Some place else None)
-    by None at b is = refl
-    by (Some n) at false is = refl
-    by (Some n) at true is = let some : number_under label old
-        ≡ Some n = ap (λ y. number_under y old) (sym ((bytes_decides x label).0 is)) ∙ at in let e : false
-        ≡ true = sym lacks ∙ ap is_some some in absurd cc
-
 -- a list without scripts
 pub none_there : (all scripts : List Script) → all ≡ scripts → length all ≡ 0 → [] ≡ scripts
 none_there [] scripts is none = is

@@ -22,19 +22,6 @@ use Rattle.codegen_expr.specs.Parts.{prefix_before, prefix_behind}
 
 -- ---- constants, the last one first
 
-constants_next : (ks : List Const) (i : ℕ) (k : Const) → k ≡ get_or ks i k → i < length ks → constants (drop i ks) ≡ constants (drop (i + 1) ks) ++ constant k ∷ []
-constants_next ks i k is lt = at_drop_more constants ks i k lt ∙ ap (λ y. constants (drop (i + 1) ks) ++ constant y ∷ []) (sym is)
-
-pub constants_step : (first now after : LabelledCode) (ks : List Const) (i j : ℕ) (k : Const) → i ≡ j + 1 → k ≡ get_or ks j k → j < length ks
-    → now ≡ record first { lines = first.lines ++ constants (drop i ks) } → after ≡ record now { lines = now.lines ++ constant k ∷ [] }
-    → after ≡ record first { lines = first.lines ++ constants (drop j ks) }
-constants_step first now after ks i j k one is lt before put =
-    put
-    ∙ (ap (λ (c : LabelledCode). record c { lines = c.lines ++ constant k ∷ [] }) before
-    ∙ ap (λ (ys : List Line). record first { lines = ys })
-    (append_assoc first.lines (constants (drop i ks)) (constant k ∷ [])
-    ∙ ap (λ ys. first.lines ++ ys) (ap (λ n. constants (drop n ks) ++ constant k ∷ []) one ∙ sym (constants_next ks j k is lt))))
-
 -- ---- places
 
 -- what is a place takes no label
@@ -61,11 +48,6 @@ member_there l depth total offset count None value h is = absurd cc
 member_there l depth total offset count (Some g) value h is =
     let e : h ≡ moved offset g = cc in
     ap (λ y. Instruction (read l depth count y) ∷ []) (sym e)
-
-pub member_apart : (l : Layout) (depth total offset count : ℕ) (o : Option Home) (value : List Line) → None ≡ option_map (moved offset) o
-    → member_code l depth total offset count o value ≡ value ++ Instruction (ops.Destruct (bytes_of total) (bytes_of offset) (bytes_of count)) ∷ []
-member_apart l depth total offset count None value is = refl
-member_apart l depth total offset count (Some g) value is = absurd cc
 
 pub no_home : (l : Layout) (the : Expression) (x : TypedExpr) → plain the ≡ x → home l x ≡ None → None ≡ home l (plain the)
 no_home l the x is none = sym (ap (home l) is ∙ none)

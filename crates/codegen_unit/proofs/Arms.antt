@@ -82,21 +82,6 @@ loop_ready : (n m : ℕ) (l : Layout) (d : ℕ) (x : TypedStmt) → n ≤ m → 
     → d + stmt_weight x ≤ frame_limit → l.globals ≤ frame_limit → m + stmt_labels x < 2 ^ 32 → LoopReady m l d x
 loop_ready n m l d x le is deep globals few = record { bounded = stmt_grows n m l true true x le is; deep = deep; globals = globals; labelled = few }
 
--- the body of a loop, in it
-pub body_ready : (n m : ℕ) (l : Layout) (d : ℕ) (ex : code.Exits) (x : TypedStmt) (b k : Target) → LoopReady n l d x
-    → n ≡ m → ex.break_to ≡ Some b → ex.continue_to ≡ Some k → b.label < m → k.label < m → StmtReady m l d ex x
-body_ready n m l d ex x b k r same eb ek lb lk =
-    let h : IsStmt n l (leads ex.break_to) (leads ex.continue_to) x =
-    subst (λ t. IsStmt n l (leads t) (leads ex.continue_to) x) (sym eb) (subst (λ t. IsStmt n l true (leads t) x) (sym ek) r.bounded) in
-    subst (λ z. StmtReady z l d ex x) same (record {
-      bounded = h;
-      deep = r.deep;
-      globals = r.globals;
-      labelled = r.labelled;
-      break_made = subst (IsMade n) (sym eb) (omega arith);
-      continue_made = subst (IsMade n) (sym ek) (omega arith);
-    })
-
 pub body_of_switch_ready : (n m : ℕ) (l : Layout) (d e : ℕ) (ex around : code.Exits) (xs : TypedStmts) (b : Target)
     → SwitchReady n l d around xs → n ≡ m → d ≡ e → ex.break_to ≡ Some b → ex.continue_to ≡ around.continue_to
     → b.label < m → StmtsReady m l e ex xs

@@ -128,37 +128,6 @@ dropped_none (suc n) label = refl
 other_label : (k label : ℕ) → k < label → ◌≡◌ {A = ℕ} (cond (eqb k label) 1 0) 0
 other_label k label lt = grind (arith, nat_tests)
 
--- a function places none of those behind its own, below its next one
-pub function_others : (add : PlacementsAdd) (stmts : StmtsPlaceAbove) (l : Layout) (n f : ℕ) (ps : List TypedParameter) (body : TypedStmts) (label : ℕ) → f < label → label < n
-    → placements (emit_function l n f ps body) label ≡ 0
-function_others add stmts l n f ps body label behind below =
-    let rest : placements (dropped (params_cells l.structs ps) ++ Instruction ops.Retn ∷ []) label
-    ≡ 0 = none_both add (dropped (params_cells l.structs ps)) (Instruction ops.Retn ∷ []) label
-    (dropped_none (params_cells l.structs ps) label) refl in
-    let inner : placements (emit_stmts l no_exits n (params_cells l.structs ps) None body
-    ++ (dropped (all_declared_cells l.structs body)
-    ++ (dropped (params_cells l.structs ps) ++ Instruction ops.Retn ∷ []))) label ≡ 0 =
-    none_both add (emit_stmts l no_exits n (params_cells l.structs ps) None body)
-    (dropped (all_declared_cells l.structs body)
-    ++ (dropped (params_cells l.structs ps) ++ Instruction ops.Retn ∷ [])) label
-    (stmts l no_exits n (params_cells l.structs ps) body label below)
-    (none_both add (dropped (all_declared_cells l.structs body))
-    (dropped (params_cells l.structs ps) ++ Instruction ops.Retn ∷ []) label
-    (dropped_none (all_declared_cells l.structs body) label) rest) in
-    omega (arith, other_label f label behind)
-
-pub others_kept : {T E : Type 0} (r : Result T E) (add : PlacementsAdd) (stmts : StmtsPlaceAbove) (l : Layout) (f k : ℕ) (ps : List TypedParameter) (body : TypedStmts) (before after : LabelledCode)
-    → OnOk r (after ≡ extended before (emit_function l before.labels f ps body) k)
-    → OnOk r ((label : ℕ) → f < label → label < before.labels → placements after.lines label ≡ placements before.lines label)
-others_kept (Ok x) add stmts l f k ps body before after e =
-    λ label behind below. ap (λ (c : LabelledCode). placements c.lines label) e
-    ∙ omega (
-      arith,
-      add before.lines (emit_function l before.labels f ps body) label,
-      function_others add stmts l before.labels f ps body label behind below,
-    )
-others_kept (Err e) add stmts l f k ps body before after put = tt
-
 globals_none : (add : PlacementsAdd) (names : NamesPlaceAbove) (l : Layout) (n d : ℕ) (ys : List TypedItem) (label : ℕ) → label < n → placements (emit_globals l n d ys) label ≡ 0
 globals_none add names l n d [] label lt = refl
 globals_none add names l n d (structure i x ls ∷ ys) label lt = globals_none add names l n d ys label lt

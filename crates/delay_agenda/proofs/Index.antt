@@ -142,9 +142,6 @@ back_again e few more last es now indexed none one other is = record {
       ∙ taken_if (is_turn_of object e) e.number e.due (turns_in object es) (none_turns object e.number es none) ∙ sym (ap (turns_in object) is);
 }
 
-pub same_again : {X : Type 0} (few last : BTreeMap ℕ (Stamps ℕ)) (es : List (Entry X)) → IsIndexed few es → ((other : ℕ) → turns_of other last ≡ turns_of other few) → IsIndexed last es
-same_again few last es indexed same = record { distinct = indexed.distinct; turns = λ object. same object ∙ indexed.turns object }
-
 -- ---- the index leads to the Turn
 
 -- the entry of a number is a Turn of the object, due then

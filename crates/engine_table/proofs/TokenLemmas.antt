@@ -29,9 +29,6 @@ pub record IsPassed (bytes : List ℕ) (from at : ℕ) : Type 0 where
   pub within : at ≤ length bytes
   pub leads : (ts : List Lexeme) (ending : Option ℕ) → Splits bytes 0 at ts ending → SomeTokens bytes from ending
 
-pub passed_none : (bytes : List ℕ) (from : ℕ) → from ≤ length bytes → IsPassed bytes from from
-passed_none bytes from within = record { within = within; leads = λ ts ending s. record { tokens = ts; are = s } }
-
 pub passed_more : (bytes : List ℕ) (from at : ℕ) (t : Lexeme) → IsPassed bytes from at → IsFirst bytes 0 at (Found t) → IsPassed bytes from t.end
 passed_more bytes from at t so first = record { within = first.within; leads = λ ts ending s. so.leads (t ∷ ts) ending (token at t ts ending first s) }
 

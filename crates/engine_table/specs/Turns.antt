@@ -213,10 +213,6 @@ abbrev pub KeepsOwner : Known → Owner → Type 0
 KeepsOwner k (owner.Constant d) = constant_fault k d ≡ None
 KeepsOwner k (owner.Parameter f t) = IsOpen k f × (length f.params < parameter_limit) × IsNoStruct t
 
-abbrev pub KeepsDefault : Owner → Option Const → Type 0
-KeepsDefault (owner.Constant d) c = IfSome c IsConstant
-KeepsDefault (owner.Parameter f t) c = FitsType c t
-
 -- a constant's name is free of functions, and its value is within bounds and clashes with nothing
 abbrev pub KeepsValue : Known → Owner → Option Const → Type 0
 KeepsValue k (owner.Constant d) c = (constant_fault k d ≡ None) × (value_fault k d c ≡ None)

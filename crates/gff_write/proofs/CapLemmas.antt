@@ -15,18 +15,6 @@ pub capped_small : (n : ℕ) → capped n ≤ 18446744073709551615
 unfolding capped
 capped_small n = omega arith
 
-pub capped_same : (n : ℕ) → n ≤ 18446744073709551615 → n ≡ capped n
-unfolding capped
-capped_same n small = omega arith
-
-pub capped_sum : (a b : ℕ) → capped (capped a + capped b) ≡ capped (a + b)
-unfolding capped
-capped_sum a b = omega arith
-
-pub capped_left : (a b : ℕ) → capped (capped a + b) ≡ capped (a + b)
-unfolding capped
-capped_left a b = omega arith
-
 -- a turn of a loop that adds n bytes and an item to its total
 pub turn : (total n item rest mid got now whole : ℕ) → capped (total + (n + item + rest)) ≡ whole
     → mid ≡ capped (total + n) → got ≡ capped item → now ≡ capped (mid + got) → capped (now + rest) ≡ whole

@@ -46,12 +46,6 @@ like_old : (v w : Variable) (vars : List Variable) → same_variable v w ≡ tru
 like_old v w [] is all = tt
 like_old v w (x ∷ vars) is all = (same_congr v w x is ∙ all.0, like_old v w vars is all.1)
 
-put_distinct_at : (v w : Variable) (b : Bool) (vars rest : List Variable) → same_variable v w ≡ b → IsDistinct same_variable (w ∷ vars) → AllByRecursion (λ y. same_variable w y ≡ false) rest →
-    IsDistinct same_variable rest → IsDistinct same_variable (cond b (v ∷ vars) (w ∷ rest))
-unfolding IsDistinct
-put_distinct_at v w true vars rest is d all done = (like_old v w vars is d.0, d.1)
-put_distinct_at v w false vars rest is d all done = (all, done)
-
 apart_put : (v w : Variable) (b : Bool) (vars : List Variable) → same_variable v w ≡ b
     → AllByRecursion (λ y. same_variable w y ≡ false) vars → b ≡ false
     → AllByRecursion (λ y. same_variable w y ≡ false) (put v vars)

@@ -162,9 +162,6 @@ cut_behind comes limit w u v stopped first (Inside n halted is) = Inside n halte
 cut_behind comes limit w u v stopped first (Over is) = Over is
 cut_behind comes limit w u v stopped first (Told is) = Told is
 
-pub unbegun : (comes : ℕ → Entered Saved) (limit : ℕ) (w v : World Saved) → v ≡ w → IsCutIn comes limit w v
-unbegun comes limit w v is = Unbegun is
-
 pub event_cut : (s : Scene) (limit o n : ℕ) (name : List ℕ) (w v : World Saved) → (length name == 0) ≡ false → script_named (scripts_in s) name ≡ Some n
     → IsCutIn (λ m. finished (λ x. x) (run_of (run_from (host_in s) m n begins.Start o w))) limit w v
     → IsCutIn (λ m. event_entry (runner_in s m) o name w) limit w v

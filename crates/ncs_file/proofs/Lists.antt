@@ -10,9 +10,6 @@ take_all n xs h = sym (lists.take_all n xs h)
 pub magic_front : (n : ℕ) → take 9 (magic ++ four n) ≡ magic
 magic_front n = refl
 
-pub replicate_next : (n : ℕ) (y : Bool) → replicate n y ++ y ∷ [] ≡ replicate (n + 1) y
-replicate_next n y = lists.replicate_more n y
-
 pub mark_next : (n : ℕ) (old : List Bool) → 1 ≤ n → (old ++ true ∷ replicate (n - 1) false) ++ false ∷ [] ≡ old ++ true ∷ replicate (n + 1 - 1) false
 mark_next n old some =
     let count : n - 1 + 1 ≡ n + 1 - 1 = omega arith in

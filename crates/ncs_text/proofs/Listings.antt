@@ -15,9 +15,6 @@ pub record Listed (code : List PlainOp) (text : List ℕ) (at : ℕ) : Type 0 wh
   pub place : at ≡ file_length met
   pub whole : text ++ listing_from at others ≡ listing code
 
-pub listed_begins : (code : List PlainOp) → Listed code [] 13
-listed_begins code = record { met = []; others = code; both = refl; place = refl; whole = refl }
-
 same_op : (a b : PlainOp) → Some a ≡ Some b → a ≡ b
 same_op a b e = cc
 

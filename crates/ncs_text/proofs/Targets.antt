@@ -29,9 +29,6 @@ header_is : (ops : List PlainOp) → take 13 (file_bytes ops) ≡ magic ++ four 
 unfolding four
 header_is ops = refl
 
-magic_is : (ops : List PlainOp) → take 9 (file_bytes ops) ≡ magic
-magic_is ops = refl
-
 -- what was put together of the parts of a whole text is its file
 pub file_is : (text body file : List ℕ) (size : ℕ) (w : IsWhole text body size) → file ≡ magic ++ (four size ++ body) → file ≡ file_bytes w.ops
 file_is text body file size w is = is ∙ ap (λ n. magic ++ (four n ++ body)) w.size_is ∙ ap (λ b. magic ++ (four (file_length w.ops) ++ b)) w.kept
@@ -52,9 +49,6 @@ has_code spells text body file size code w is loaded =
     in record { ops = w.ops; lines = w.lines; code = subst IsCode same loaded.0; kept = w.kept; size_is = w.size_is }
 
 -- ---- the faults that there are not
-
-pub has_magic : (text body file : List ℕ) (size : ℕ) → IsWhole text body size → file ≡ magic ++ (four size ++ body) → take 9 file ≢ magic → ⊥
-has_magic text body file size w is other = other (ap (take 9) (file_is text body file size w is) ∙ magic_is w.ops)
 
 pub has_length : SizeLaws → (text body file : List ℕ) (size : ℕ) → IsWhole text body size → file ≡ magic ++ (four size ++ body) → take 13 file ≢ magic ++ four (length file) → ⊥
 has_length sizes text body file size w is other =

@@ -39,16 +39,6 @@ pub items_more : (d t : ℕ) (entries : Parser SourceStmts) (all : SourceItems) 
     → items_from d entries (suc t) all i ≡ items_from d entries t (all ++ x ∷ []) r
 items_more d t entries all x i r left e = more_by d t entries all x (first i) i r left e
 
-stuck_by : (d t : ℕ) (entries : Parser SourceStmts) (all : SourceItems) (o : Option Symbol) (i : List Numbered) → is_end o ≡ false
-    → items_by d entries (items_from d entries t) all o i ≡ and_then (item d entries i) (λ y. items_from d entries t (all ++ y ∷ []))
-stuck_by d t entries all None i left = cc
-stuck_by d t entries all (Some s) i left = refl
-
--- what an item that isn't read makes of all
-pub items_on : (d t : ℕ) (entries : Parser SourceStmts) (all : SourceItems) (i : List Numbered) → is_end (first i) ≡ false
-    → items_from d entries (suc t) all i ≡ and_then (item d entries i) (λ y. items_from d entries t (all ++ y ∷ []))
-items_on d t entries all i left = stuck_by d t entries all (first i) i left
-
 end_by : (d t : ℕ) (entries : Parser SourceStmts) (all : SourceItems) (o : Option Symbol) (i : List Numbered) → is_end o ≡ true
     → items_by d entries (items_from d entries t) all o i ≡ Got all i
 end_by d t entries all None i e = refl

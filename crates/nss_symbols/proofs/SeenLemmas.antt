@@ -29,9 +29,6 @@ pub map_push : (xs : List Seen) (s : Seen) (rest : List Symbol) → map plain_sy
 map_push [] s rest = refl
 map_push (x ∷ xs) s rest = ap (λ (l : List Symbol). plain_symbol x ∷ l) (map_push xs s rest)
 
-pub next_token : (tokens : List Token) (i : ℕ) (d : Token) → i < length tokens → AllByRecursion IsToken (drop i tokens) → IsToken (get_or tokens i d)
-next_token tokens i d h all = (subst (λ (l : List Token). AllByRecursion IsToken l) (drop-cons tokens i d h) all).0
-
 pub seen_more : (all : List Seen) (tokens : List Token) (i : ℕ) (d : Token) (s : Seen) → i < length tokens → plain_symbol s ≡ symbol_of (get_or tokens i d) → IsSound s → IsLiteral (plain_symbol s)
     → SeenSoFar all tokens i → SeenSoFar (all ++ s ∷ []) tokens (i + 1)
 seen_more all tokens i d s h e k l so =
@@ -43,6 +40,3 @@ seen_more all tokens i d s h e k l so =
       literals = literal_push all s so.literals l;
       left = (subst (λ (ts : List Token). AllByRecursion IsToken ts) split so.left).1;
     }
-
-pub seen_end : (all : List Seen) (tokens : List Token) (i : ℕ) → length tokens ≤ i → SeenSoFar all tokens i → map plain_symbol all ≡ symbols_of tokens
-seen_end all tokens i h so = sym (lists.append-nil (map plain_symbol all)) ∙ ap (λ (l : List Token). map plain_symbol all ++ symbols_of l) (sym (drop_of_length-le tokens h)) ∙ so.same

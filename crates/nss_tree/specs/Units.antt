@@ -25,7 +25,3 @@ map_item f (structure n x lines) = structure n x lines
 map_item f (constant n t x c) = constant n t x c
 map_item f (global n t ds) = global n t (map (map_declared f) ds)
 map_item f (function n t x ps body) = function n t x ps (option_map (map_stmts f) body)
-
-abbrev pub map_items : {E F C T N : Type 0} → (E → F) → List (PlainItem E C T N)
-    → List (PlainItem F C T N)
-map_items f = map (map_item f)

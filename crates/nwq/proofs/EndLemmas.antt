@@ -126,8 +126,4 @@ pub whole_cut : (form : Form) (e : Status) (c c' : Contents) (t t' : List ℕ) �
     → Does (whole_work form) c t (Err e) c' t'
 whole_cut form e c c' t t' cut p q = cut_here (whole_work form) e c c' t t' (whole_may form) cut p q
 
--- what is so of a form of words and of a number is so of the same form and number
-pub same_end : (P : Form → ℕ → Type 0) (form form' : Form) (number number' : ℕ) → form ≡ form' → number' ≡ number → P form number → P form' number'
-same_end P form form' number number' same ends is = subst (λ n. P form' n) (sym ends) (subst (λ f. P f number) same is)
-
 pub ruleset program_ends = (memory_comes, refusal_comes, whole_goes_on, whole_ends, refusal_tallies)

@@ -73,9 +73,6 @@ spelled_after_backslash : (q : Bool) (text : List ℕ) (b : ℕ) (rest : List �
 spelled_after_backslash q [] b rest h = absurd cc
 spelled_after_backslash q (c ∷ text) b rest h = grind (arith, nat_tests, some_pair_parts, spelled_after_x, spelling-backslash, spelling-newline)
 
-plain_byte : (q : Bool) (c : ℕ) → is_plain q c ≡ true → c < 256
-plain_byte q c h = grind (arith, nat_tests)
-
 -- what is read at the front is spelled there
 pub spelling-front_spelled : (q : Bool) (text : List ℕ) (b : ℕ) (rest : List ℕ) → front_spelled q text ≡ Some (b, rest) → (text ≡ spelling q b ++ rest) × (b < 256)
 unfolding front_spelled

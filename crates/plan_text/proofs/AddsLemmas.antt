@@ -34,9 +34,6 @@ pub record SameEnd (first all now left : List ℕ) : Type 0 where
   pub forth : (after : List ℕ) → Adds now left after → Adds first all after
   pub back : (after : List ℕ) → Adds first all after → Adds now left after
 
-pub same_start : (first all : List ℕ) → SameEnd first all first all
-same_start first all = record { forth = λ after a. a; back = λ after a. a }
-
 cut_is : (bytes digits rest : List ℕ) → cut_at 32 bytes ≡ Some (digits, rest) → bytes ≡ parted digits rest
 cut_is bytes digits rest e = (subst (CutParts 32 bytes) e (cut_parts 32 bytes)).0
 

@@ -20,12 +20,6 @@ breaks_at n s (fault.Place at) Kept b f = b
 breaks_at n s (fault.Unfit m) Kept b f = subst (λ k. IsUnfit k s) (sym b.0) (f b.1)
 breaks_at n s fault.NoMemory Kept b f = tt
 
-pub keeps_first : (rules : List Rule) (n : ℕ) (s : Parts) → KeepsAll rules s → IsFirstBroken n rules s → ⊥
-keeps_first [] n s kept broken = broken
-keeps_first (rule ∷ rest) zero s kept broken = broken
-keeps_first (rule ∷ rest) (suc zero) s kept broken = broken kept.0
-keeps_first (rule ∷ rest) (suc (suc n)) s kept broken = keeps_first rest (suc n) s kept.1 broken.1
-
 -- ---- what is prepared keeps the first three rules
 
 scripts_sound : (table : EngineTable) (parts : List Script) (ls : List Loaded) → AreScriptsOf table parts ls → AllByRecursion (λ (x : Script). IsSound table x.code) parts

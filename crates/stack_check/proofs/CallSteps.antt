@@ -200,12 +200,6 @@ pub holds_behind : (a b : Heap) (held now : Held) (callee : Trial) (given rest c
 holds_behind a b held now callee given rest count n r h =
     record { grows = h.grows; inside = h.inside; is = behind_shape a held callee given rest count (shape_of b now) n r h.is }
 
--- the same heap and facts under other names
-pub sees_from : (header : EngineTable) (code : List PlainOp) (a a' b : Heap) (f f' g : Facts) (n p : ℕ) (held : Held) (seen : Seen) → a' ≡ a → f' ≡ f
-    → Sees header code a' b f' g n p held seen → Sees header code a b f g n p held seen
-sees_from header code a a' b f f' g n p held seen e h s =
-    subst (λ a. Sees header code a b f g n p held seen) e (subst (λ f. Sees header code a' b f g n p held seen) h s)
-
 -- ---- what a routine takes
 
 pub begins_both : (heap : Heap) (held : Held) (callee : Trial) (cells under : ℕ) → cells ≡ (window heap callee).cells → under ≡ (window heap callee).under

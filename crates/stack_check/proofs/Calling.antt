@@ -125,13 +125,6 @@ call_begins header code heap facts n p offset held unseen k r stands uc uu fc fu
   few = (fc, fu);
 }
 
--- what a table says of a routine's trial
-longer_of : (header : EngineTable) (code : List PlainOp) (heap : Heap) (facts : Facts) (m target : ℕ) (trial : Trial) → Keeps header code heap facts
-    → slice_get facts.trials m ≡ Some trial → trial.entry ≡ Called target → (table : ShapeTable) → MeetsRules header code table
-    → (x : List Slot) × (y : List Slot) × IsLonger table target (callee_of heap trial) x y
-longer_of header code heap facts m target trial k has e table meets =
-    let f = (k.compares table meets).by m trial has in (f.x, f.y, subst (λ e. Beyond table e (callee_of heap trial) f.x f.y) e f.beyond)
-
 -- ---- what was looked at of a called routine's lists
 
 -- In every table the routine takes all that was looked at.

@@ -267,11 +267,6 @@ pub goes_down : (header : EngineTable) (code : List PlainOp) (heap : Heap) (befo
     → seen ≡ Changed → FindsMore before facts
 goes_down header code heap before facts seen s e = subst (λ s. Takes before facts s) e s.takes
 
-pub ends_same : (header : EngineTable) (code : List PlainOp) (heap : Heap) (before facts : Facts) (seen : Seen) → SeesTurn header code heap before facts seen
-    → seen ≡ Quiet → facts ≡ before
-ends_same header code heap before facts seen s e =
-    (subst (λ s. WhereQuiet s ((facts ≡ before) × MeetsRules header code (trial_table heap facts))) e s.quiet).0
-
 pub ruleset ending = (ends_found, ends_none, goes_on, goes_down)
 
 -- ---- turns
@@ -281,19 +276,8 @@ pub record TurnedSoFar (begun : ℕ) (first : Facts) (turns : ℕ) (facts : Fact
   pub left : turns + left facts ≤ begun + left first
   pub found : turns + found first ≤ begun + found facts
 
-pub turn_begin : (turns : ℕ) (facts : Facts) → TurnedSoFar turns facts turns facts
-turn_begin turns facts = record { left = omega arith; found = omega arith }
-
-pub turn_more : (begun : ℕ) (first : Facts) (turns next : ℕ) (facts after : Facts) → TurnedSoFar begun first turns facts → next ≡ turns + 1 → FindsMore facts after
-    → TurnedSoFar begun first next after
-turn_more begun first turns next facts after s e m = record { left = omega (arith, s.left, e, m.left); found = omega (arith, s.found, e, m.found) }
-
 pub turn_few : (begun : ℕ) (first : Facts) (turns : ℕ) (facts : Facts) → TurnedSoFar begun first turns facts → begun + left first < 2 ^ 63 → turns < 2 ^ 63
 turn_few begun first turns facts s h = omega (arith, s.left, h)
-
-pub turn_last : (begun : ℕ) (first : Facts) (turns next : ℕ) (facts after : Facts) → TurnedSoFar begun first turns facts → next ≡ turns + 1 → after ≡ facts
-    → next + found first ≤ begun + found after + 1
-turn_last begun first turns next facts after s e same = let f = ap found same in omega (arith, s.found, e, f)
 
 -- ---- what was found at first
 

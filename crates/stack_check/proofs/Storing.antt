@@ -128,9 +128,6 @@ stored_quiet heap facts after site number shape Quiet c q = (q.0, record { numbe
 stored_quiet heap facts after site number shape Changed c q = tt
 stored_quiet heap facts after site number shape Bad c q = tt
 
-pub stored_takes : (before after : Facts) → FindsMore before after → Takes before after Changed
-stored_takes before after l = l
-
 pub ruleset resuming = (stored_begins, stored_in, stored_owed, stored_quiet)
 
 -- ---- equal shapes

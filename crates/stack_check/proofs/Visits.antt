@@ -84,7 +84,4 @@ plain_sees header code a b facts facts' n p held op seen plain s = record { grow
     quiet Changed q = tt
     quiet Bad q = tt
 
-pub rows_same : (facts : Facts) → RowsKept facts facts
-rows_same facts = record { by = λ t p h e. e; trials = Rattle.std.proofs.Common.refl }
-
 pub ruleset steps = (step_none, step_keeps, step_more, looks_owed)

@@ -75,9 +75,6 @@ cut_deeper x y s = same_shape _ _ _ _ _ _ _ _ (without_on s.cells x) (cut_list x
 pub lowest_length : (n : ℕ) (l : List Slot) → n ≤ length l → length (lowest n l) ≡ n
 lowest_length n l h = omega (arith, h, length-drop (length l - n) l)
 
-pub lowest_on : (n : ℕ) (l : List Slot) → l ≡ take (length l - n) l ++ lowest n l
-lowest_on n l = sym (take-append-drop (length l - n) l)
-
 pub lowest_none : (l : List Slot) → lowest 0 l ≡ []
 lowest_none l = none (drop (length l - 0) l) (omega (arith, length-drop (length l - 0) l))
   where

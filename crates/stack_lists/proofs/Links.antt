@@ -278,15 +278,6 @@ agree_still before after agreed g all = record {
       };
 }
 
-pub agree_begin : (nodes : List (Node Slot)) (agreed : BTreeMap ℕ Agreed) → agreed.entries ≡ [] → AllAgree nodes agreed
-agree_begin nodes agreed e = record { by = λ key a h. absurd (nothing key a (sym (ap (lookup (is_at (nat_cmp key))) e) ∙ h)) }
-  where
-    nothing : (key : ℕ) (a : Agreed) → None ≡ Some a → ⊥
-    nothing key a h = absurd cc
-
-pub links_begin : AreLinked []
-links_begin = record { older = record { by = λ k n h. absurd cc }; each = λ k l h. absurd cc; few = omega arith }
-
 -- ---- fronts
 
 take_less : (a b : ℕ) (l : List Slot) → a ≤ b → take a l ≡ take a (take b l)
@@ -393,12 +384,6 @@ joins_still before after joins g all = record {
             ∙ ap (λ z. take j.count (read after j.upper) ++ z) (sym (g.same j.lower h.lower));
       };
 }
-
-pub joins_begin : (nodes : List (Node Slot)) (joins : BTreeMap ℕ Join) → joins.entries ≡ [] → AllJoin nodes joins
-joins_begin nodes joins e = record { by = λ key j h. absurd (nothing key j (sym (ap (lookup (is_at (nat_cmp key))) e) ∙ h)) }
-  where
-    nothing : (key : ℕ) (j : Join) → None ≡ Some j → ⊥
-    nothing key j h = absurd cc
 
 pub join_is : (nodes : List (Node Slot)) (joins : BTreeMap ℕ Join) (key upper count lower number : ℕ) (j : Join) → AllJoin nodes joins
     → Some j ≡ get nat_cmp joins key → j.upper ≡ upper → j.lower ≡ lower → j.count ≡ count → number ≡ j.number

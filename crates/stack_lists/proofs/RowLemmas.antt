@@ -357,12 +357,6 @@ index_pushed rows after firsts index t p number held (Ok o) all new h i n room k
     index_added rows after firsts index t p number held all new h i n room kept a
 index_pushed rows after firsts index t p number held (Err x) all new h i n room kept a f = subst (λ rows. AreIndexed rows firsts index) (sym f) all
 
-pub added_ok : {E O : Type 0} (before rows after : List ShapeRow) (trial place : ℕ) (held : Held) (r : Result O E) → rows ≡ before → row_in before trial place ≡ None
-    → length rows < 33554432 → OnOk r (after ≡ rows ++ record { trial = trial; place = place; held = held } ∷ []) → OnOk r (RowAdded before after trial place held)
-added_ok before rows after trial place held (Ok o) v new room a =
-    subst (λ b. RowAdded b after trial place held) v (row_added rows after trial place held a (ap (λ b. row_in b trial place) v ∙ new) room)
-added_ok before rows after trial place held (Err x) v new room a = tt
-
 pub ruleset adding = (row_added)
 
 pub ruleset beginning = (index_begin)

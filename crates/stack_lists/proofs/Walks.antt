@@ -12,12 +12,6 @@ use Rattle.stack_lists.specs.Growth.{grows_none, grows_then}
 
 -- ---- growing
 
-pub grown_inside : {A : Type 0} (a b : List (Node A)) (number : ℕ) → Grows a b → number ≤ length a → number ≤ length b
-grown_inside a b number g h = omega (arith, g.longer, h)
-
-pub grown_reads : {A : Type 0} (a b : List (Node A)) (number : ℕ) → Grows a b → number ≤ length a → read b number ≡ read a number
-grown_reads a b number g h = g.same number h
-
 -- ---- types
 
 pub record TypesSoFar (slots rest : List Slot) (count left : ℕ) (types : List Ty) : Type 0 where

@@ -202,9 +202,6 @@ none_map : {A B C : Type 0} (f : A → B) (g : A → C) (o p : Option A) → p �
 none_map f g None p e h = ap (option_map g) e
 none_map f g (Some a) p e h = absurd cc
 
-under_far : (s : TopShape) (y : List Slot) (n : ℕ) → n ≤ length s.under → n ≤ length s.under
-under_far s y n h = h
-
 cells_none : (table : EngineTable) (op : PlainOp) (s : TopShape) (x y : List Slot) → Reaches table op s → affected (stack_effect op s.under s.cells) s ≡ None
     → affected (stack_effect op (deeper x y s).under (deeper x y s).cells) (deeper x y s) ≡ None
 cells_none table op s x y r h = none_map _ _ (stack_effect op s.under s.cells) _ (effect_far table op s.under s.cells x (beneath_under x y s.saved) r.cells r.under) h
@@ -452,9 +449,6 @@ stored_there : (globals locals : ℕ) (s after : TopShape) → stored globals lo
 unfolding stored_types
 stored_there globals locals s after h =
     let m = on_map _ (stored_types globals locals s.under s.cells) after h in stored_there_of (cell_count globals) (cell_count locals) s.under s.cells m.0 m.1
-
-reaches_of : (table : EngineTable) (op : PlainOp) (s : TopShape) → There (reach table op).cells (reach table op).under s.cells s.under → Reaches table op s
-reaches_of table op s t = record { cells = t.0; under = t.1 }
 
 pub rule_reaches : RuleReaches
 unfolding rule reach

@@ -40,9 +40,6 @@ upper xs n h = sym (ap reverse (ap (take n) (split xs (length xs - n)) ∙ take_
 pub last_put : (xs : List Slot) (x : Slot) → reverse (xs ++ x ∷ []) ≡ x ∷ reverse xs
 last_put xs x = reverse-append xs (x ∷ [])
 
-pub last_saved : (xs : List (List Slot)) (x : List Slot) → reverse (xs ++ x ∷ []) ≡ x ∷ reverse xs
-last_saved xs x = reverse-append xs (x ∷ [])
-
 -- ---- types so far: what is read gives, with what is left, what all gives
 
 pub record SoFar (slots : List Slot) (count i : ℕ) (types : List Ty) : Type 0 where

@@ -9,10 +9,6 @@ use Rattle.state_format.specs.Reading.{Reader, ◌>>=◌, StateFails, mapped, ma
 abbrev pub with_front : {A : Type 0} → List A → Result (List A × List ℕ) ℕ → Result (List A × List ℕ) ℕ
 with_front front read = mapped (λ xs. front ++ xs) read
 
-pub front_start : {A : Type 0} (read : Result (List A × List ℕ) ℕ) → with_front [] read ≡ read
-front_start (Ok x) = refl
-front_start (Err left) = refl
-
 one_more : {A : Type 0} (front : List A) (x : A) (read : Result (List A × List ℕ) ℕ)
     → with_front front (mapped (λ (z : A × List A). z.0 ∷ z.1) (mapped (λ y. (x, y)) read))
     ≡ with_front (front ++ x ∷ []) read
@@ -26,13 +22,6 @@ members_step {A = A} p k j front now bytes rest x all before more read grown =
     let opened : with_front front (mapped (λ (z : A × List A). z.0 ∷ z.1) (mapped (λ y. (x, y)) (many j p rest))) ≡ all =
     sym (ap (λ (r : Result (A × List ℕ) ℕ). with_front front (mapped (λ (z : A × List A). z.0 ∷ z.1) (r >>= λ u. mapped (λ y. (u.0, y)) (many j p u.1)))) read) ∙ at in
     ap (λ (l : List A). with_front l (many j p rest)) grown ∙ sym (one_more front x (many j p rest)) ∙ opened
-
-pub members_stop : {A : Type 0} (e : Stop) (p : Reader A) (k j : ℕ) (front : List A) (bytes : List ℕ) (all : Result (List A × List ℕ) ℕ)
-    → with_front front (many k p bytes) ≡ all → k ≡ suc j → StateFails e (p bytes) → StateFails e all
-members_stop stop.NoMemory p k j front bytes all before more here = tt
-members_stop {A = A} (stop.Left left) p k j front bytes all before more here =
-    let at : with_front front (many (suc j) p bytes) ≡ all = subst (λ (i : ℕ). with_front front (many i p bytes) ≡ all) more before in
-    sym at ∙ ap (λ (r : Result (A × List ℕ) ℕ). with_front front (mapped (λ (z : A × List A). z.0 ∷ z.1) (r >>= λ u. mapped (λ y. (u.0, y)) (many j p u.1)))) here
 
 pub members_end : {A : Type 0} (p : Reader A) (k : ℕ) (front : List A) (bytes : List ℕ) (all : Result (List A × List ℕ) ℕ)
     → with_front front (many k p bytes) ≡ all → k ≡ 0 → all ≡ Ok (front, bytes)

@@ -111,31 +111,12 @@ keep_more tells Is is_short xs x rest i ps new p before grown is =
       count = length_behind ps p ∙ ap suc before.count ∙ sym (add-one i);
     })
 
-pub keep_at : {A B : Type 0} (tells : B → A) (Is : B → Type 0) (is_short : B → Bool) (xs : List A)
-    (i : ℕ) (x : A) (ps new : List B) (p : B)
-    → IsKeeping tells Is is_short xs (drop i xs) i ps → new ≡ ps ++ p ∷ []
-    → IsPartOf tells Is is_short x p → i < length xs → x ≡ get_or xs i x
-    → IsKeeping tells Is is_short xs (drop (i + 1) xs) (i + 1) new
-keep_at tells Is is_short xs i x ps new p before grown is h at =
-    keep_more tells Is is_short xs x (drop (i + 1) xs) i ps new p
-    (subst (λ (l : List _). IsKeeping tells Is is_short xs l i ps)
-    (drop_at xs i x h at) before) grown is
-
 -- the same of a number, which is read by any default
 got_same : {A : Type 0} (xs : List A) (i : ℕ) (d e : A) → i < length xs
     → get_or xs i d ≡ get_or xs i e
 got_same [] i d e h = absurd (omega arith)
 got_same (x ∷ xs) zero d e h = refl
 got_same (x ∷ xs) (suc i) d e h = got_same xs i d e (omega arith)
-
-pub keep_by : {A B : Type 0} (tells : B → A) (Is : B → Type 0) (is_short : B → Bool) (xs : List A)
-    (i : ℕ) (d : A) (ps new : List B) (p : B)
-    → IsKeeping tells Is is_short xs (drop i xs) i ps → new ≡ ps ++ p ∷ []
-    → IsPartOf tells Is is_short (get_or xs i d) p → i < length xs
-    → IsKeeping tells Is is_short xs (drop (i + 1) xs) (i + 1) new
-keep_by tells Is is_short xs i d ps new p before grown is h =
-    keep_at tells Is is_short xs i (get_or xs i d) ps new p before grown is h
-    (got_same xs i d (get_or xs i d) h)
 
 pub keep_all : {A B : Type 0} (tells : B → A) (Is : B → Type 0) (is_short : B → Bool)
     (xs rest : List A) (i : ℕ) (ps : List B) → IsKeeping tells Is is_short xs rest i ps
@@ -152,12 +133,6 @@ pub keep_end : {A B : Type 0} (tells : B → A) (Is : B → Type 0) (is_short : 
     → length xs ≤ i → ArePartsOf tells Is is_short xs ps
 keep_end tells Is is_short xs i ps before end = keep_all tells Is is_short xs
     (drop i xs) i ps before (drop_all i xs end)
-
-pub keep_few : {A B : Type 0} (tells : B → A) (Is : B → Type 0) (is_short : B → Bool)
-    (xs rest : List A) (i : ℕ) (ps : List B) → IsKeeping tells Is is_short xs rest i ps
-    → i ≤ 4294967295 → IsNumber 4 (length ps)
-keep_few tells Is is_short xs rest i ps before few = subst (IsNumber 4) (sym before.count)
-    (omega arith)
 
 pub map_same : {A : Type 0} (xs : List A) → map (λ x. x) xs ≡ xs
 map_same [] = refl

@@ -5,10 +5,6 @@ use Rattle.std.proofs.lemmas.List.{take-append-drop}
 use Rattle.std.proofs.lemmas.Slice.Eq.{bytes_eq-Decides}
 use Rattle.std.specs.Str.{bytes_eq}
 
-pub prefix_short : (line prefix rest : List ℕ) → length line < length prefix → line ≢ prefix ++ rest
-prefix_short line prefix rest short is =
-    let whole : length line ≡ length prefix + length rest = ap length is ∙ length-append prefix rest in absurd (omega (arith, whole, short))
-
 pub prefix_is : (line prefix before rest : List ℕ) (n : ℕ) → before ≡ take n line → rest ≡ drop n line → bytes_eq before prefix ≡ true
     → line ≡ prefix ++ rest
 prefix_is line prefix before rest n front behind same =

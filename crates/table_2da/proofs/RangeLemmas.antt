@@ -18,11 +18,6 @@ found_there file bytes place s =
     ap (take (length bytes)) (ap (λ n. drop n file) (sym s.there) ∙ ap (drop (length s.before)) s.is ∙ drop-append_seam s.before (bytes ++ s.behind))
     ∙ take-append_seam bytes s.behind
 
-pub stands_inside : (file bytes : List ℕ) (place : ℕ) → StandsAt file place bytes → place + length bytes ≤ length file
-stands_inside file bytes place s =
-    let whole = ap length s.is ∙ length-append s.before (bytes ++ s.behind) in
-    let inner = length-append bytes s.behind in omega (arith, whole, inner, s.there)
-
 -- what stands in a part of a file stands in the file
 pub stands_within : (file part bytes : List ℕ) (place start : ℕ) → StandsAt file place part → StandsAt part start bytes → StandsAt file (place + start) bytes
 stands_within file part bytes place start outer inner = record {

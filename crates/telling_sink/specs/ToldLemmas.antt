@@ -26,9 +26,3 @@ pub told_so : (tells : Bool) (before after : List ℕ) (P : List ℕ → List �
     → ((t t' : List ℕ) → P t t' → Q) → Told tells before after P → Q
 told_so true before after P Q follows told = follows before after told
 told_so false before after P Q follows told = follows [] told.0 told.1
-
--- of a sink that tells, it is told of the bytes that it took
-pub told_taken : (tells : Bool) (before after : List ℕ) (P : List ℕ → List ℕ → Type 0)
-    → IsTrue tells → Told tells before after P → P before after
-told_taken true before after P tells told = told
-told_taken false before after P tells told = absurd (false≢true tells)

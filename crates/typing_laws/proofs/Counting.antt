@@ -91,9 +91,6 @@ within_crossed {fs = fs} {gs = gs} {xs = xs} {ys = ys} h k = record {
 pub within_before : {fs : List Fault} {xs : List Numbered} (ys : List Numbered) → Within fs xs → Within fs (xs ++ ys)
 within_before {xs = xs} ys h = record { by = λ n. let a = h.by n in let e = numbers_append n xs ys in omega arith }
 
-pub within_after : {fs : List Fault} {ys : List Numbered} (xs : List Numbered) → Within fs ys → Within fs (xs ++ ys)
-within_after {ys = ys} xs h = record { by = λ n. let a = h.by n in let e = numbers_append n xs ys in omega arith }
-
 pub within_alone : {fs : List Fault} {xs : List Numbered} → Within fs xs → Within (fs ++ []) xs
 within_alone {fs = fs} h = record { by = λ n. let a = h.by n in let d = faults_append n fs [] in omega arith }
 
