@@ -3,6 +3,7 @@ pub mod Pure
 pub mod Trace
 pub mod World
 pub mod Changes
+pub mod Standing
 pub mod Rows
 pub mod Engine
 pub mod RowLaws
