@@ -12,8 +12,8 @@ use Rattle.stamped_slots.specs.Firsts.{passes, NoneBefore, IsFirst}
 use Rattle.stamped_slots.specs.Index.{is_pair, is_under, Marks, IsLeast}
 use Rattle.stamped_slots.specs.StampLemmas.{not_same, none_below, none_above, at_other, at_same, put_last, under_last, under_at, under_without, gone_other, gone_same, rise_from}
 use Rattle.world_rules.specs.declared.data.Stood.{Stood}
-use Rattle.world_rules.specs.Changes.{is_number, is_numbered, is_effect, same_effect, same_ints, without_first}
-use Rattle.world_rules.specs.Standing.{stood_in, content_hash, number_key, content_key, has_key, IsIndex, MarksMaybe, AreKept}
+use Rattle.world_rules.specs.Changes.{is_numbered, is_effect, same_effect, same_ints, without_first}
+use Rattle.world_rules.specs.Standing.{is_number, stood_in, content_hash, number_key, content_key, has_key, IsIndex, MarksMaybe, AreKept}
 
 -- ---- equal effects
 
@@ -78,12 +78,12 @@ mark_other (Some key) stamp k s there old new marks other = marks k s ∙ ap (λ
 -- under a key or none, where the stamp was under no other
 mark_here : (key : Option ℕ) (stamp k : ℕ) (there : Bool) (old new : List (ℕ × ℕ)) → MarksMaybe key stamp there old new
     → (is_number k key ≡ false → is_under k stamp old ≡ false) → is_under k stamp new ≡ (is_number k key && there)
-mark_here None stamp k there old new marks no = ap (is_under k stamp) marks ∙ no refl
-mark_here (Some key) stamp k there old new marks no = marks k stamp ∙ by (key == k) refl
+mark_here None stamp k there old new marks lack = ap (is_under k stamp) marks ∙ lack refl
+mark_here (Some key) stamp k there old new marks lack = marks k stamp ∙ by (key == k) refl
   where
     by : (b : Bool) → (key == k) ≡ b → (if b && (stamp == stamp) then there else is_under k stamp old) ≡ (b && there)
     by true is = ap (λ b. if b then there else is_under k stamp old) (eq-eqb stamp stamp refl)
-    by false is = no is
+    by false is = lack is
 
 and_true : (b : Bool) → (b && true) ≡ b
 and_true true = refl
@@ -108,7 +108,7 @@ module _ (key : Stood → Option ℕ) where
           subst (λ n. is_under k n new ≡ has_key key k (at n (put stamp x items))) (sym same)
           (mark_here (key x) stamp k true old new marks (λ _. none k) ∙ and_true (is_number k (key x)) ∙ sym (ap (has_key key k) (at_same stamp x items)))
       by k s false is =
-          let other : s ≢ stamp = (λ same. let yes : (s == stamp) ≡ true = eq-eqb s stamp same in cc) in
+          let other : s ≢ stamp = (λ same. let have : (s == stamp) ≡ true = eq-eqb s stamp same in cc) in
           mark_other (key x) stamp k s true old new marks other ∙ index k s ∙ sym (ap (has_key key k) (at_other stamp s x items (λ same. other (sym same))))
 
   -- the stamp goes from under a key under which it wasn't
@@ -126,7 +126,7 @@ module _ (key : Stood → Option ℕ) where
           subst (λ n. is_under k n new ≡ has_key key k (at n items)) (sym same)
           (mark_here own stamp k false old new marks (λ _. none k) ∙ and_false (is_number k own) ∙ sym (ap (has_key key k) (none_above stamp stamp items (omega arith) under)))
       by k s false is =
-          let other : s ≢ stamp = (λ same. let yes : (s == stamp) ≡ true = eq-eqb s stamp same in cc) in
+          let other : s ≢ stamp = (λ same. let have : (s == stamp) ≡ true = eq-eqb s stamp same in cc) in
           mark_other own stamp k s false old new marks other ∙ index k s
 
   -- an effect is taken out
@@ -136,7 +136,7 @@ module _ (key : Stood → Option ℕ) where
   index_taken stamp x items now old new up index there marks is = subst (λ t. IsIndex key t new) (sym is) (λ k s. by k s (s == stamp) refl)
     where
       here : (k : ℕ) → is_number k (key x) ≡ false → is_under k stamp old ≡ false
-      here k no = index k stamp ∙ sym (ap (has_key key k) there) ∙ no
+      here k lack = index k stamp ∙ sym (ap (has_key key k) there) ∙ lack
 
       by : (k s : ℕ) (b : Bool) → (s == stamp) ≡ b → is_under k s new ≡ has_key key k (at s (without stamp items))
       by k s true is =
@@ -144,7 +144,7 @@ module _ (key : Stood → Option ℕ) where
           subst (λ n. is_under k n new ≡ has_key key k (at n (without stamp items))) (sym same)
           (mark_here (key x) stamp k false old new marks (here k) ∙ and_false (is_number k (key x)) ∙ sym (ap (has_key key k) (gone_same stamp 0 items up)))
       by k s false is =
-          let other : s ≢ stamp = (λ same. let yes : (s == stamp) ≡ true = eq-eqb s stamp same in cc) in
+          let other : s ≢ stamp = (λ same. let have : (s == stamp) ≡ true = eq-eqb s stamp same in cc) in
           mark_other (key x) stamp k s false old new marks other ∙ index k s ∙ sym (ap (has_key key k) (gone_other stamp s items (λ same. other (sym same))))
 
   -- nothing is there to take out
@@ -155,18 +155,18 @@ module _ (key : Stood → Option ℕ) where
       by : (s : ℕ) (b : Bool) → (s == stamp) ≡ b → at s items ≡ at s (without stamp items)
       by s true same =
           subst (λ n. at n items ≡ at n (without stamp items)) (sym (eqb-true s stamp same)) (sym none ∙ sym (gone_same stamp 0 items up))
-      by s false other = sym (gone_other stamp s items (λ same. let yes : (s == stamp) ≡ true = eq-eqb s stamp (sym same) in cc))
+      by s false other = sym (gone_other stamp s items (λ same. let have : (s == stamp) ≡ true = eq-eqb s stamp (sym same) in cc))
 
   -- what isn't under its key doesn't pass the test
   pub fails : (test : Stood → Bool) (k s : ℕ) (items : List (ℕ × Stood)) (index : List (ℕ × ℕ))
       → ((x : Stood) → test x ≡ true → is_number k (key x) ≡ true) → IsIndex key items index
       → is_under k s index ≡ false
       → passes test (at s items) ≡ false
-  fails test k s items index owns is no = by (at s items) (sym (is k s) ∙ no)
+  fails test k s items index owns is lack = by (at s items) (sym (is k s) ∙ lack)
     where
       tested : (x : Stood) (b : Bool) → test x ≡ b → is_number k (key x) ≡ false → b ≡ false
-      tested x true yes lacks = absurd (true≢false (sym (owns x yes) ∙ lacks))
-      tested x false yes lacks = refl
+      tested x true have lacks = absurd (true≢false (sym (owns x have) ∙ lacks))
+      tested x false have lacks = refl
 
       by : (o : Option Stood) → has_key key k o ≡ false → passes test o ≡ false
       by None lacks = refl
@@ -174,7 +174,7 @@ module _ (key : Stood → Option ℕ) where
 
   -- what is under a key is there
   pub stamp_below : (next k s : ℕ) (items : List (ℕ × Stood)) (index : List (ℕ × ℕ)) → AreUnder next items → IsIndex key items index → is_under k s index ≡ true → s < next
-  stamp_below next k s items index under is yes = by (at s items) refl (sym (is k s) ∙ yes)
+  stamp_below next k s items index under is have = by (at s items) refl (sym (is k s) ∙ have)
     where
       by : (o : Option Stood) → at s items ≡ o → has_key key k o ≡ true → s < next
       by None there has = absurd cc
@@ -193,17 +193,17 @@ number_passes k None = refl
 number_passes k (Some x) = refl
 
 pub first_numbered : (k : ℕ) (r : Option ℕ) (items : List (ℕ × Stood)) (numbers : List (ℕ × ℕ)) → IsIndex number_key items numbers → IsLeast k 0 r numbers → IsFirst (is_numbered k) r items
-first_numbered k None items numbers index least = λ s. fails number_key (is_numbered k) k s items numbers (λ x yes. yes) index (least s (omega arith))
+first_numbered k None items numbers index least = λ s. fails number_key (is_numbered k) k s items numbers (λ x have. have) index (least s (omega arith))
 first_numbered k (Some stamp) items numbers index least = (
   sym (number_passes k (at stamp items)) ∙ sym (index k stamp) ∙ least.1,
-  λ s lt. fails number_key (is_numbered k) k s items numbers (λ x yes. yes) index (least.2 s (omega arith) lt),
+  λ s lt. fails number_key (is_numbered k) k s items numbers (λ x have. have) index (least.2 s (omega arith) lt),
 )
 
 -- ---- the first equal effect
 
 module _ (e : Effect) (items : List (ℕ × Stood)) (contents : List (ℕ × ℕ)) (index : IsIndex content_key items contents) where
   unlike : (s : ℕ) → is_under (content_hash e) s contents ≡ false → passes (is_effect e) (at s items) ≡ false
-  unlike s no = fails content_key (is_effect e) (content_hash e) s items contents (same_hash e) index no
+  unlike s lack = fails content_key (is_effect e) (content_hash e) s items contents (same_hash e) index lack
 
   pub equal_none : (key from : ℕ) → key ≡ content_hash e → NoneBefore (is_effect e) from items → IsLeast key from None contents → IsFirst (is_effect e) None items
   equal_none key from is before least s = by (nat_lt s from) refl
@@ -216,19 +216,19 @@ module _ (e : Effect) (items : List (ℕ × Stood)) (contents : List (ℕ × ℕ
   pub equal_next : (key from stamp next : ℕ) → key ≡ content_hash e → NoneBefore (is_effect e) from items
       → IsLeast key from (Some stamp) contents → false ≡ passes (is_effect e) (at stamp items) → next ≡ stamp + 1
       → NoneBefore (is_effect e) next items
-  equal_next key from stamp next is before least no one s lt = by (nat_lt s from) (nat_lt s stamp) refl refl
+  equal_next key from stamp next is before least lack one s lt = by (nat_lt s from) (nat_lt s stamp) refl refl
     where
       by : (b c : Bool) → nat_lt s from ≡ b → nat_lt s stamp ≡ c → passes (is_effect e) (at s items) ≡ false
       by true c low below = before s (ltb-true s from low)
       by false true high below = unlike s (subst (λ k. is_under k s contents ≡ false) is (least.2 s (ltb-false s from high) (ltb-true s stamp below)))
       by false false high above =
           let same : s ≡ stamp = omega (arith, lt, one, ltb-false s stamp above) in
-          ap (λ n. passes (is_effect e) (at n items)) same ∙ sym no
+          ap (λ n. passes (is_effect e) (at n items)) same ∙ sym lack
 
   -- where it is
   pub equal_found : (key from stamp : ℕ) → key ≡ content_hash e → NoneBefore (is_effect e) from items → IsLeast key from (Some stamp) contents → true ≡ passes (is_effect e) (at stamp items)
       → IsFirst (is_effect e) (Some stamp) items
-  equal_found key from stamp is before least yes = (sym yes, λ s lt. by s lt (nat_lt s from) refl)
+  equal_found key from stamp is before least have = (sym have, λ s lt. by s lt (nat_lt s from) refl)
     where
       by : (s : ℕ) → s < stamp → (b : Bool) → nat_lt s from ≡ b → passes (is_effect e) (at s items) ≡ false
       by s lt true low = before s (ltb-true s from low)
@@ -244,9 +244,9 @@ next_below key from stamp next items contents under index least = (least.0, stam
 -- ---- what is taken out
 
 -- of the effects in their order, without their stamps
-pub record IsTaken (test : Stood → Bool) (found : Option Stood) (left items : List (ℕ × Stood)) : Type 0 where
+pub record IsTaken (test : Stood → Bool) (found : Option Stood) (now items : List (ℕ × Stood)) : Type 0 where
   pub taken : found ≡ find test (stood_in items)
-  pub left : stood_in left ≡ without_first test (stood_in items)
+  pub left : stood_in now ≡ without_first test (stood_in items)
 
 none_taken : (test : Stood → Bool) (low : ℕ) (items : List (ℕ × Stood)) → Rise low items → IsFirst test None items
     → (None ≡ find test (stood_in items)) × (stood_in items ≡ without_first test (stood_in items))
@@ -265,8 +265,8 @@ none_taken test low (e ∷ items) up first = by (test e.1) head (none_taken test
 
     by : (b : Bool) → b ≡ false → (None ≡ find test (stood_in items)) × (stood_in items ≡ without_first test (stood_in items))
         → (None ≡ cond b (Some e.1) (find test (stood_in items))) × (e.1 ∷ stood_in items ≡ (if b then stood_in items else e.1 ∷ without_first test (stood_in items)))
-    by true no more = absurd (true≢false no)
-    by false no more = (more.0, ap (λ t. e.1 ∷ t) more.1)
+    by true lack more = absurd (true≢false lack)
+    by false lack more = (more.0, ap (λ t. e.1 ∷ t) more.1)
 
 some_taken : (test : Stood → Bool) (low stamp : ℕ) (items : List (ℕ × Stood)) → Rise low items → IsFirst test (Some stamp) items
     → (at stamp items ≡ find test (stood_in items)) × (stood_in (without stamp items) ≡ without_first test (stood_in items))
@@ -295,14 +295,14 @@ some_taken test low stamp (e ∷ items) up first = by (e.0 == stamp) refl (test 
         → ((e.0 == stamp) ≡ false → (at stamp items ≡ find test (stood_in items)) × (stood_in (without stamp items) ≡ without_first test (stood_in items)))
         → ((if b then Some e.1 else at stamp items) ≡ cond c (Some e.1) (find test (stood_in items)))
         × (stood_in (if b then items else e ∷ without stamp items) ≡ (if c then stood_in items else e.1 ∷ without_first test (stood_in items)))
-    by true is true yes next = (refl, refl)
-    by true is false no next =
+    by true is true have next = (refl, refl)
+    by true is false lack next =
         let here : passes test (at stamp (e ∷ items)) ≡ true = first.0 in
-        absurd (true≢false (sym here ∙ ap (λ b. passes test (if b then Some e.1 else at stamp items)) is ∙ no))
-    by false is true yes next =
+        absurd (true≢false (sym here ∙ ap (λ b. passes test (if b then Some e.1 else at stamp items)) is ∙ lack))
+    by false is true have next =
         let lt = above is (nat_lt e.0 stamp) refl in
-        absurd (true≢false (sym yes ∙ sym (ap (passes test) own) ∙ first.1 e.0 lt))
-    by false is false no next =
+        absurd (true≢false (sym have ∙ sym (ap (passes test) own) ∙ first.1 e.0 lt))
+    by false is false lack next =
         let more = next is in
         (more.0, ap (λ t. e.1 ∷ t) more.1)
 
@@ -335,16 +335,16 @@ pub kept_more : (n more : ℕ) (x : Stood) (items now : List (ℕ × Stood)) (nu
     → AreKept more now numbers contents
 kept_more n more x items now numbers contents under is one by_number by_content = record {
   under = subst (AreUnder more) (sym is) (under_last n more x items (omega (arith, one)) under);
-  numbers = by_number;
-  contents = by_content;
+  by_number = by_number;
+  by_content = by_content;
 }
 
 pub kept_same : (n : ℕ) (items now : List (ℕ × Stood)) (numbers contents : List (ℕ × ℕ)) → AreUnder n items
     → now ≡ items → IsIndex number_key now numbers → IsIndex content_key now contents → AreKept n now numbers contents
 kept_same n items now numbers contents under is by_number by_content = record {
   under = subst (AreUnder n) (sym is) under;
-  numbers = by_number;
-  contents = by_content;
+  by_number = by_number;
+  by_content = by_content;
 }
 
 pub kept_less : (next stamp : ℕ) (items now : List (ℕ × Stood)) (numbers contents : List (ℕ × ℕ)) → AreUnder next items
@@ -352,16 +352,16 @@ pub kept_less : (next stamp : ℕ) (items now : List (ℕ × Stood)) (numbers co
     → AreKept next now numbers contents
 kept_less next stamp items now numbers contents under is by_number by_content = record {
   under = subst (AreUnder next) (sym is) (under_without next stamp items under);
-  numbers = by_number;
-  contents = by_content;
+  by_number = by_number;
+  by_content = by_content;
 }
 
 pub kept_none : (next : ℕ) (items : List (ℕ × Stood)) (numbers contents : List (ℕ × ℕ)) → items ≡ [] → numbers ≡ [] → contents ≡ [] → AreKept next items numbers contents
 kept_none next items numbers contents none p q =
     subst (λ t. AreKept next t numbers contents) (sym none) (subst (λ t. AreKept next [] t contents) (sym p) (subst (λ t. AreKept next [] [] t) (sym q) (record {
       under = tt;
-      numbers = λ k s. refl;
-      contents = λ k s. refl;
+      by_number = λ k s. refl;
+      by_content = λ k s. refl;
     })))
 
 pub ruleset pushes = (kept_more, kept_same, stood_last)

@@ -2,8 +2,8 @@ pub mod Arguments
 pub mod Pure
 pub mod Trace
 pub mod World
-pub mod Changes
 pub mod Standing
+pub mod Changes
 pub mod Rows
 pub mod Engine
 pub mod RowLaws

@@ -1,6 +1,6 @@
 -- How the effects of an object are kept: each under a stamp, and the stamps by the numbers of those
--- for a time, and by the hash of what each is. No public clause speaks of it.
-use Rattle.std.specs.Prelude.{◌≡◌, ℕ, List, [], ◌∷◌, Option, None, Some, Bool, false, true, Box}
+-- for a time, and by the hash of what each is. Public clauses speak of `is_number` alone.
+use Rattle.std.specs.Prelude.{◌≡◌, ◌==◌, ℕ, List, [], ◌∷◌, Option, None, Some, Bool, false, true, Box}
 use Rattle.std.specs.declared.alloc.Global.{Global}
 use Rattle.std.specs.Hash as fed
 use Rattle.std.specs.Hash.FoldHasher as folding
@@ -9,7 +9,6 @@ use Rattle.nwq_value.specs.Effect.{Effect}
 use Rattle.stamped_slots.specs.Stamps.{at, AreUnder}
 use Rattle.stamped_slots.specs.Index.{Marks, is_under}
 use Rattle.world_rules.specs.declared.data.Stood.{Stood}
-use Rattle.world_rules.specs.Changes.{is_number}
 
 -- the effects, in the order of their stamps
 abbrev pub stood_in : List (ℕ × Stood) → List Stood
@@ -39,6 +38,11 @@ number_key s = s.number
 abbrev pub content_key : Stood → Option ℕ
 content_key s = Some (content_hash s.effect)
 
+-- is this the number, where there is one?
+abbrev pub is_number : ℕ → Option ℕ → Bool
+is_number number None = false
+is_number number (Some own) = own == number
+
 -- has what stands somewhere this key?
 abbrev pub has_key : (Stood → Option ℕ) → ℕ → Option Stood → Bool
 has_key key k None = false
@@ -57,5 +61,5 @@ MarksMaybe (Some key) stamp there old new = Marks key stamp there old new
 pub record AreKept (next : ℕ) (items : List (ℕ × Stood))
     (numbers contents : List (ℕ × ℕ)) : Type 0 where
   pub under : AreUnder next items
-  pub numbers : IsIndex number_key items numbers
-  pub contents : IsIndex content_key items contents
+  pub by_number : IsIndex number_key items numbers
+  pub by_content : IsIndex content_key items contents

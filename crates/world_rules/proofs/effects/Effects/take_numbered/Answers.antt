@@ -7,26 +7,26 @@ use Rattle.world_rules.proofs.effects.Effects.take_numbered.Goals as goal
 pub returns-in-None-clause-taken : goal.returns-in-None-clause-taken
 returns-in-None-clause-taken c =
     (taken_none (is_numbered c.args.number) c.self.inside.all.items c.keeps.ensures.rise
-    (first_numbered c.args.number None c.self.inside.all.items c.self.inside.numbers c.self.invariant.numbers c.in-None.ensures.least)).taken
+    (first_numbered c.args.number None c.self.inside.all.items c.self.inside.numbers c.self.invariant.by_number c.in-None.ensures.least)).taken
     ∙ ap (find (is_numbered c.args.number)) c.self.view_is
 
 pub returns-in-None-clause-left : goal.returns-in-None-clause-left
 returns-in-None-clause-left c =
     sym c.self.view_is
     ∙ (taken_none (is_numbered c.args.number) c.self.inside.all.items c.keeps.ensures.rise
-    (first_numbered c.args.number None c.self.inside.all.items c.self.inside.numbers c.self.invariant.numbers c.in-None.ensures.least)).left
+    (first_numbered c.args.number None c.self.inside.all.items c.self.inside.numbers c.self.invariant.by_number c.in-None.ensures.least)).left
     ∙ ap (without_first (is_numbered c.args.number)) c.self.view_is
 
 pub returns-in-Some-clause-taken : goal.returns-in-Some-clause-taken
 returns-in-Some-clause-taken c =
     (taken_some (is_numbered c.args.number) c.in-Some.stamp c.self.inside.all.items c.take_out.new.all.items c.take_out.result c.keeps.ensures.rise
-    (first_numbered c.args.number (Some c.in-Some.stamp) c.self.inside.all.items c.self.inside.numbers c.self.invariant.numbers c.in-Some.ensures.least)
+    (first_numbered c.args.number (Some c.in-Some.stamp) c.self.inside.all.items c.self.inside.numbers c.self.invariant.by_number c.in-Some.ensures.least)
     c.take_out.ensures.taken c.take_out.ensures.left).taken
     ∙ ap (find (is_numbered c.args.number)) c.self.view_is
 
 pub returns-in-Some-clause-left : goal.returns-in-Some-clause-left
 returns-in-Some-clause-left c =
     (taken_some (is_numbered c.args.number) c.in-Some.stamp c.self.inside.all.items c.take_out.new.all.items c.take_out.result c.keeps.ensures.rise
-    (first_numbered c.args.number (Some c.in-Some.stamp) c.self.inside.all.items c.self.inside.numbers c.self.invariant.numbers c.in-Some.ensures.least)
+    (first_numbered c.args.number (Some c.in-Some.stamp) c.self.inside.all.items c.self.inside.numbers c.self.invariant.by_number c.in-Some.ensures.least)
     c.take_out.ensures.taken c.take_out.ensures.left).left
     ∙ ap (without_first (is_numbered c.args.number)) c.self.view_is
