@@ -1,6 +1,7 @@
 -- Effects under their stamps, and the stamps under their numbers and hashes.
 use Rattle.std.proofs.Common.{◌≡◌, ◌≢◌, ◌<◌, ◌≤◌, ◌+◌, ◌↔◌, ℕ, ℤ, zero, suc, Bool, true, false, cond, List, [], ◌∷◌, ◌++◌, length, Option, None, Some, IsTrue, refl, sym, ap, subst, ◌∙◌, arith}
-use Rattle.std.specs.Prelude.{◌==◌, ◌&&◌, nat_lt, if◌then◌else◌}
+use Rattle.std.specs.Prelude.{◌==◌, ◌&&◌, nat_lt, if◌then◌else◌, Result, Ok, Err}
+use Rattle.std.specs.Result.{is_err, OnOk}
 use Rattle.std.specs.Ordering.{int_eq}
 use Rattle.std.specs.Bool.{Decides}
 use Rattle.std.specs.List.{find}
@@ -179,6 +180,10 @@ module _ (key : Stood → Option ℕ) where
       by : (o : Option Stood) → at s items ≡ o → has_key key k o ≡ true → s < next
       by None there has = absurd cc
       by (Some x) there has = under_at next s x items under there
+
+pub when_ok : {T E P : Type 0} → (r : Result T E) → false ≡ is_err r → OnOk r P → P
+when_ok (Ok x) is there = there
+when_ok (Err e) is there = absurd cc
 
 -- nothing stands under a stamp above all others
 pub free_stamp : (stamp : ℕ) (items : List (ℕ × Stood)) → AreUnder stamp items → at stamp items ≡ None

@@ -30,3 +30,9 @@ returns-in-Some-clause-left c =
     (first_numbered c.args.number (Some c.in-Some.stamp) c.self.inside.all.items c.self.inside.numbers c.self.invariant.by_number c.in-Some.ensures.least)
     c.take_out.ensures.taken c.take_out.ensures.left).left
     ∙ ap (without_first (is_numbered c.args.number)) c.self.view_is
+
+pub invariant_of-self : goal.invariant_of-self
+invariant_of-self c =
+    kept_less c.self.inside.next c.in-Some.stamp c.self.inside.all.items c.take_out.new.all.items
+    c.take_out.new.numbers c.take_out.new.contents c.self.invariant.under c.take_out.ensures.left
+    c.take_out.ensures.by_number c.take_out.ensures.by_content
