@@ -1,4 +1,5 @@
-ghost use Rattle.std.specs.Prelude.{◌≡◌, ◌≤◌, ◌^◌, [], None, OnOk, IfSome, ◌<◌, length, slice_get};
+ghost use Rattle.std.specs.Prelude.{◌≡◌, ◌≤◌, ◌^◌, [], None, Some, OnOk, IfSome, ◌<◌, length};
+ghost use Rattle.std.specs.Prelude.{slice_get};
 ghost use Rattle.stack_lists.specs.Budget.{most};
 ghost use Rattle.stack_lists.specs.Rows.{IsKept, RowAdded, StillKept, held_in, row_in, row_key};
 
@@ -58,7 +59,7 @@ impl Drop for Rows {
 fn key_of(trial: u32, place: u32) -> u64
     ensures { result ≡ row_key trial place }
 {
-    place as u64 * (1 << 32) + trial as u64
+    trial as u64 * (1 << 32) + place as u64
 }
 
 /// Has the row found that is added with this number.
@@ -108,6 +109,8 @@ impl Rows {
     pub fn get(&self, number: usize) -> Option<ShapeRow>
         ensures row { result ≡ slice_get self.now number }
         ensures inside { IfSome result (λ _. number < 2 ^ 25) }
+        ensures found { IfSome result (λ row.
+            row_in self.now row.trial row.place ≡ Some row.held) }
     {
         match self.rows.get(number) {
             None => None,
