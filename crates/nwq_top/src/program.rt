@@ -1,4 +1,4 @@
-ghost use Rattle.std.specs.Prelude.{◌≡◌, [], drop, map, None, Ok, IsTrue, IfErr};
+ghost use Rattle.std.specs.Prelude.{◌≡◌, [], drop, map, None, Ok, IsTrue, IfErr, OnOk};
 ghost use Rattle.world_core.specs.Calls.{cells_of, AreServing};
 ghost use Rattle.command_work.specs.Work.{IsCut, Does, ending};
 ghost use Rattle.command_work.specs.Counts.{Counted, Tallies, KeepsBut, StopsArea};
@@ -7,6 +7,7 @@ ghost use Rattle.command_words.specs.Words.{form_of, list_of};
 ghost use Rattle.nwq_top.specs.Command.{work_of, MayWrite};
 ghost use Rattle.nwq_top.specs.Endings.{ComesOf};
 ghost use Rattle.nwq_top.specs.Meaning.{Means};
+ghost use Rattle.nwq_top.specs.Reads.{ReadsOnce};
 ghost use Rattle.nwq_top.specs.Program.{by_status, status_number, status_numbered, words_of};
 
 use crate::command::status_of_words;
@@ -93,6 +94,9 @@ pub fn nwq_program<F: Files, S: Sink>(
         (Counted (F.counts files.new) (S.faults out.new)) }
     ensures names { KeepsBut (MayWrite (form_of (words_of all.now)))
         (F.contents files.old) (F.contents files.new) }
+    ensures once { IsTrue F.tells → IsTrue S.tells → OnOk (ending (status_numbered result))
+        (ReadsOnce (form_of (words_of all.now)) (F.contents files.old)
+        (F.reads files.old) (F.reads files.new)) }
     ensures only { ComesOf (form_of (words_of all.now)) (status_numbered result) }
 {
     work_means();
