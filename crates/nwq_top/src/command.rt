@@ -1,4 +1,4 @@
-ghost use Rattle.std.specs.Prelude.{◌≡◌, map, string_bytes, IsTrue, OnOk};
+ghost use Rattle.std.specs.Prelude.{◌≡◌, map, string_bytes, IsTrue};
 ghost use Rattle.world_core.specs.Calls.{cells_of, AreServing};
 ghost use Rattle.command_work.specs.Work.{Does, ending};
 ghost use Rattle.command_work.specs.Counts.{Counted, Tallies, KeepsBut};
@@ -39,9 +39,9 @@ pub fn command<F: Files, S: Sink>(
         (Counted (F.counts files.new) (S.faults out.new)) }
     ensures names { KeepsBut (MayWrite (form_of (map string_bytes words.now)))
         (F.contents files.old) (F.contents files.new) }
-    ensures once { IsTrue F.tells → IsTrue S.tells → OnOk result
-        (ReadsOnce (form_of (map string_bytes words.now)) (F.contents files.old)
-        (F.reads files.old) (F.reads files.new)) }
+    ensures once { IsTrue F.tells → IsTrue S.tells →
+        ReadsOnce (form_of (map string_bytes words.now)) result (F.contents files.old)
+        (F.reads files.old) (F.reads files.new) }
     ensures only { ComesOfResult (form_of (map string_bytes words.now)) result }
 {
     match command_of(words) {
@@ -112,9 +112,9 @@ pub fn status_of_words<F: Files, S: Sink>(
         (Counted (F.counts files.new) (S.faults out.new)) }
     ensures names { KeepsBut (MayWrite (form_of (map string_bytes words.now)))
         (F.contents files.old) (F.contents files.new) }
-    ensures once { IsTrue F.tells → IsTrue S.tells → OnOk (ending result)
-        (ReadsOnce (form_of (map string_bytes words.now)) (F.contents files.old)
-        (F.reads files.old) (F.reads files.new)) }
+    ensures once { IsTrue F.tells → IsTrue S.tells →
+        ReadsOnce (form_of (map string_bytes words.now)) (ending result) (F.contents files.old)
+        (F.reads files.old) (F.reads files.new) }
     ensures only { ComesOf (form_of (map string_bytes words.now)) result }
 {
     match command(alloc, words, files, out, hooks, remarks) {

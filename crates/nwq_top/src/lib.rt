@@ -36,7 +36,7 @@ mod tables;
 mod told;
 pub mod word_laws;
 
-ghost use Rattle.std.specs.Prelude.{map, string_bytes, IsTrue, OnOk};
+ghost use Rattle.std.specs.Prelude.{map, string_bytes, IsTrue};
 ghost use Rattle.world_core.specs.Calls.{cells_of, AreServing};
 ghost use Rattle.command_work.specs.Work.{IsCut, Does, ending};
 ghost use Rattle.command_work.specs.Counts.{Counted, Tallies, KeepsBut};
@@ -101,10 +101,11 @@ pub fn nwq_main<F: Files, S: Sink>(
     ensures changes { IsTrue F.tells →
         KeepsBut (MayChange (form_of (map string_bytes words.now)) (F.contents files.old)
         (ending result)) (F.contents files.old) (F.contents files.new) }
-    // Where the work is done, each file was read once, where its turn came.
-    ensures once { IsTrue F.tells → OnOk (ending result)
-        (ReadsOnce (form_of (map string_bytes words.now)) (F.contents files.old)
-        (F.reads files.old) (F.reads files.new)) }
+    // Where the work is done, each file was read once, where its turn came; and one file that the
+    // words lead to alone also where it is refused.
+    ensures once { IsTrue F.tells →
+        ReadsOnce (form_of (map string_bytes words.now)) (ending result) (F.contents files.old)
+        (F.reads files.old) (F.reads files.new) }
     ensures only { ComesOf (form_of (map string_bytes words.now)) result }
 {
     work_means();

@@ -1,4 +1,4 @@
-ghost use Rattle.std.specs.Prelude.{◌≡◌, map, string_bytes, IsTrue, OnOk};
+ghost use Rattle.std.specs.Prelude.{◌≡◌, map, string_bytes, IsTrue};
 ghost use Rattle.world_core.specs.Calls.{cells_of, AreServing};
 ghost use Rattle.command_work.specs.Work.{Does, ending};
 ghost use Rattle.command_work.specs.Counts.{Counted, Tallies, KeepsBut};
@@ -37,9 +37,9 @@ pub(crate) fn status_told<'a, F: Files, S: Sink, L: Loan>(
         (Counted (F.counts files.new) (S.faults result.1.now)) }
     ensures names { KeepsBut (MayWrite (form_of (map string_bytes words.now)))
         (F.contents files.old) (F.contents files.new) }
-    ensures once { IsTrue F.tells → OnOk (ending result.0)
-        (ReadsOnce (form_of (map string_bytes words.now)) (F.contents files.old)
-        (F.reads files.old) (F.reads files.new)) }
+    ensures once { IsTrue F.tells →
+        ReadsOnce (form_of (map string_bytes words.now)) (ending result.0) (F.contents files.old)
+        (F.reads files.old) (F.reads files.new) }
     ensures only { ComesOf (form_of (map string_bytes words.now)) result.0 }
 {
     let mut telling: Telling<'a, S, L> = Telling::new(out);
