@@ -10,6 +10,7 @@ ghost use Rattle.nwq_top.specs.Cuts.{IsFrontOf};
 ghost use Rattle.nwq_top.specs.Endings.{ComesOf};
 ghost use Rattle.nwq_top.specs.Meaning.{MeansWhole};
 ghost use Rattle.nwq_top.specs.Program.{status_number, status_numbered, words_of};
+ghost use Rattle.nwq_top.specs.Reads.{ReadsWhole};
 ghost use Rattle.telling_sink.specs.Told.{Told};
 ghost use Rattle.nwq.specs.Ending.{EndsWanting, form_in};
 
@@ -127,6 +128,9 @@ fn run_words<F: Files, S: Sink>(
     ensures changes { IsTrue F.tells →
         KeepsBut (MayChange (form_in words.now) (F.contents files.old)
         (ending (status_numbered result))) (F.contents files.old) (F.contents files.new) }
+    ensures once { IsTrue F.tells →
+        ReadsWhole (form_in words.now) (ending (status_numbered result))
+        (F.contents files.old) (F.reads files.old) (F.reads files.new) }
     ensures only { ComesOf (form_in words.now) (status_numbered result) }
 {
     run_all(alloc, words.as_slice(), files, out, remarks)
@@ -162,6 +166,9 @@ fn number_of<F: Files, S: Sink>(
     ensures changes { IsTrue F.tells →
         KeepsBut (MayChange (form_in words.now) (F.contents files.old)
         (ending (status_numbered result))) (F.contents files.old) (F.contents files.new) }
+    ensures once { IsTrue F.tells →
+        ReadsWhole (form_in words.now) (ending (status_numbered result))
+        (F.contents files.old) (F.reads files.old) (F.reads files.new) }
     ensures only { ComesOf (form_in words.now) (status_numbered result) }
     ensures memory { EndsWanting words.now result }
 {
@@ -206,6 +213,10 @@ pub(crate) fn end_of<F: Files + Watched, S: Sink, E: Sink>(
         KeepsBut (MayChange (form_in words) (F.contents files.old)
         (ending (status_numbered (exit_status result))))
         (F.contents files.old) (F.contents files.new) }
+    // What the words lead to is read once: the tables, and then what the command reads.
+    ensures once { IsTrue F.tells →
+        ReadsWhole (form_in words) (ending (status_numbered (exit_status result)))
+        (F.contents files.old) (F.reads files.old) (F.reads files.new) }
     ensures only { ComesOf (form_in words) (status_numbered (exit_status result)) }
     // Where there was no memory for the words, it ends as where a command wants it.
     ensures memory { EndsWanting words (exit_status result) }
