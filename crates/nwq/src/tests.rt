@@ -194,3 +194,28 @@ fn words_that_are_not_read(rt: HostRuntime) -> Result<(), Fail> {
     assert!(rt; comes(rt.alloc(), Words::NoMemory, &NO_MEMORY)?);
     Ok(())
 }
+
+/// Where standard output takes nothing: the file is written, and the message says why there is no
+/// line.
+const CLOSED: Row = (
+    "nwq compile - p",
+    7,
+    b"",
+    b"standard output: error: ",
+    ("p.ncs", Some(NOTHING)),
+);
+
+#[test]
+fn a_put_that_fails(rt: HostRuntime) -> Result<(), Fail> {
+    let mut sink = MemSink::new(rt.alloc());
+    sink.fail_at(0)?;
+    let mut left = begun(rt.alloc());
+    left.out = LastLine::new(rt.alloc(), sink);
+    run(
+        rt.alloc(),
+        Words::All(words_of(rt.alloc(), CLOSED.0)?),
+        &mut left,
+    )?;
+    assert!(rt; is_as(&left, &CLOSED));
+    Ok(())
+}
