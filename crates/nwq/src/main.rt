@@ -6,11 +6,13 @@
 ghost use Rattle.nwq.specs.Ending.{AreHandedIn};
 
 mod end;
+mod messages;
 #[cfg(test)]
 mod tests;
 mod whole;
 
 use crate::end::{Words, end_of};
+use crate::messages::Messages;
 use command_messages::LastLine;
 use kept_files::KeptFiles;
 use nwq_outside::RealSink;
@@ -81,6 +83,6 @@ fn main(rt: HostRuntime) -> ExitCode {
         None => return ExitCode::from(8),
     };
     let mut out = LastLine::new(rt.alloc(), RealSink::new(rt.stdout()));
-    let mut err = RealSink::new(rt.stderr());
+    let mut err = Messages::new(RealSink::new(rt.stderr()));
     end_of(rt.alloc(), words, &mut files, &mut out, &mut err)
 }

@@ -2,6 +2,7 @@
 //! it has ended. No crate stands on it, so these tests stand here.
 
 use crate::end::{Watched, Words, end_of};
+use crate::messages::Messages;
 use command_messages::LastLine;
 use kept_files::KeptFiles;
 use nwq_outside::{MemFiles, MemSink};
@@ -115,7 +116,7 @@ struct Left {
     code: ExitCode,
     files: KeptFiles<MemFiles>,
     out: LastLine<MemSink>,
-    err: MemSink,
+    err: Messages<MemSink>,
 }
 
 /// Before anything is done.
@@ -124,7 +125,7 @@ fn begun(alloc: Global) -> Left {
         code: ExitCode::SUCCESS,
         files: KeptFiles::new(alloc, MemFiles::new(alloc)),
         out: LastLine::new(alloc, MemSink::new(alloc)),
-        err: MemSink::new(alloc),
+        err: Messages::new(MemSink::new(alloc)),
     }
 }
 
@@ -148,7 +149,7 @@ fn is_as(left: &Left, row: &Row) -> bool {
     let (_line, code, text, told, (name, held)) = row;
     left.code == ExitCode::from(*code)
         && left.out.inner().bytes() == *text
-        && is_told(left.err.bytes(), told)
+        && is_told(left.err.inner.bytes(), told)
         && left.files.inner.get(name) == *held
 }
 
