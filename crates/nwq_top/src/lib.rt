@@ -21,7 +21,8 @@
 //! `specs/FileCommands.antt` says what `tree`, `check`, `dis` and `asm` do. The laws of
 //! [`word_laws`] say that whatever does the work of the words does this, and one more that typing
 //! refuses a source at one fault. `specs/Cuts.antt` says what is left where a call is cut,
-//! `specs/Changes.antt` which names change, and `specs/Answers.antt` that each input has an answer.
+//! `specs/Changes.antt` which names change, `specs/Reads.antt` how often files are read, and
+//! `specs/Answers.antt` that each input has an answer.
 //!
 //! The tables that its scripts look cells up in are [`nwq_tables`]', which comes first: the tables
 //! are read, hooks are made with them, and `nwq_main` is handed these hooks and the same words.
