@@ -3,13 +3,13 @@
 //! docs/COMMANDS.md and docs/THEOREMS.md.
 #![tactic(auto)]
 
-ghost use Rattle.nwq.specs.Ending.{AreHandedIn};
-
 mod end;
 mod messages;
 #[cfg(test)]
 mod tests;
 mod whole;
+
+ghost use Rattle.nwq.specs.Ending.{AreHandedIn};
 
 use crate::end::{Words, end_of};
 use crate::messages::Messages;
