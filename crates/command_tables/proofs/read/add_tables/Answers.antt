@@ -1,7 +1,7 @@
-use Rattle.std.proofs.Common.{◌++◌, map, sym, ap, ◌∙◌}
+use Rattle.std.proofs.Common.{◌++◌, map, refl, sym, ap, ◌∙◌}
 use Rattle.command_tables.proofs.NameLemmas.{next_named, next_new}
-use Rattle.command_tables.proofs.ReadLemmas.{tables_go_on, tables_stop, tables_done}
-use Rattle.command_tables.proofs.CountLemmas.{reads_go_on, reads_stop, reads_done}
+use Rattle.command_tables.proofs.ReadLemmas.{tables_begin, tables_go_on, tables_stop, tables_done}
+use Rattle.command_tables.proofs.CountLemmas.{reads_begin, reads_go_on, reads_stop, reads_done}
 use Rattle.command_tables.proofs.read.add_tables.Goals as goal
 
 pub add_table-requires-clause-name : goal.add_table-requires-clause-name
@@ -20,6 +20,15 @@ returns-in-Err-clause-does g c =
     c.loop-name.rest.now c.in-Some.others.now c.in-Some.name.now c.loop-name.tables (g.F.Files.contents c.loop-name.files)
     (g.S.Sink.taken c.loop-name.out) c.in-Err.status (g.F.Files.contents c.add_table.new.files) (g.S.Sink.taken c.add_table.new.out)
     c.loop-name.invariant.so_far c.in-Some.ensures.cases.0 c.in-Err.ensures.does
+
+pub loop-name-init : goal.loop-name-init
+loop-name-init g c = record {
+  so_far = tables_begin g.F.Files.tells g.S.Sink.tells (g.F.Files.contents c.args.files.now) (g.S.Sink.taken c.args.out.now) c.args.names.now
+      c.args.tables.now c.requires.none;
+  counts = refl;
+  same = refl;
+  reads = reads_begin c.args.names.now (g.F.Files.reads c.args.files.now);
+}
 
 pub loop-name-preserved : goal.loop-name-preserved
 loop-name-preserved g c = record {
