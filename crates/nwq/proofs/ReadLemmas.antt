@@ -16,9 +16,14 @@ some_of None c before now h = h
 some_of (Some list) c before now h =
     some h.names h.lists (record { front = h.names; rest = []; parts = sym (append-nil h.names); once = h.once })
 
+pub were_read : (form : Form) (r : Result Finished Status) (c : Contents) (before now : ℕ) → ReadsOnce form r c before now → ReadsOrNone form r c before now
+were_read form r c before now h = inl h
+
 -- no memory for the hooks
 pub none_left : (form : Form) (status : Status) (c : Contents) (before now : ℕ) → CutsShort status → now ≡ before → ReadsOrNone form (Err status) c before now
 none_left form status c before now cut is = inr (cut, is)
+
+pub ruleset or_none = (were_read, none_left)
 
 pub whole_reads : (form : Form) (r : Result Finished Status) (c d : Contents) (before mid now : ℕ) → d ≡ c → ReadsTables (list_of form) c before mid
     → ReadsOrNone form r d mid now → ReadsWhole form r c before now

@@ -84,7 +84,7 @@ fn run_hooked<F: Files, S: Sink>(
 
 /// Does what the words say with hooks that look cells up in these tables: the number with which the
 /// program ends.
-#[tactic(auto, using(crate::proofs::ReadLemmas::none_left, crate::proofs::EndLemmas::command_cut, crate::proofs::EndLemmas::memory_comes, command_work::specs::KeepsLemmas::keeps_all))]
+#[tactic(auto, using(crate::proofs::ReadLemmas::or_none, crate::proofs::EndLemmas::command_cut, crate::proofs::EndLemmas::memory_comes, command_work::specs::KeepsLemmas::keeps_all))]
 fn run_with<F: Files, S: Sink>(
     alloc: Global,
     all: &[String],
