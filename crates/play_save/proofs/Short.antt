@@ -28,11 +28,11 @@ apart_at x [] i part all h at = absurd (omega arith)
 apart_at x (p ∷ parts) zero part all h at = ap (λ (q : Part). same_variable x (variable_of q)) at ∙ all.0
 apart_at x (p ∷ parts) (suc i) part all h at = apart_at x parts i part all.1 (omega arith) at
 
-neither : (a b : Bool) → a ≡ false → b ≡ false → (a || b) ≡ false
+pub neither : (a b : Bool) → a ≡ false → b ≡ false → (a || b) ≡ false
 neither true b x y = absurd cc
 neither false b x y = y
 
-none_same : SameIsEquivalence → (parts : List Part) (i : ℕ) (part : Part) → IsDistinct same_variable (map variable_of parts) → i < length parts → part ≡ get_or parts i part
+pub none_same : SameIsEquivalence → (parts : List Part) (i : ℕ) (part : Part) → IsDistinct same_variable (map variable_of parts) → i < length parts → part ≡ get_or parts i part
     → list_any (same_variable (variable_of part)) (map variable_of (take i parts)) ≡ false
 unfolding IsDistinct
 none_same law [] i part distinct h at = absurd (omega arith)

@@ -1,5 +1,5 @@
 use Rattle.play_save.proofs.Scripts.{scripts_more}
-use Rattle.play_save.proofs.prepare.scripts.Goals as goal
+use Rattle.play_save.proofs.prepare.kept_scripts.Goals as goal
 
 pub loop-part-preserved : goal.loop-part-preserved
 loop-part-preserved c =
