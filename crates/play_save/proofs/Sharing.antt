@@ -1,13 +1,14 @@
 -- Variables by their places: how many have each, and those that share one.
 use Rattle.std.proofs.Common.{◌≡◌, ◌<◌, ◌≤◌, ℕ, ℤ, zero, suc, ◌+◌, List, [], ◌∷◌, ◌++◌, length, take, drop, get_or, map, filter, replicate, cond, sym, ap, refl, ◌∙◌, subst, inl, inr, ◌⊎◌, ◌%◌, arith}
-use Rattle.std.specs.Prelude.{Some, slice_get, Bool, true, false, ◌||◌, IsTrue, ◌↔◌, nat_eq, nat_lt, if◌then◌else◌}
+use Rattle.std.specs.Prelude.{◌==◌, Result, Ok, Err, IfOk, Some, slice_get, Bool, true, false, ◌||◌, IsTrue, ◌↔◌, nat_eq, nat_lt, if◌then◌else◌}
 use Rattle.std.specs.List.{AllByRecursion, IsDistinct, list_any}
 use Rattle.std.specs.Option.{option_map}
 use Rattle.std.specs.Str.{bytes_eq}
 use Rattle.std.proofs.lemmas.Bool.Decides.{nat_tests}
-use Rattle.std.proofs.lemmas.List.{get_or-replicate, take_all}
+use Rattle.std.proofs.lemmas.List.{get_or-replicate, length-replicate, take_all}
 use Rattle.std.proofs.lemmas.List.Elements.{filter-append}
 use Rattle.std.proofs.lemmas.Slice.Eq.{bytes_eq-Decides}
+use Rattle.nwq_value.specs.declared.memory.NoMemory.{NoMemory}
 use Rattle.local_variables.specs.Variables.{Variable, same_variable}
 use Rattle.local_variables.specs.Laws.{SameIsEquivalence}
 use Rattle.state_format.specs.declared.parts.Variable.{Variable as Part}
@@ -15,7 +16,7 @@ use Rattle.state_format.specs.declared.parts.Variable.TheVariants as variable
 use Rattle.state_parts.specs.World.{variable_of}
 use Rattle.state_parts.specs.KeepingLemmas.{drop_at, map_more}
 use Rattle.play_save.specs.Places.{hash_of, place_of, once_more, count_at, CountsPlaces, CountsPlace, shares_place}
-use Rattle.play_save.proofs.Short.{neither}
+use Rattle.play_save.proofs.Short.{neither, none_same}
 
 -- ---- one variable more at its place
 
@@ -54,19 +55,15 @@ some_at (x ∷ xs) (suc k) h = some_at xs k (omega arith)
 some_same : (a b : ℕ) → Some a ≡ Some b → a ≡ b
 some_same a b e = cc
 
-replicated : (n : ℕ) → length (replicate n 0) ≡ n
-replicated zero = refl
-replicated (suc n) = ap suc (replicated n)
-
 pub counts_none : (counts : List ℕ) (n : ℕ) → counts ≡ replicate n 0 → CountsPlaces counts []
 counts_none counts n is place inside =
-    let below : place < n = subst (λ k. place < k) (ap length is ∙ replicated n) inside in
+    let below : place < n = subst (λ k. place < k) (ap length is ∙ length-replicate n 0) inside in
     some_at counts place inside ∙ ap (λ (l : List ℕ). Some (get_or l place 0)) is ∙ ap Some (get_or-replicate n place 0 0 below)
 
 -- ---- variables of one type and name have one place
 
 same_name : (a b : List ℕ) → bytes_eq a b ≡ true → a ≡ b
-same_name a b h = grind (bytes_eq-Decides a b, h)
+same_name a b h = (bytes_eq-Decides a b).0 h
 
 same_hash : (v w : Part) → same_variable (variable_of v) (variable_of w) ≡ true → hash_of v ≡ hash_of w
 same_hash (variable.Int a n) (variable.Int b m) h = ap (λ (l : List ℕ). hash_of (variable.Int l m)) (same_name a b h)
@@ -160,59 +157,63 @@ alone counts v vs some more single = none_there n v vs (none (count_at n (place_
     none zero h = refl
     none (suc m) h = absurd (omega (arith, h))
 
+differ : (counts : List ℕ) (v w : Part) → place_of (length counts) v ≡ place_of (length counts) w → shares_place counts v ≡ true → shares_place counts w ≡ false → ⊥
+differ counts v w same shared single = let here = ap (λ (place : ℕ). nat_lt 1 (get_or counts place 0)) same in absurd cc
+
 -- one that shares its place is another than all behind it, where it is another than those that share theirs
 among : (counts : List ℕ) (v : Part) (vs : List Part) → shares_place counts v ≡ true
     → AllByRecursion (λ (w : Variable). same_variable (variable_of v) w ≡ false) (map variable_of (filter (shares_place counts) vs))
     → AllByRecursion (λ (w : Variable). same_variable (variable_of v) w ≡ false) (map variable_of vs)
 among counts v [] shared all = tt
-among counts v (w ∷ vs) shared all = by_test (either (shares_place counts w))
+among counts v (w ∷ vs) shared all = by_test (either (shares_place counts w)) (among counts v vs shared)
   where
-    by_test : (shares_place counts w ≡ true) ⊎ (shares_place counts w ≡ false) → AllByRecursion (λ (x : Variable). same_variable (variable_of v) x ≡ false) (map variable_of (w ∷ vs))
-    by_test (inl too) =
+    by_test : (shares_place counts w ≡ true) ⊎ (shares_place counts w ≡ false) →
+        (AllByRecursion (λ (x : Variable). same_variable (variable_of v) x ≡ false) (map variable_of (filter (shares_place counts) vs))
+        → AllByRecursion (λ (x : Variable). same_variable (variable_of v) x ≡ false) (map variable_of vs))
+        → AllByRecursion (λ (x : Variable). same_variable (variable_of v) x ≡ false) (map variable_of (w ∷ vs))
+    by_test (inl too) more =
         let both = subst (λ (l : List Part). AllByRecursion (λ (x : Variable). same_variable (variable_of v) x ≡ false) (map variable_of l)) (filter_with (shares_place counts) w vs too) all in
-        (both.0, among counts v vs shared both.1)
-    by_test (inr single) = (
-      apart_by v w (λ same. absurd (never (ap (λ (place : ℕ). nat_lt 1 (get_or counts place 0)) (same_place (length counts) v w same)) single)),
-      among counts v vs shared (subst (λ (l : List Part). AllByRecursion (λ (x : Variable). same_variable (variable_of v) x ≡ false) (map variable_of l)) (filter_without (shares_place counts) w vs single) all),
+        (both.0, more both.1)
+    by_test (inr single) more = (
+      apart_by v w (λ same. absurd (differ counts v w (same_place (length counts) v w same) shared single)),
+      more (subst (λ (l : List Part). AllByRecursion (λ (x : Variable). same_variable (variable_of v) x ≡ false) (map variable_of l)) (filter_without (shares_place counts) w vs single) all),
     )
-      where
-        never : shares_place counts v ≡ shares_place counts w → shares_place counts w ≡ false → ⊥
-        never same none = absurd cc
 
 distinct_more : (counts : List ℕ) (vs : List Part) → 0 < length counts → CountsMore counts vs → IsDistinct same_variable (map variable_of (filter (shares_place counts) vs))
     → IsDistinct same_variable (map variable_of vs)
 unfolding IsDistinct
 distinct_more counts [] some more apart = tt
-distinct_more counts (v ∷ vs) some more apart = by_test (either (shares_place counts v))
+distinct_more counts (v ∷ vs) some more apart = by_test (either (shares_place counts v)) (distinct_more counts vs some rest)
   where
     rest : CountsMore counts vs
     rest place inside = let grows = count_grows (length counts) place v vs in let most = more place inside in omega (arith, grows, most)
-    by_test : (shares_place counts v ≡ true) ⊎ (shares_place counts v ≡ false) → IsDistinct same_variable (map variable_of (v ∷ vs))
-    by_test (inl shared) =
+    by_test : (shares_place counts v ≡ true) ⊎ (shares_place counts v ≡ false)
+        → (IsDistinct same_variable (map variable_of (filter (shares_place counts) vs)) → IsDistinct same_variable (map variable_of vs)) → IsDistinct same_variable (map variable_of (v ∷ vs))
+    by_test (inl shared) behind =
         let both = subst (λ (l : List Part). IsDistinct same_variable (map variable_of l)) (filter_with (shares_place counts) v vs shared) apart in
-        (among counts v vs shared both.0, distinct_more counts vs some rest both.1)
-    by_test (inr single) =
-        (alone counts v vs some more single, distinct_more counts vs some rest (subst (λ (l : List Part). IsDistinct same_variable (map variable_of l)) (filter_without (shares_place counts) v vs single) apart))
+        (among counts v vs shared both.0, behind both.1)
+    by_test (inr single) behind =
+        (alone counts v vs some more single, behind (subst (λ (l : List Part). IsDistinct same_variable (map variable_of l)) (filter_without (shares_place counts) v vs single) apart))
 
 all_fewer : (P : Variable → Type 0) (p : Part → Bool) (vs : List Part) → AllByRecursion P (map variable_of vs) → AllByRecursion P (map variable_of (filter p vs))
 all_fewer P p [] all = tt
-all_fewer P p (v ∷ vs) all = by_test (p v)
+all_fewer P p (v ∷ vs) all = by_test (p v) (all_fewer P p vs all.1)
   where
-    by_test : (b : Bool) → AllByRecursion P (map variable_of (cond b (v ∷ filter p vs) (filter p vs)))
-    by_test true = (all.0, all_fewer P p vs all.1)
-    by_test false = all_fewer P p vs all.1
+    by_test : (b : Bool) → AllByRecursion P (map variable_of (filter p vs)) → AllByRecursion P (map variable_of (cond b (v ∷ filter p vs) (filter p vs)))
+    by_test true behind = (all.0, behind)
+    by_test false behind = behind
 
 distinct_fewer : (p : Part → Bool) (vs : List Part) → IsDistinct same_variable (map variable_of vs) → IsDistinct same_variable (map variable_of (filter p vs))
 unfolding IsDistinct
 distinct_fewer p [] apart = tt
-distinct_fewer p (v ∷ vs) apart = by_test (p v)
+distinct_fewer p (v ∷ vs) apart = by_test (p v) (distinct_fewer p vs apart.1)
   where
-    by_test : (b : Bool) → IsDistinct same_variable (map variable_of (cond b (v ∷ filter p vs) (filter p vs)))
-    by_test true = (all_fewer (λ (w : Variable). same_variable (variable_of v) w ≡ false) p vs apart.0, distinct_fewer p vs apart.1)
-    by_test false = distinct_fewer p vs apart.1
+    by_test : (b : Bool) → IsDistinct same_variable (map variable_of (filter p vs)) → IsDistinct same_variable (map variable_of (cond b (v ∷ filter p vs) (filter p vs)))
+    by_test true behind = (all_fewer (λ (w : Variable). same_variable (variable_of v) w ≡ false) p vs apart.0, behind)
+    by_test false behind = behind
 
 -- all are distinct where those that share places are
-pub by_places : (counts lent : List ℕ) (vs : List Part) (b : Bool) → lent ≡ counts → 0 < length counts → CountsPlaces counts vs
+by_places : (counts lent : List ℕ) (vs : List Part) (b : Bool) → lent ≡ counts → 0 < length counts → CountsPlaces counts vs
     → (IsTrue b ↔ IsDistinct same_variable (map variable_of (filter (shares_place lent) vs))) → IsTrue b ↔ IsDistinct same_variable (map variable_of vs)
 by_places counts lent vs b same some are test = (
   (λ t. distinct_more counts vs some more (subst (λ (l : List ℕ). IsDistinct same_variable (map variable_of (filter (shares_place l) vs))) same (test.0 t))),
@@ -271,7 +272,7 @@ take_drop (suc n) [] = refl
 take_drop (suc n) (x ∷ xs) = ap (λ (l : List _). x ∷ l) (take_drop n xs)
 
 -- a variable that was seen before
-pub seen_twice : SameIsEquivalence → (p : Part → Bool) (vs : List Part) (i : ℕ) (v : Part) (seen : List Variable) (w : Variable) → seen ≡ map variable_of (filter p (take i vs)) → w ≡ variable_of v
+seen_twice : SameIsEquivalence → (p : Part → Bool) (vs : List Part) (i : ℕ) (v : Part) (seen : List Variable) (w : Variable) → seen ≡ map variable_of (filter p (take i vs)) → w ≡ variable_of v
     → list_any (same_variable w) seen ≡ true → i < length vs → v ≡ get_or vs i v → p v ≡ true → IsDistinct same_variable (map variable_of (filter p vs)) → ⊥
 seen_twice law p vs i v seen w before is found h at shared apart =
     let front = filter p (take i vs) in
@@ -288,3 +289,31 @@ seen_twice law p vs i v seen w before is found h at shared apart =
 pub seen_all : (p : Part → Bool) (vs : List Part) (i : ℕ) (seen : List Variable) → seen ≡ map variable_of (filter p (take i vs)) → length vs ≤ i → IsDistinct same_variable seen
     → IsDistinct same_variable (map variable_of (filter p vs))
 seen_all p vs i seen is end apart = subst (IsDistinct same_variable) (is ∙ ap (λ (l : List Part). map variable_of (filter p l)) (take_all i vs end)) apart
+
+-- a variable that no earlier one is
+pub unseen : SameIsEquivalence → (vs : List Part) (i : ℕ) (v : Part) (seen : List Variable) (w : Variable) → seen ≡ map variable_of (take i vs) → w ≡ variable_of v
+    → IsDistinct same_variable (map variable_of vs) → i < length vs → v ≡ get_or vs i v → list_any (same_variable w) seen ≡ false
+unseen law vs i v seen w before is apart h at =
+    ap (λ (x : Variable). list_any (same_variable x) seen) is ∙ ap (λ (l : List Variable). list_any (same_variable (variable_of v)) l) before ∙ none_same law vs i v apart h at
+
+never_true : (b : Bool) → b ≡ false → IsTrue b → ⊥
+never_true true e t = absurd cc
+never_true false e t = absurd cc
+
+pub seen_none : SameIsEquivalence → (p : Part → Bool) (vs : List Part) (i : ℕ) (v : Part) (seen : List Variable) (w : Variable) → seen ≡ map variable_of (filter p (take i vs)) → w ≡ variable_of v
+    → list_any (same_variable w) seen ≡ true → i < length vs → v ≡ get_or vs i v → p v ≡ true → IsTrue false ↔ IsDistinct same_variable (map variable_of (filter p vs))
+seen_none law p vs i v seen w before is found h at shared = (
+  (λ f. absurd (never_true false refl f)),
+  (λ all. absurd (seen_twice law p vs i v seen w before is found h at shared all)),
+)
+
+-- no variables are distinct
+pub empty_distinct : (vs : List Part) (none : Bool) → none ≡ (length vs == 0) → none ≡ true → IsTrue true ↔ IsDistinct same_variable (map variable_of vs)
+unfolding IsDistinct
+empty_distinct [] none is t = ((λ t. tt), (λ all. refl))
+empty_distinct (v ∷ vs) none is t = absurd cc
+
+pub apart_ok : (counts lent : List ℕ) (vs : List Part) (r : Result Bool NoMemory) → lent ≡ counts → 0 < length counts → CountsPlaces counts vs
+    → IfOk r (λ b. IsTrue b ↔ IsDistinct same_variable (map variable_of (filter (shares_place lent) vs))) → IfOk r (λ b. IsTrue b ↔ IsDistinct same_variable (map variable_of vs))
+apart_ok counts lent vs (Ok b) same some are test = by_places counts lent vs b same some are test
+apart_ok counts lent vs (Err e) same some are test = tt

@@ -41,12 +41,3 @@ none_same law (p ∷ parts) (suc i) part distinct h at =
     neither (same_variable (variable_of part) (variable_of p)) (list_any (same_variable (variable_of part)) (map variable_of (take i parts)))
     (law.symm (variable_of part) (variable_of p) ∙ apart_at (variable_of p) parts i part distinct.0 (omega arith) at)
     (none_same law parts i part distinct.1 (omega arith) at)
-
--- a variable that is there already
-pub twice : SameIsEquivalence → (parts : List Part) (i : ℕ) (part : Part) (vars : List Variable) (v : Variable) → vars ≡ map variable_of (take i parts) → v ≡ variable_of part
-    → list_any (same_variable v) vars ≡ true → i < length parts → part ≡ get_or parts i part → IsDistinct same_variable (map variable_of parts) → ⊥
-twice law parts i part vars v before is found h at distinct =
-    let none = none_same law parts i part distinct h at in
-    let any : list_any (same_variable (variable_of part)) (map variable_of (take i parts)) ≡ true =
-    ap (λ (l : List Variable). list_any (same_variable (variable_of part)) l) (sym before) ∙ ap (λ (w : Variable). list_any (same_variable w) vars) (sym is) ∙ found in
-    absurd cc
