@@ -142,7 +142,10 @@ fn test_scripts(alloc: Global, table: &Table, parts: &[Script]) -> Result<(), St
     ensures broken { IfErr result (Breaks 2 (AreSound table.now parts.now)) }
 {
     for part in parts {
-        test_script(alloc, table, part)?;
+        match test_script(alloc, table, part) {
+            Err(fault) => return Err(fault),
+            Ok(()) => {}
+        }
     }
     Ok(())
 }
