@@ -15,7 +15,7 @@ use Rattle.typing_rules.specs.Typed.{TypedExpr, TypedExprs, no_typed, more_typed
 use Rattle.typing_rules.specs.Sight.{Sight, Labels, Called, is_taken, crosses_with, cells}
 use Rattle.typing_rules.specs.Rules.{when, takes, filled, is_barred, is_again, is_outside, is_behind, default_fits}
 use Rattle.nss_reasons.specs.declared.reason.Reason.{Reason}
-use Rattle.nss_reasons.specs.declared.reason.Reason.TheVariants.{Operands, Operand, NoPlace, Uncallable, NoFunction, Arguments, Barred, Argument, NoMember, Condition, Returned, Taken, Value, Cells, Again, Misplaced, Label, NoDefault}
+use Rattle.nss_reasons.specs.declared.reason.Reason.TheVariants.{Operands, Operand, NoPlace, Uncallable, NoFunction, Arguments, Barred, Argument, NoMember, Condition, Returned, Taken, Value, Default, Cells, Again, Misplaced, Label, NoDefault}
 
 abbrev pub unless : {B : Type 0} → Option B → Reason → Option Reason
 unless None r = Some r
@@ -57,12 +57,12 @@ abbrev pub without_default : List Param → ℕ
 without_default [] = 0
 without_default (p ∷ ps) = if is_some p.default then 0 else 1 + without_default ps
 
--- the first argument that its parameter doesn't take, with so many before it
+-- the first argument that its parameter doesn't take, counted from 1, with so many before these
 abbrev pub untaken : ℕ → TypedExprs → List Param → Option Reason
 untaken n no_typed ps = None
 untaken n (more_typed x xs) [] = None
 untaken n (more_typed x xs) (p ∷ ps) =
-    if takes p.ty x then untaken (n + 1) xs ps else Some (Argument n (type_of x) p.ty)
+    if takes p.ty x then untaken (n + 1) xs ps else Some (Argument (n + 1) (type_of x) p.ty)
 
 abbrev pub counts : TypedExprs → List Param → Reason
 counts xs ps = Arguments (count xs) (without_default ps) (length ps)
@@ -142,8 +142,12 @@ constant_reason c x p = if is_taken c x then Taken else Value (const_type p.1) p
 abbrev pub const_type_there : Option Const → Option Ty
 const_type_there v = option_map const_type v
 
+abbrev pub default_reason : Ty → Option Ty → Reason
+default_reason t None = Cells
+default_reason t (Some s) = if same_type t s then Cells else Default s t
+
 -- a parameter whose type is one of a value
 abbrev pub parameter_reason : Sight → Bool → List ℕ → Option Const → Ty → Reason
 parameter_reason c late x v t =
     if is_taken c x then Taken else
-    (if is_behind late v then NoDefault else value_reason t (const_type_there v))
+    (if is_behind late v then NoDefault else default_reason t (const_type_there v))

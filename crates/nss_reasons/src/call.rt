@@ -67,7 +67,7 @@ fn untaken(xs: &[Expression], params: &[Param]) -> Option<Reason>
         let (x, wanted) = (&xs[number], params[number].ty);
         if !takes(wanted, x) {
             return Some(Reason::Argument {
-                number,
+                number: number + 1,
                 given: x.ty(),
                 wanted,
             });

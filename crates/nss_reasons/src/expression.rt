@@ -20,9 +20,7 @@ ghost use Rattle.nss_reasons.specs.Why.{prefix_reason};
 use crate::call::call_why;
 use crate::found::note;
 use crate::reason::Reason;
-use crate::value::{
-    assign_why, binary_why, condition_why, member_why, postfix_why, prefix_why,
-};
+use crate::value::{assign_why, binary_why, condition_why, member_why, postfix_why, prefix_why};
 use nss_expressions::called::{callee, others, takes_action, types_wanted};
 use nss_expressions::expression::expression as typed_expression;
 use nss_expressions::given::Given;

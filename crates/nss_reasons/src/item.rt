@@ -15,8 +15,9 @@ ghost use Rattle.nss_reasons.specs.Reasons.{parameter_by, parameter_why, params_
 ghost use Rattle.nss_reasons.specs.Reasons.{stmts_nodes};
 ghost use Rattle.nss_reasons.specs.Seen.{noted, seen};
 ghost use Rattle.nss_reasons.specs.Why.{because, constant_reason, const_type_there};
+ghost use Rattle.nss_reasons.specs.Why.{default_reason};
 
-use crate::declared::{names, value_fits, value_reason};
+use crate::declared::{names, value_fits};
 use crate::found::note;
 use crate::reason::Reason;
 use crate::statement::statements;
@@ -42,6 +43,22 @@ fn default_type(value: &Option<Const>) -> Option<Ty>
     }
 }
 
+/// What is wrong with a default of this type, or with the cells of its parameter.
+fn default_reason(wanted: Ty, given: Option<Ty>) -> Reason
+    ensures { result ≡ default_reason wanted given }
+{
+    match given {
+        None => Reason::Cells,
+        Some(given) => {
+            if same_type(wanted, given) {
+                Reason::Cells
+            } else {
+                Reason::Default { given, wanted }
+            }
+        }
+    }
+}
+
 /// A parameter of this type and this default; `late` says that one with a default stands before.
 fn parameter_by(
     table: &Table,
@@ -61,7 +78,7 @@ fn parameter_by(
     }
     let given = default_type(value);
     if !value_fits(ty, given) || c.crosses_with(c.structs.cells(ty)) {
-        return Some(value_reason(ty, given));
+        return Some(default_reason(ty, given));
     }
     None
 }
@@ -248,7 +265,10 @@ fn own_constant(
     let mut ignored = None;
     let ty = constant_line_type(&mut ignored, k, &c.structs, ty);
     let value = constant(given.alloc, given.table, c, &mut ignored, value)?;
-    note(found, constant_by(given.table, c, name.name.bytes(), ty, &value));
+    note(
+        found,
+        constant_by(given.table, c, name.name.bytes(), ty, &value),
+    );
     drop(value);
     Ok(())
 }
@@ -281,7 +301,10 @@ fn item(
     match x {
         Item::Struct { .. } => go_behind(given, c, x),
         Item::Const {
-            ty, name, value, ..
+            ty,
+            name,
+            value,
+            ..
         } => {
             own_constant(given, c, k, found, ty, name, value)?;
             go_behind(given, c, x)
@@ -301,15 +324,7 @@ fn item(
             body,
             ..
         } => {
-            function(
-                given,
-                c,
-                k,
-                found,
-                result,
-                parameters.as_slice(),
-                body,
-            )?;
+            function(given, c, k, found, result, parameters.as_slice(), body)?;
             go_behind(given, c, x)
         }
     }

@@ -5,9 +5,14 @@ use nwq_value::Ty;
 #[derive(Clone, Copy)]
 pub enum Reason {
     /// The operator joins values of these types, and they don't go together.
-    Operands { left: Ty, right: Ty },
+    Operands {
+        left: Ty,
+        right: Ty,
+    },
     /// The operator is given a value of this type, which is no int.
-    Operand { ty: Ty },
+    Operand {
+        ty: Ty,
+    },
     /// What is written is no variable and no member of one.
     NoPlace,
     /// A result or a parameter of the routine is of a type that is left out.
@@ -22,27 +27,50 @@ pub enum Reason {
     },
     /// The call may not stand in a global's first value.
     Barred,
-    /// The first argument that its parameter doesn't take, with so many before it: its type, and the
+    /// The first argument that its parameter doesn't take, counted from 1: its type, and the
     /// parameter's.
-    Argument { number: usize, given: Ty, wanted: Ty },
+    Argument {
+        number: usize,
+        given: Ty,
+        wanted: Ty,
+    },
     /// A value of this type has no such member.
-    NoMember { of: Ty },
+    NoMember {
+        of: Ty,
+    },
     /// The condition is of this type, which is no int.
-    Condition { ty: Ty },
+    Condition {
+        ty: Ty,
+    },
     /// A value of this type, or none, is given back by a function with this result.
-    Returned { given: Option<Ty>, wanted: Ty },
+    Returned {
+        given: Option<Ty>,
+        wanted: Ty,
+    },
     /// The name stands a second time where it may stand once.
     Taken,
     /// The value has one type, and what it is given to the other.
-    Value { given: Ty, wanted: Ty },
+    Value {
+        given: Ty,
+        wanted: Ty,
+    },
+    /// The default of a parameter has one type, and the parameter the other.
+    Default {
+        given: Ty,
+        wanted: Ty,
+    },
     /// With it there are more cells than there may be.
     Cells,
     /// A case of this value stands before in the switch.
-    Again { value: i32 },
+    Again {
+        value: i32,
+    },
     /// No label may stand here.
     Misplaced,
     /// The case is of this type, which is no int.
-    Label { ty: Ty },
+    Label {
+        ty: Ty,
+    },
     /// The parameter has no default, and one before it has.
     NoDefault,
 }

@@ -1,0 +1,5 @@
+pub mod CallLemmas
+pub mod ExpressionNodes
+pub mod NodeRows
+pub mod StatementNodes
+pub mod Walked
