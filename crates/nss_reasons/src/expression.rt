@@ -215,20 +215,20 @@ fn own_assign(
     token: u32,
     operator: AssignOperator,
     place: &Expr,
-    value: &Expr,
+    from: &Expr,
 ) -> Result<(), NoMemory>
     ensures found { OnOk result (found.new ≡ noted k found.old token
         (because (assign_rule operator) assign_reason
         (two (value (heads_in given.now) (sight_in given.now c.now) (plain_expr place.now))
-        (value (heads_in given.now) (sight_in given.now c.now) (plain_expr value.now))))) }
+        (value (heads_in given.now) (sight_in given.now c.now) (plain_expr from.now))))) }
 {
     if token != k {
         return Ok(());
     }
     let place = typed(given, c, place)?;
-    match typed(given, c, value) {
-        Ok(value) => {
-            note(found, assign_why(operator, place, value));
+    match typed(given, c, from) {
+        Ok(from) => {
+            note(found, assign_why(operator, place, from));
             Ok(())
         }
         Err(error) => {

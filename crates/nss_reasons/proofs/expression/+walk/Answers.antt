@@ -160,3 +160,105 @@ expression-returns-in-Name t c =
     let hs = heads_in c.args.given.now in
     let s = sight_in c.args.given.now c.args.c.now in
     record { found = none_found (nodes hs s c.args.as_action) c.args.k _ _ (plain_name _ _ _ c.in-Name.is) c.args.found.now refl }
+
+-- ---- each kind of expression
+
+pub member-returns : goal.member-returns
+member-returns t c =
+    let hs = heads_in c.args.given.now in
+    let s = sight_in c.args.given.now c.args.c.now in
+    record { found = one_found c.own_member.result c.args.k c.args.found.now c.expression.new.found c.own_member.new.found (nodes hs s false (plain_expr c.args.of.now)) (own c.args.token _) c.in_ok-expression.ensures.found c.own_member.ensures.found }
+
+pub prefix-returns : goal.prefix-returns
+prefix-returns t c =
+    let hs = heads_in c.args.given.now in
+    let s = sight_in c.args.given.now c.args.c.now in
+    record { found = one_found c.own_prefix.result c.args.k c.args.found.now c.expression.new.found c.own_prefix.new.found (nodes hs s false (plain_expr c.args.of.now)) (own c.args.token _) c.in_ok-expression.ensures.found c.own_prefix.ensures.found }
+
+pub postfix-returns : goal.postfix-returns
+postfix-returns t c =
+    let hs = heads_in c.args.given.now in
+    let s = sight_in c.args.given.now c.args.c.now in
+    record { found = one_found c.own_postfix.result c.args.k c.args.found.now c.expression.new.found c.own_postfix.new.found (nodes hs s false (plain_expr c.args.of.now)) (own c.args.token _) c.in_ok-expression.ensures.found c.own_postfix.ensures.found }
+
+pub binary-returns : goal.binary-returns
+binary-returns t c =
+    let hs = heads_in c.args.given.now in
+    let s = sight_in c.args.given.now c.args.c.now in
+    record {
+      found = two_found c.own_binary.result c.args.k c.args.found.now c.expression.new.found c.expression-2.new.found c.own_binary.new.found
+          (nodes hs s false (plain_expr c.args.left.now)) (nodes hs s false (plain_expr c.args.right.now)) (own c.args.token _)
+          c.in_ok-expression.ensures.found c.in_ok-expression-2.ensures.found c.own_binary.ensures.found;
+    }
+
+pub assign-returns : goal.assign-returns
+assign-returns t c =
+    let hs = heads_in c.args.given.now in
+    let s = sight_in c.args.given.now c.args.c.now in
+    record {
+      found = two_found c.own_assign.result c.args.k c.args.found.now c.expression.new.found c.expression-2.new.found c.own_assign.new.found
+          (nodes hs s false (plain_expr c.args.place.now)) (nodes hs s false (plain_expr c.args.value.now)) (own c.args.token _)
+          c.in_ok-expression.ensures.found c.in_ok-expression-2.ensures.found c.own_assign.ensures.found;
+    }
+
+pub call-returns : goal.call-returns
+call-returns t c =
+    let hs = heads_in c.args.given.now in
+    let s = sight_in c.args.given.now c.args.c.now in
+    let es = plain_exprs c.args.es.now in
+    let named = c.callee-called.ensures.callee ∙ ap (callee hs c.args.given.now.table.now) c.bytes.ensures.same in
+    let for_these = c.types_wanted.ensures.wanted ∙ ap types_wanted named in
+    record {
+      found = one_found c.own_call.result c.args.k c.args.found.now c.arguments.new.found c.own_call.new.found
+          (all_nodes hs s (wanted hs c.args.given.now.table.now c.args.name.now) es) (own c.args.token _)
+          (c.in_ok-arguments.ensures.found ∙ ap (λ ps. seen c.args.k c.args.found.now (all_nodes hs s ps es)) for_these) c.own_call.ensures.found;
+    }
+
+-- ---- arguments
+
+pub arguments-loop-e-init : goal.arguments-loop-e-init
+arguments-loop-e-init t c = refl
+
+pub arguments-loop-e-preserved : goal.arguments-loop-e-preserved
+arguments-loop-e-preserved t c =
+    let hs = heads_in c.args.given.now in
+    let s = sight_in c.args.given.now c.args.c.now in
+    row_found (argument_laws hs s) c.args.es.now c.loop-e.e-index _ c.e-item.result c.loop-e-test.true c.e-item.is c.loop-e.rest.now c.others-rest.result.now c.others-rest.ensures.others
+    c.args.k c.loop-e.found c.expression.new.found _
+    (c.in_ok-expression.ensures.found ∙ ap (λ b. seen c.args.k c.loop-e.found (nodes hs s b (plain_expr c.e-item.result))) c.takes_action.ensures.test) c.loop-e.invariant
+
+pub arguments-returns : goal.arguments-returns
+arguments-returns t c =
+    record {
+      found = row_end_found (argument_laws (heads_in c.args.given.now)
+          (sight_in c.args.given.now c.args.c.now)) c.args.es.now c.loop-e.e-index (omega (arith, c.loop-e-test.false)) c.loop-e.rest.now c.args.k c.loop-e.found _ c.loop-e.invariant;
+    }
+
+-- ---- where memory is short
+
+pub call-returns-in_err-arguments : goal.call-returns-in_err-arguments
+call-returns-in_err-arguments t c = record { found = err_on c.from_residual.result _ c.from_residual.ensures.0 }
+
+pub member-returns-in_err-expression : goal.member-returns-in_err-expression
+member-returns-in_err-expression t c = record { found = err_on c.from_residual.result _ c.from_residual.ensures.0 }
+
+pub prefix-returns-in_err-expression : goal.prefix-returns-in_err-expression
+prefix-returns-in_err-expression t c = record { found = err_on c.from_residual.result _ c.from_residual.ensures.0 }
+
+pub postfix-returns-in_err-expression : goal.postfix-returns-in_err-expression
+postfix-returns-in_err-expression t c = record { found = err_on c.from_residual.result _ c.from_residual.ensures.0 }
+
+pub binary-returns-in_err-expression : goal.binary-returns-in_err-expression
+binary-returns-in_err-expression t c = record { found = err_on c.from_residual.result _ c.from_residual.ensures.0 }
+
+pub binary-returns-in_err-expression-2 : goal.binary-returns-in_err-expression-2
+binary-returns-in_err-expression-2 t c = record { found = err_on c.from_residual.result _ c.from_residual.ensures.0 }
+
+pub assign-returns-in_err-expression : goal.assign-returns-in_err-expression
+assign-returns-in_err-expression t c = record { found = err_on c.from_residual.result _ c.from_residual.ensures.0 }
+
+pub assign-returns-in_err-expression-2 : goal.assign-returns-in_err-expression-2
+assign-returns-in_err-expression-2 t c = record { found = err_on c.from_residual.result _ c.from_residual.ensures.0 }
+
+pub arguments-returns-in_err-expression : goal.arguments-returns-in_err-expression
+arguments-returns-in_err-expression t c = record { found = err_on c.from_residual.result _ c.from_residual.ensures.0 }

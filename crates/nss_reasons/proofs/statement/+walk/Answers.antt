@@ -285,3 +285,167 @@ switch-statements-walked-requires t c = (omega (arith, c.decreases), tt)
 
 pub while_loop-in_loop-requires : goal.while_loop-in_loop-requires
 while_loop-in_loop-requires t c = (omega (arith, c.decreases), tt)
+
+-- ---- each kind of statement
+
+pub block-returns : goal.block-returns
+block-returns t c =
+    let hs = heads_in c.args.given.now in
+    let s = sight_in c.args.given.now c.args.sight.now in
+    let xs = plain_stmts c.args.items.now in
+    let is = c.enter-mark.ensures.entered c.args.given.now.table.now in
+    record {
+      found = subst (λ z. OnOk c.statements-walked.result (c.statements-walked.new.found ≡ seen c.args.k c.args.found.now (stmts_nodes hs z xs))) is c.statements-walked.ensures.found;
+      sight =
+          on_ok c.statements-walked.result
+          (λ behind. c.scopes_are_left.ensures.left c.args.given.now.table.now c.args.sight.now c.statements-walked.new.sight c.leave.new.self c.enter-mark.result (scope_entered s) (afters (scope_entered s) xs)
+          refl refl refl refl (c.scopes_only_add.ensures.statements (scope_entered s) xs) c.leave.ensures.left c.enter-mark.ensures.mark (behind ∙ ap (λ k. afters k xs) is))
+          c.statements-walked.ensures.sight;
+    }
+
+pub if_only-returns : goal.if_only-returns
+if_only-returns t c =
+    let hs = heads_in c.args.given.now in
+    let s = sight_in c.args.given.now c.args.sight.now in
+    record {
+      found = one_found c.in_branch.result c.args.k c.args.found.now c.condition.new.found c.in_branch.new.found
+          (condition_nodes hs s c.args.token (plain_expr c.args.e.now)) (stmt_nodes hs (inside s) (plain_stmt c.args.then.now)) c.in_ok-condition.ensures.found c.in_branch.ensures.found;
+      sight = c.in_branch.ensures.sight;
+    }
+
+pub while_loop-returns : goal.while_loop-returns
+while_loop-returns t c =
+    let hs = heads_in c.args.given.now in
+    let s = sight_in c.args.given.now c.args.sight.now in
+    record {
+      found = one_found c.in_loop.result c.args.k c.args.found.now c.condition.new.found c.in_loop.new.found
+          (condition_nodes hs s c.args.token (plain_expr c.args.e.now)) (stmt_nodes hs (looped s) (plain_stmt c.args.body.now)) c.in_ok-condition.ensures.found c.in_loop.ensures.found;
+      sight = c.in_loop.ensures.sight;
+    }
+
+pub do_loop-returns : goal.do_loop-returns
+do_loop-returns t c =
+    let hs = heads_in c.args.given.now in
+    let s = sight_in c.args.given.now c.args.sight.now in
+    record {
+      found = one_found c.in_loop.result c.args.k c.args.found.now c.condition.new.found c.in_loop.new.found
+          (condition_nodes hs s c.args.token (plain_expr c.args.e.now)) (stmt_nodes hs (looped s) (plain_stmt c.args.body.now)) c.in_ok-condition.ensures.found c.in_loop.ensures.found;
+      sight = c.in_loop.ensures.sight;
+    }
+
+pub if_else-returns : goal.if_else-returns
+if_else-returns t c =
+    let hs = heads_in c.args.given.now in
+    let s = sight_in c.args.given.now c.args.sight.now in
+    let a = plain_stmt c.args.then.now in
+    let b = plain_stmt c.args.otherwise.now in
+    let between = left s (after (inside s) a) in
+    let is = c.in_ok-in_branch.ensures.sight in
+    record {
+      found = two_found c.in_branch-2.result c.args.k c.args.found.now c.condition.new.found c.in_branch.new.found c.in_branch-2.new.found
+          (condition_nodes hs s c.args.token (plain_expr c.args.e.now)) (stmt_nodes hs (inside s) a) (stmt_nodes hs (inside between) b)
+          c.in_ok-condition.ensures.found c.in_ok-in_branch.ensures.found
+          (subst (λ z. OnOk c.in_branch-2.result (c.in_branch-2.new.found ≡ seen c.args.k c.in_branch.new.found (stmt_nodes hs (inside z) b))) is c.in_branch-2.ensures.found);
+      sight = subst (λ z. OnOk c.in_branch-2.result (sight_in c.args.given.now c.in_branch-2.new.sight ≡ left z (after (inside z) b))) is c.in_branch-2.ensures.sight;
+    }
+
+pub for_loop-returns : goal.for_loop-returns
+for_loop-returns t c =
+    let hs = heads_in c.args.given.now in
+    let s = sight_in c.args.given.now c.args.sight.now in
+    record {
+      found = three_found c.in_loop.result c.args.k c.args.found.now c.for_head.new.found c.in_loop.new.found
+          (nodes_there (value_nodes hs s) (option_map plain_expr c.args.start.now))
+          (nodes_there (condition_nodes hs s c.args.token) (option_map plain_expr c.args.e.now))
+          (nodes_there (value_nodes hs s) (option_map plain_expr c.args.step.now))
+          (stmt_nodes hs (looped s) (plain_stmt c.args.body.now)) c.in_ok-for_head.ensures.found c.in_loop.ensures.found;
+      sight = c.in_loop.ensures.sight;
+    }
+
+pub switch-returns : goal.switch-returns
+switch-returns t c =
+    let hs = heads_in c.args.given.now in
+    let s = sight_in c.args.given.now c.args.sight.now in
+    let xs = plain_stmts c.args.body.now in
+    let is = c.enter_switch-mark.ensures.switched c.args.given.now.table.now in
+    record {
+      found = one_found c.statements-walked.result c.args.k c.args.found.now c.condition.new.found c.statements-walked.new.found
+          (condition_nodes hs s c.args.token (plain_expr c.args.value.now)) (stmts_nodes hs (switched s) xs) c.in_ok-condition.ensures.found
+          (subst (λ z. OnOk c.statements-walked.result (c.statements-walked.new.found ≡ seen c.args.k c.condition.new.found (stmts_nodes hs z xs))) is c.statements-walked.ensures.found);
+      sight =
+          on_ok c.statements-walked.result
+          (λ behind. c.scopes_are_left.ensures.left c.args.given.now.table.now c.args.sight.now c.statements-walked.new.sight c.leave.new.self c.enter_switch-mark.result (switched s) (afters (switched s) xs)
+          refl refl refl refl (c.scopes_only_add.ensures.statements (switched s) xs) c.leave.ensures.left c.enter_switch-mark.ensures.mark (behind ∙ ap (λ k. afters k xs) is))
+          c.statements-walked.ensures.sight;
+    }
+
+-- ---- statements in a row
+
+pub statements-loop-one-init : goal.statements-loop-one-init
+statements-loop-one-init t c = (refl, refl)
+
+pub statements-loop-one-preserved : goal.statements-loop-one-preserved
+statements-loop-one-preserved t c = (
+  row_found (stmt_laws (heads_in c.args.given.now)) c.args.statements.now c.loop-one.one-index _ c.one-item.result c.loop-one-test.true c.one-item.is (sight_in c.args.given.now c.loop-one.sight)
+      (sight_in c.args.given.now c.statement.new.sight) c.in_ok-statement.ensures.sight c.args.k c.loop-one.found c.statement.new.found _ c.in_ok-statement.ensures.found c.loop-one.invariant.0,
+  row_sight (stmt_laws (heads_in c.args.given.now)) c.args.statements.now c.loop-one.one-index _ c.one-item.result c.loop-one-test.true c.one-item.is (sight_in c.args.given.now c.loop-one.sight)
+      (sight_in c.args.given.now c.statement.new.sight) c.in_ok-statement.ensures.sight _ c.loop-one.invariant.1,
+)
+
+pub statements-returns : goal.statements-returns
+statements-returns t c = record {
+  found = row_end_found (stmt_laws (heads_in c.args.given.now)) c.args.statements.now c.loop-one.one-index (omega (arith, c.loop-one-test.false))
+      (sight_in c.args.given.now c.loop-one.sight) c.args.k c.loop-one.found _ c.loop-one.invariant.0;
+  sight = row_end_sight (stmt_laws (heads_in c.args.given.now)) c.args.statements.now c.loop-one.one-index (omega (arith, c.loop-one-test.false))
+      (sight_in c.args.given.now c.loop-one.sight) _ c.loop-one.invariant.1;
+}
+
+-- ---- where memory is short
+
+pub if_only-returns-in_err-condition : goal.if_only-returns-in_err-condition
+if_only-returns-in_err-condition t c =
+    let r = c.from_residual.result in
+    let h = c.from_residual.ensures.0 in
+    record { found = err_on r _ h; sight = err_on r _ h }
+
+pub if_else-returns-in_err-condition : goal.if_else-returns-in_err-condition
+if_else-returns-in_err-condition t c =
+    let r = c.from_residual.result in
+    let h = c.from_residual.ensures.0 in
+    record { found = err_on r _ h; sight = err_on r _ h }
+
+pub if_else-returns-in_err-in_branch : goal.if_else-returns-in_err-in_branch
+if_else-returns-in_err-in_branch t c =
+    let r = c.from_residual.result in
+    let h = c.from_residual.ensures.0 in
+    record { found = err_on r _ h; sight = err_on r _ h }
+
+pub while_loop-returns-in_err-condition : goal.while_loop-returns-in_err-condition
+while_loop-returns-in_err-condition t c =
+    let r = c.from_residual.result in
+    let h = c.from_residual.ensures.0 in
+    record { found = err_on r _ h; sight = err_on r _ h }
+
+pub do_loop-returns-in_err-condition : goal.do_loop-returns-in_err-condition
+do_loop-returns-in_err-condition t c =
+    let r = c.from_residual.result in
+    let h = c.from_residual.ensures.0 in
+    record { found = err_on r _ h; sight = err_on r _ h }
+
+pub for_loop-returns-in_err-for_head : goal.for_loop-returns-in_err-for_head
+for_loop-returns-in_err-for_head t c =
+    let r = c.from_residual.result in
+    let h = c.from_residual.ensures.0 in
+    record { found = err_on r _ h; sight = err_on r _ h }
+
+pub switch-returns-in_err-condition : goal.switch-returns-in_err-condition
+switch-returns-in_err-condition t c =
+    let r = c.from_residual.result in
+    let h = c.from_residual.ensures.0 in
+    record { found = err_on r _ h; sight = err_on r _ h }
+
+pub statements-returns-in_err-statement : goal.statements-returns-in_err-statement
+statements-returns-in_err-statement t c =
+    let r = c.from_residual.result in
+    let h = c.from_residual.ensures.0 in
+    record { found = err_on r _ h; sight = err_on r _ h }
