@@ -130,11 +130,20 @@ abbrev pub fits_type : Ty → Option Ty → Bool
 fits_type t None = true
 fits_type t (Some s) = same_type t s
 
+-- by whether the name is taken, the value fits and the cells are too many
+abbrev pub declared_by : Bool → Bool → Bool → Reason → Option Reason
+declared_by taken fits crosses r =
+    if taken then Some Taken else (if fits && not crosses then None else Some r)
+
 -- the same, by the type of the value that is given, if one is
 abbrev pub declared_why : Sight → List ℕ → Ty → Option Ty → Option Reason
-declared_why c x t s = if is_taken c x then Some Taken else
-    (if fits_type t s && not (crosses_with c (cells c.structs t)) then None
-    else Some (value_reason t s))
+declared_why c x t s = declared_by (is_taken c x) (fits_type t s)
+    (crosses_with c (cells c.structs t)) (value_reason t s)
+
+-- and of a parameter, by whether one with a default stands before and this one has none
+abbrev pub parameter_by_tests : Bool → Bool → Bool → Bool → Reason → Option Reason
+parameter_by_tests taken behind fits crosses r = if taken then Some Taken else
+    (if behind then Some NoDefault else (if fits && not crosses then None else Some r))
 
 abbrev pub constant_reason : Sight → List ℕ → Ty × Const → Reason
 constant_reason c x p = if is_taken c x then Taken else Value (const_type p.1) p.0

@@ -12,8 +12,8 @@ ghost use Rattle.nss_scopes.specs.Views.{in_sight};
 ghost use Rattle.nss_expressions.specs.Views.{heads_in, sight_in};
 ghost use Rattle.nss_reasons.specs.Reasons.{names_nodes, nodes_there, value_nodes, variable_why};
 ghost use Rattle.nss_reasons.specs.Seen.{noted, own, seen};
-ghost use Rattle.nss_reasons.specs.Why.{because, declared_why, fits_type, value_reason};
-ghost use Rattle.nss_reasons.specs.Why.{variable_reason};
+ghost use Rattle.nss_reasons.specs.Why.{because, declared_by, declared_why, fits_type};
+ghost use Rattle.nss_reasons.specs.Why.{value_reason, variable_reason};
 
 use crate::expression::{expression, typed};
 use crate::found::note;
@@ -89,6 +89,19 @@ pub fn value_fits(wanted: Ty, given: Option<Ty>) -> bool
     }
 }
 
+/// What is wrong with a declared name, if something is.
+fn declared_by(taken: bool, fits: bool, crosses: bool, reason: Reason) -> Option<Reason>
+    ensures { result ≡ declared_by taken fits crosses reason }
+{
+    if taken {
+        Some(Reason::Taken)
+    } else if fits && !crosses {
+        None
+    } else {
+        Some(reason)
+    }
+}
+
 /// A name that is declared with this type and a value of this type, if one is written.
 fn declared_why(
     table: &Table,
@@ -99,13 +112,11 @@ fn declared_why(
 ) -> Option<Reason>
     ensures { result ≡ declared_why (in_sight table.now c.now) name.now.name ty given }
 {
-    if c.is_taken(table, name.name.bytes()) {
-        return Some(Reason::Taken);
-    }
-    if !value_fits(ty, given) || c.crosses_with(c.structs.cells(ty)) {
-        return Some(value_reason(ty, given));
-    }
-    None
+    let taken = c.is_taken(table, name.name.bytes());
+    let fits = value_fits(ty, given);
+    let crosses = c.crosses_with(c.structs.cells(ty));
+    let reason = value_reason(ty, given);
+    declared_by(taken, fits, crosses, reason)
 }
 
 /// A name that is declared with this type and this first value.

@@ -1,10 +1,11 @@
 //! The walk over the items of a unit.
 
 ghost use Rattle.std.specs.Prelude.{◌≡◌, false, OnOk, map};
-ghost use Rattle.std.specs.Option.{option_map};
+ghost use Rattle.std.specs.Option.{option_and_then, option_map};
 ghost use Rattle.nss_tree.specs.Reading.{plain_item, plain_stmts};
 ghost use Rattle.typing_rules.specs.Nodes.{two};
-ghost use Rattle.typing_rules.specs.Rules.{constant_name_rule};
+ghost use Rattle.typing_rules.specs.Rules.{constant_name_rule, is_behind};
+ghost use Rattle.typing_rules.specs.Types.{same_type};
 ghost use Rattle.typing_rules.specs.Verdicts.{after_body, after_item, after_items, after_params};
 ghost use Rattle.typing_rules.specs.Verdicts.{in_body, in_function, late_after};
 ghost use Rattle.typing_rules.specs.Verdicts.{parameter_declared};
@@ -15,7 +16,8 @@ ghost use Rattle.nss_reasons.specs.Reasons.{parameter_by, parameter_why, params_
 ghost use Rattle.nss_reasons.specs.Reasons.{stmts_nodes};
 ghost use Rattle.nss_reasons.specs.Seen.{noted, seen};
 ghost use Rattle.nss_reasons.specs.Why.{because, constant_reason, const_type_there};
-ghost use Rattle.nss_reasons.specs.Why.{default_reason};
+ghost use Rattle.nss_reasons.specs.Why.{declared_by, default_reason, parameter_by_tests};
+ghost use Rattle.nss_reasons.specs.declared.reason.Reason.TheVariants.{Value};
 
 use crate::declared::{names, value_fits};
 use crate::found::note;
@@ -59,6 +61,34 @@ fn default_reason(wanted: Ty, given: Option<Ty>) -> Reason
     }
 }
 
+/// What is wrong with a parameter, if something is.
+fn parameter_by_tests(
+    taken: bool,
+    behind: bool,
+    fits: bool,
+    crosses: bool,
+    reason: Reason,
+) -> Option<Reason>
+    ensures { result ≡ parameter_by_tests taken behind fits crosses reason }
+{
+    if taken {
+        Some(Reason::Taken)
+    } else if behind {
+        Some(Reason::NoDefault)
+    } else if fits && !crosses {
+        None
+    } else {
+        Some(reason)
+    }
+}
+
+/// Whether one with a default stands before, and this one has none.
+fn is_behind(late: bool, value: &Option<Const>) -> bool
+    ensures { result ≡ is_behind late value.now }
+{
+    if late { value.is_none() } else { false }
+}
+
 /// A parameter of this type and this default; `late` says that one with a default stands before.
 fn parameter_by(
     table: &Table,
@@ -70,17 +100,41 @@ fn parameter_by(
 ) -> Option<Reason>
     ensures { result ≡ parameter_by (in_sight table.now c.now) late p.now (ty, value.now) }
 {
-    if c.is_taken(table, p.name.bytes()) {
-        return Some(Reason::Taken);
-    }
-    if late && value.is_none() {
-        return Some(Reason::NoDefault);
-    }
+    let taken = c.is_taken(table, p.name.bytes());
+    let behind = is_behind(late, value);
     let given = default_type(value);
-    if !value_fits(ty, given) || c.crosses_with(c.structs.cells(ty)) {
-        return Some(default_reason(ty, given));
+    let fits = value_fits(ty, given);
+    let crosses = c.crosses_with(c.structs.cells(ty));
+    let reason = default_reason(ty, given);
+    parameter_by_tests(taken, behind, fits, crosses, reason)
+}
+
+/// A parameter of this type and this default, if they are typed.
+fn parameter_why(
+    table: &Table,
+    c: &Sight,
+    late: bool,
+    p: &Parameter,
+    ty: Option<Ty>,
+    value: Option<Option<Const>>,
+) -> Option<Reason>
+    ensures { result ≡ option_and_then (parameter_by (in_sight table.now c.now) late p.now)
+        (two ty value) }
+{
+    match ty {
+        None => {
+            drop(value);
+            None
+        }
+        Some(ty) => match value {
+            None => None,
+            Some(value) => {
+                let why = parameter_by(table, c, late, p, ty, &value);
+                drop(value);
+                why
+            }
+        },
     }
-    None
 }
 
 /// A parameter by itself.
@@ -100,10 +154,8 @@ fn own_parameter(
     }
     let mut ignored = None;
     let value = constant_there(given.alloc, given.table, c, &mut ignored, &p.default)?;
-    if let (Some(ty), Some(value)) = (declared_type(&c.structs, &p.ty), value) {
-        note(found, parameter_by(given.table, c, late, p, ty, &value));
-        drop(value);
-    }
+    let ty = declared_type(&c.structs, &p.ty);
+    note(found, parameter_why(given.table, c, late, p, ty, value));
     Ok(())
 }
 
@@ -222,28 +274,44 @@ fn function(
     walked
 }
 
-/// A constant's name with this type and this value.
-fn constant_by(
-    table: &Table,
-    c: &Sight,
-    name: &[u8],
-    ty: Option<Ty>,
-    value: &Option<Const>,
-) -> Option<Reason>
-    ensures { result ≡ because (constant_name_rule (in_sight table.now c.now) name.now)
-        (constant_reason (in_sight table.now c.now) name.now) (two ty value.now) }
+/// A constant's name with this type and a value of this type.
+fn constant_by(taken: bool, wanted: Ty, given: Ty) -> Option<Reason>
+    ensures { result ≡ declared_by taken (same_type wanted given) false (Value given wanted) }
 {
-    let (Some(wanted), Some(value)) = (ty, value) else {
-        return None;
-    };
-    if c.is_taken(table, name) {
+    if taken {
         return Some(Reason::Taken);
     }
-    let given = value.ty();
     if same_type(wanted, given) {
         return None;
     }
     Some(Reason::Value { given, wanted })
+}
+
+/// A constant's name with this type and this value, if they are typed.
+fn constant_why(
+    table: &Table,
+    c: &Sight,
+    name: &[u8],
+    ty: Option<Ty>,
+    value: Option<Const>,
+) -> Option<Reason>
+    ensures { result ≡ because (constant_name_rule (in_sight table.now c.now) name.now)
+        (constant_reason (in_sight table.now c.now) name.now) (two ty value) }
+{
+    match ty {
+        None => {
+            drop(value);
+            None
+        }
+        Some(ty) => match value {
+            None => None,
+            Some(value) => {
+                let given = value.ty();
+                drop(value);
+                constant_by(c.is_taken(table, name), ty, given)
+            }
+        },
+    }
 }
 
 /// The name of a const line by itself.
@@ -267,9 +335,8 @@ fn own_constant(
     let value = constant(given.alloc, given.table, c, &mut ignored, value)?;
     note(
         found,
-        constant_by(given.table, c, name.name.bytes(), ty, &value),
+        constant_why(given.table, c, name.name.bytes(), ty, value),
     );
-    drop(value);
     Ok(())
 }
 

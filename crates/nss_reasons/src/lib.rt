@@ -9,6 +9,7 @@
 
 #[tactic(auto, using(crate::proofs::CallLemmas::filled_is, crate::proofs::CallLemmas::count_is))]
 pub mod call;
+#[tactic(auto, using(crate::specs::Seen::seen_append))]
 pub mod declared;
 #[tactic(auto, using(nss_tree::specs::Readings::plain_cases, crate::specs::Seen::seen_append))]
 pub mod expression;

@@ -4,7 +4,7 @@ ghost use Rattle.std.specs.Prelude.{◌≡◌, OnOk, Some};
 ghost use Rattle.std.specs.Option.{option_map};
 ghost use Rattle.nss_tree.specs.Reading.{plain_expr, plain_names, plain_stmt, plain_stmts};
 ghost use Rattle.nss_tree.specs.Statements as tree;
-ghost use Rattle.typing_rules.specs.Rules.{case_rule};
+ghost use Rattle.typing_rules.specs.Rules.{case_rule, is_again, is_outside};
 ghost use Rattle.typing_rules.specs.Sight.{case_seen, inside, left, looped};
 ghost use Rattle.typing_rules.specs.Verdicts.{after, afters, constant_value};
 ghost use Rattle.nss_scopes.specs.Views.{in_sight};
@@ -24,6 +24,7 @@ use crate::value::return_why;
 use nss_expressions::constant::constant;
 use nss_expressions::given::Given;
 use nss_expressions::line::line_type;
+use nss_expressions::rules::is_int;
 use nss_scopes::laws::scopes_are_left;
 use nss_scopes::{Labels, Sight};
 use nss_tree::{Constant, DeclaredName, Expr, Stmt, TypeName};
@@ -443,15 +444,10 @@ fn declaration(
 fn label_reason(labels: &Option<Labels>, ty: Ty) -> Reason
     ensures { result ≡ label_reason labels.now ty }
 {
-    match labels {
-        None => Reason::Misplaced,
-        Some(labels) => {
-            if labels.is_late() {
-                Reason::Misplaced
-            } else {
-                Reason::Label { ty }
-            }
-        }
+    if is_outside(labels) {
+        Reason::Misplaced
+    } else {
+        Reason::Label { ty }
     }
 }
 
@@ -482,19 +478,36 @@ fn case_reason(labels: &Option<Labels>, value: &Const) -> Reason
     }
 }
 
+/// Whether this case stood before in its switch.
+fn is_again(labels: &Option<Labels>, value: &Const) -> bool
+    ensures { result ≡ is_again labels.now value.now }
+{
+    match labels {
+        Some(labels) => match value {
+            Const::Int(value) => labels.has_case(*value),
+            Const::Text(_) => false,
+            Const::SelfObject => false,
+            Const::InvalidObject => false,
+        },
+        None => false,
+    }
+}
+
+/// Whether no label may stand here.
+fn is_outside(labels: &Option<Labels>) -> bool
+    ensures { result ≡ is_outside labels.now }
+{
+    match labels {
+        Some(labels) => labels.is_late(),
+        None => true,
+    }
+}
+
 /// Whether a case of this value may stand among labels.
-fn fits(labels: &Option<Labels>, value: &Const) -> bool
+fn label_fits(labels: &Option<Labels>, value: &Const) -> bool
     ensures { result ≡ label_fits labels.now value.now }
 {
-    match value {
-        Const::Int(value) => match labels {
-            None => false,
-            Some(labels) => !labels.has_case(*value) && !labels.is_late(),
-        },
-        Const::Text(_) => false,
-        Const::SelfObject => false,
-        Const::InvalidObject => false,
-    }
+    !is_again(labels, value) && (!is_outside(labels) && is_int(value.ty()))
 }
 
 /// A case of this value by itself.
@@ -502,7 +515,7 @@ fn case_why(labels: &Option<Labels>, token: u32, value: &Const) -> Option<Reason
     ensures { result
         ≡ because (case_rule labels.now token) (case_reason labels.now) (Some value.now) }
 {
-    if fits(labels, value) {
+    if label_fits(labels, value) {
         None
     } else {
         Some(case_reason(labels, value))
