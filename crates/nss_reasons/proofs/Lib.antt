@@ -1,5 +1,6 @@
 pub mod CallLemmas
 pub mod ExpressionNodes
+pub mod FunctionScope
 pub mod JudgedNames
 pub mod NodeRows
 pub mod StatementNodes

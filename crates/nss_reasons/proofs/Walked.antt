@@ -1,8 +1,8 @@
 -- What is found at a node, its parts being walked.
-use Rattle.std.proofs.Common.{◌≡◌, ℕ, ◌==◌, false, List, [], ◌∷◌, ◌++◌, Option, None, Result, Ok, Err, sym, ap, subst, ◌∙◌, refl}
+use Rattle.std.proofs.Common.{◌≡◌, ℕ, ◌==◌, Bool, true, false, if◌then◌else◌, List, [], ◌∷◌, ◌++◌, Option, None, Some, Result, Ok, Err, sym, ap, subst, ◌∙◌, refl}
 use Rattle.std.specs.Result.{OnOk}
 use Rattle.nss_reasons.specs.declared.reason.Reason.{Reason}
-use Rattle.nss_reasons.specs.Seen.{Node, own, noted, seen, seen_append}
+use Rattle.nss_reasons.specs.Seen.{Node, first_of, own, noted, seen, seen_append}
 
 -- from a node to what it is known to be
 pub node_found : {A E D : Type 0} (r : Result A E) (F : D → List Node) (k : ℕ) (e d : D) → e ≡ d
@@ -44,3 +44,12 @@ always (Err e) h = tt
 pub node_sight : {A E D C : Type 0} (r : Result A E) (e d : D) → e ≡ d → (after : D → C) (c : C)
     → OnOk r (c ≡ after d) → OnOk r (c ≡ after e)
 node_sight r e d node after c h = subst (λ y. OnOk r (c ≡ after y)) (sym node) h
+
+-- a node without a reason
+pub none_noted : (k : ℕ) (o : Option Reason) (n : ℕ) → o ≡ noted k o n None
+none_noted k o n = by (n == k) o
+  where
+    by : (b : Bool) (o : Option Reason) → o ≡ (if b then first_of o None else o)
+    by true None = refl
+    by true (Some r) = refl
+    by false o = refl

@@ -14,6 +14,7 @@ pub mod declared;
 #[tactic(auto, using(nss_tree::specs::Readings::plain_cases, crate::specs::Seen::seen_append))]
 pub mod expression;
 pub mod found;
+#[tactic(auto, using(crate::specs::Seen::seen_append))]
 pub mod item;
 pub mod reason;
 #[tactic(auto, using(crate::specs::Seen::seen_append))]

@@ -73,8 +73,27 @@ fn reason_by(
     let mut found = None;
     let walked = items(&given, &mut c, token, &mut found, xs);
     drop(c);
-    walked?;
-    Ok(found)
+    match walked {
+        Ok(()) => Ok(found),
+        Err(error) => Err(error),
+    }
+}
+
+/// The reason of the node with this token of a unit of these items.
+fn reason_in(
+    alloc: Global,
+    table: &Table,
+    xs: &[Item],
+    token: u32,
+) -> Result<Option<Reason>, NoMemory>
+    ensures { IfOk result (λ r. r ≡ seen token None
+        (items_nodes (heads table.now (map plain_item xs.now)) (start table.now)
+        (map plain_item xs.now))) }
+{
+    let declared = declarations(alloc, table, xs)?;
+    let reason = reason_by(alloc, table, &declared, xs, token);
+    drop(declared);
+    reason
 }
 
 /// Why the node of a unit with this token is refused: the first reason there of the nodes whose rule
@@ -87,8 +106,5 @@ pub fn explain(
 ) -> Result<Option<Reason>, NoMemory>
     ensures reason { IfOk result (λ r. r ≡ reason_at table.now (plain_tree tree.now) token) }
 {
-    let declared = declarations(alloc, table, tree.items.as_slice())?;
-    let reason = reason_by(alloc, table, &declared, tree.items.as_slice(), token);
-    drop(declared);
-    reason
+    reason_in(alloc, table, tree.items.as_slice(), token)
 }
