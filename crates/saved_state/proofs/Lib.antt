@@ -6,4 +6,5 @@ pub mod Pieces
 pub mod Places
 mod Resuming
 pub mod Rows
+pub mod Runs
 mod Views

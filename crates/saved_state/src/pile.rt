@@ -2,6 +2,8 @@ ghost use Rattle.std.specs.Prelude.{◌≡◌, ◌<◌, ◌≤◌, ◌-◌, [], 
 ghost use Rattle.std.specs.Prelude.{slice_get};
 ghost use Rattle.std.specs.Prelude.{slice_set, Some, OnOk, OnErr, IfOk, IfSome, ◌+◌, ◌^◌};
 ghost use Rattle.std.specs.Vec.{vec_len, vec_capacity};
+ghost use Rattle.std.specs.Prelude.{if◌then◌else◌};
+ghost use Rattle.saved_state.specs.Cells.{run_written};
 ghost use Rattle.saved_state.specs.Kept.{OwnsFew, listed};
 ghost use Rattle.nwq_value.specs.declared.value.Value.TheVariants.{Int as IntValue};
 ghost use Rattle.saved_state.specs.declared.cell.Cell.TheVariants.{Value as ValueCell};
@@ -262,6 +264,31 @@ impl Pile {
         self.set(place, cell)
     }
 
+    /// Writes copies of so many cells, over which `from` lie, onto those over which `onto` lie, the
+    /// lowest first. `false` says that nothing was done, since not all of them are on top. After
+    /// `NoMemory` some of them may be written.
+    #[inline(always)]
+    #[tactic(auto, using(crate::proofs::Runs::written_on_top))]
+    pub fn copy_down(&mut self, from: usize, onto: usize, count: usize) -> Result<bool, NoMemory>
+        requires order { from ≤ onto }
+        requires inside { onto + count ≤ length self.old }
+        ensures ok { IfOk result (λ done. self.new ≡ (if done then run_written
+            (length self.old - (onto + count)) (length self.old - (from + count)) count self.old
+            else self.old)) }
+    {
+        let all = self.top.len();
+        if onto + count > all {
+            return Ok(false);
+        }
+        write_run(
+            &mut self.top,
+            all - (from + count),
+            all - (onto + count),
+            count,
+        )?;
+        Ok(true)
+    }
+
     /// Drops the topmost cell.
     #[inline(always)]
     #[tactic(auto, using(crate::proofs::Piles::less_lemmas))]
@@ -409,6 +436,61 @@ fn copy_last_apart(alloc: Global, top: &mut Vec<Cell>, index: usize) -> Result<(
 {
     let copy = top[index].copy(alloc)?;
     top.push_reserved(copy);
+    Ok(())
+}
+
+/// Writes copies of so many cells, from an index on, onto those from another index on that is no
+/// greater, so that each is read before it is written.
+#[inline(always)]
+#[tactic(auto, using(crate::proofs::Runs::write_lemmas))]
+fn write_run(top: &mut Vec<Cell>, first: usize, to: usize, count: usize) -> Result<(), NoMemory>
+    requires order { to ≤ first }
+    requires inside { first + count ≤ length top.old.items }
+    ensures ok { OnOk result (top.new.items ≡ run_written to first count top.old.items) }
+{
+    let alloc = *top.allocator();
+    let len = top.len();
+    for index in 0..count {
+        copy_over(alloc, top, first + index, to + index)?;
+    }
+    Ok(())
+}
+
+/// Puts a copy of a cell in the place of another one, which is dropped. Ints are copied here.
+#[inline(always)]
+#[tactic(auto, using(crate::proofs::Runs::one_put))]
+fn copy_over(alloc: Global, top: &mut Vec<Cell>, from: usize, onto: usize) -> Result<(), NoMemory>
+    requires from { from < length top.old.items }
+    requires onto { onto < length top.old.items }
+    ensures put { OnOk result (IfSome (slice_get top.old.items from)
+        (λ cell. top.new.items ≡ slice_set top.old.items onto cell)) }
+{
+    match &top[from] {
+        Cell::Value(Value::Int(n)) => {
+            let copy = *n;
+            put_int(top, onto, copy);
+            Ok(())
+        }
+        _ => copy_over_apart(alloc, top, from, onto),
+    }
+}
+
+/// The same by a call of its own.
+#[inline(never)]
+#[tactic(auto, using(crate::proofs::Runs::one_put))]
+fn copy_over_apart(
+    alloc: Global,
+    top: &mut Vec<Cell>,
+    from: usize,
+    onto: usize,
+) -> Result<(), NoMemory>
+    requires from { from < length top.old.items }
+    requires onto { onto < length top.old.items }
+    ensures put { OnOk result (IfSome (slice_get top.old.items from)
+        (λ cell. top.new.items ≡ slice_set top.old.items onto cell)) }
+{
+    let copy = top[from].copy(alloc)?;
+    put_over(top, onto, copy);
     Ok(())
 }
 
