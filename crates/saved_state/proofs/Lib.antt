@@ -2,6 +2,7 @@ mod Depths
 mod Examples
 pub mod Piles
 pub mod Lists
+pub mod Lasts
 pub mod Pieces
 pub mod Places
 mod Resuming

@@ -4,8 +4,9 @@ ghost use Rattle.std.specs.Prelude.{slice_set, Some, OnOk, OnErr, IfOk, IfSome, 
 ghost use Rattle.std.specs.Vec.{vec_len, vec_capacity};
 ghost use Rattle.std.specs.Prelude.{if◌then◌else◌};
 ghost use Rattle.saved_state.specs.Cells.{run_written};
-ghost use Rattle.saved_state.specs.Kept.{OwnsFew, listed};
+ghost use Rattle.saved_state.specs.Kept.{EndsWithInt, OwnsFew, listed};
 ghost use Rattle.nwq_value.specs.declared.value.Value.TheVariants.{Int as IntValue};
+ghost use Rattle.nwq_value.specs.declared.value.Value.TheVariants.{Object as ObjectValue};
 ghost use Rattle.saved_state.specs.declared.cell.Cell.TheVariants.{Value as ValueCell};
 
 use crate::cell::Cell;
@@ -402,7 +403,7 @@ fn copy_up(top: &mut Vec<Cell>, first: usize, count: usize) -> Result<(), NoMemo
     Ok(())
 }
 
-/// Puts a copy of the cell at an index last. Most are ints, which are copied here.
+/// Puts a copy of the cell at an index last. Ints and objects are copied here.
 #[inline(always)]
 #[tactic(auto, using(crate::proofs::Piles::last_copy))]
 fn copy_last(alloc: Global, top: &mut Vec<Cell>, index: usize) -> Result<(), NoMemory>
@@ -417,6 +418,11 @@ fn copy_last(alloc: Global, top: &mut Vec<Cell>, index: usize) -> Result<(), NoM
         Cell::Value(Value::Int(n)) => {
             let copy = *n;
             top.push_reserved(Cell::Value(Value::Int(copy)));
+            Ok(())
+        }
+        Cell::Value(Value::Object(n)) => {
+            let copy = *n;
+            top.push_reserved(Cell::Value(Value::Object(copy)));
             Ok(())
         }
         _ => copy_last_apart(alloc, top, index),
@@ -456,7 +462,8 @@ fn write_run(top: &mut Vec<Cell>, first: usize, to: usize, count: usize) -> Resu
     Ok(())
 }
 
-/// Puts a copy of a cell in the place of another one, which is dropped. Ints are copied here.
+/// Puts a copy of a cell in the place of another one, which is dropped. Ints and objects are
+/// copied here.
 #[inline(always)]
 #[tactic(auto, using(crate::proofs::Runs::one_put))]
 fn copy_over(alloc: Global, top: &mut Vec<Cell>, from: usize, onto: usize) -> Result<(), NoMemory>
@@ -469,6 +476,11 @@ fn copy_over(alloc: Global, top: &mut Vec<Cell>, from: usize, onto: usize) -> Re
         Cell::Value(Value::Int(n)) => {
             let copy = *n;
             put_int(top, onto, copy);
+            Ok(())
+        }
+        Cell::Value(Value::Object(n)) => {
+            let copy = *n;
+            put_object(top, onto, copy);
             Ok(())
         }
         _ => copy_over_apart(alloc, top, from, onto),
@@ -524,15 +536,60 @@ fn put_int(top: &mut Vec<Cell>, index: usize, n: i32)
     }
 }
 
-/// Drops the last cell. Nothing is to be done for an int.
+/// The same of an object.
 #[inline(always)]
+fn put_object(top: &mut Vec<Cell>, index: usize, n: u32)
+    requires inside { index < length top.old.items }
+    ensures put { top.new.items ≡ slice_set top.old.items index (ValueCell (ObjectValue n)) }
+{
+    match &mut top[index] {
+        Cell::Value(Value::Object(old)) => *old = n,
+        other => let_go(mem::replace(other, Cell::Value(Value::Object(n)))),
+    }
+}
+
+/// Drops the last cell. That it is an int is seen before the list changes, so that whoever has
+/// read it doesn't look twice.
+#[inline(always)]
+#[tactic(auto, using(crate::proofs::Lasts::end_lemmas))]
 fn drop_last(top: &mut Vec<Cell>)
     requires some { 0 < length top.old.items }
     ensures left { top.new.items ≡ take (length top.old.items - 1) top.old.items }
 {
+    match last_int(top.as_slice()) {
+        None => let_go(top.take_last()),
+        Some(_) => drop_int(top),
+    }
+}
+
+/// The int that the last cell holds.
+#[inline(always)]
+#[tactic(auto, using(crate::proofs::Lasts::read_lemmas))]
+fn last_int(top: &[Cell]) -> Option<i32>
+    requires some { 0 < length top.now }
+    ensures int { IfSome result (λ n. slice_get top.now (length top.now - 1)
+        ≡ Some (ValueCell (IntValue n))) }
+{
+    match &top[top.len() - 1] {
+        Cell::Value(Value::Int(n)) => Some(*n),
+        _ => None,
+    }
+}
+
+/// Drops the last cell, which holds an int.
+#[inline(always)]
+#[tactic(auto, using(crate::proofs::Lasts::taken_lemmas))]
+fn drop_int(top: &mut Vec<Cell>)
+    requires last { EndsWithInt top.old.items }
+    ensures left { top.new.items ≡ take (length top.old.items - 1) top.old.items }
+{
     match top.take_last() {
         Cell::Value(Value::Int(_)) => {}
-        cell => let_go(cell),
+        Cell::Value(Value::Text(_)) => unreachable!(),
+        Cell::Value(Value::Object(_)) => unreachable!(),
+        Cell::Value(Value::Effect(_)) => unreachable!(),
+        Cell::Value(Value::Event(_)) => unreachable!(),
+        Cell::Base(_) => unreachable!(),
     }
 }
 
