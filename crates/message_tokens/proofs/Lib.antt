@@ -1,1 +1,4 @@
 pub mod GoingOn
+mod KindLemmas
+mod CountLemmas
+mod TextLemmas

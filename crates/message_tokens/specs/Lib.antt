@@ -1,1 +1,4 @@
 pub mod Following
+pub mod Kinds
+pub mod Counts
+pub mod Texts

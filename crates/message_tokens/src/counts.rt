@@ -1,6 +1,8 @@
 //! How many arguments a call gives, and how many a function of a unit takes.
 
-ghost use Rattle.std.specs.Prelude.{◌≤◌};
+ghost use Rattle.std.specs.Prelude.{◌≡◌, ◌+◌, ◌<◌, ◌≤◌, codes, length};
+ghost use Rattle.message_tokens.specs.Counts as spec;
+ghost use Rattle.message_tokens.specs.Counts.{arguments_in, one_outside, outside};
 
 use nss_lexer::{Token, TokenKind};
 
@@ -13,71 +15,110 @@ pub struct Arity {
     pub most: u32,
 }
 
-fn is(token: &Token<'_>, text: &[u8]) -> bool {
+fn is(token: &Token<'_>, text: &[u8]) -> bool
+    ensures { result ≡ spec.is text.now token.now }
+{
     token.text == text
 }
 
-/// A list in brackets while it is read: how deep its brackets nest, and what stands in it.
+/// A list in brackets while it is read: how many inner brackets are open, and how many signs stood
+/// outside of these.
 #[derive(Clone, Copy)]
 struct Listed {
     depth: u32,
-    some: bool,
     commas: u32,
     values: u32,
 }
 
-/// What a list is with one more token.
-fn listed_with(list: Listed, token: &Token<'_>) -> Listed {
-    let mut more = list;
-    more.some = true;
+/// How many inner brackets are open behind a token.
+fn depth_behind(depth: u32, token: &Token<'_>) -> u32
+    ensures { depth < 4294967295 → result ≡ spec.depth_behind depth token.now }
+    ensures near { result ≤ depth + 1 }
+{
     if is(token, b"(") {
-        more.depth = list.depth.saturating_add(1);
+        depth.saturating_add(1)
     } else if is(token, b")") {
-        more.depth = list.depth.saturating_sub(1);
-    } else if list.depth == 0 && is(token, b",") {
-        more.commas = list.commas.saturating_add(1);
-    } else if list.depth == 0 && is(token, b"=") {
-        more.values = list.values.saturating_add(1);
+        depth.saturating_sub(1)
+    } else {
+        depth
     }
-    more
+}
+
+/// How many signs there were with this token.
+fn counted(count: u32, depth: u32, token: &Token<'_>, sign: &[u8]) -> u32
+    ensures { count < 4294967295 → result ≡ count + one_outside sign.now depth token.now }
+    ensures near { result ≤ count + 1 }
+{
+    if depth == 0 && is(token, sign) {
+        count.saturating_add(1)
+    } else {
+        count
+    }
+}
+
+fn closes(depth: u32, token: &Token<'_>) -> bool
+    ensures { result ≡ spec.closes depth token.now }
+{
+    depth == 0 && is(token, b")")
 }
 
 /// The list that these tokens begin with, up to the bracket that closes it.
-fn list_in(tokens: &[Token<'_>]) -> Listed {
+#[tactic(auto, using(crate::proofs::CountLemmas::count_more, crate::proofs::CountLemmas::count_closed, crate::proofs::CountLemmas::count_ended))]
+fn list_in(tokens: &[Token<'_>]) -> Listed
+    ensures commas { length tokens.now < 4294967295 →
+        result.commas ≡ outside (codes ",") 0 tokens.now }
+    ensures values { length tokens.now < 4294967295 →
+        result.values ≡ outside (codes "=") 0 tokens.now }
+    ensures few { result.commas ≤ length tokens.now }
+{
     let mut list = Listed {
         depth: 0,
-        some: false,
         commas: 0,
         values: 0,
     };
     for token in tokens {
-        if list.depth == 0 && is(token, b")") {
+        if closes(list.depth, token) {
             return list;
         }
-        list = listed_with(list, token);
+        list = Listed {
+            depth: depth_behind(list.depth, token),
+            commas: counted(list.commas, list.depth, token, b","),
+            values: counted(list.values, list.depth, token, b"="),
+        };
     }
     list
 }
 
-fn count_of(list: Listed) -> u32 {
-    if list.some {
-        list.commas.saturating_add(1)
+/// Whether something stands in brackets.
+fn has_some(tokens: &[Token<'_>]) -> bool
+    ensures { result ≡ spec.has_some tokens.now }
+{
+    match tokens {
+        [] => false,
+        [first, ..] => !is(first, b")"),
+    }
+}
+
+/// How many arguments a call gives, of which these tokens follow the opening bracket.
+pub fn given(tokens: &[Token<'_>]) -> u32
+    ensures given { length tokens.now < 4294967295 → result ≡ arguments_in tokens.now }
+{
+    if has_some(tokens) {
+        list_in(tokens).commas.saturating_add(1)
     } else {
         0
     }
 }
 
-/// How many arguments a call gives, of which these tokens follow the opening bracket.
-pub fn given(tokens: &[Token<'_>]) -> u32 {
-    count_of(list_in(tokens))
-}
-
-fn arity_of(list: Listed) -> Arity
-    ensures { result.least ≤ result.most }
+/// How many arguments a function takes, of whose declaration these tokens follow the opening
+/// bracket.
+fn arity_of(tokens: &[Token<'_>]) -> Arity
+    ensures least { result.least ≤ result.most }
+    ensures most { length tokens.now < 4294967295 → result.most ≡ arguments_in tokens.now }
 {
-    let most = count_of(list);
+    let most = given(tokens);
     Arity {
-        least: most.saturating_sub(list.values),
+        least: most.saturating_sub(list_in(tokens).values),
         most,
     }
 }
@@ -110,7 +151,7 @@ pub fn taken(tokens: &[Token<'_>], name: &[u8]) -> Option<Arity> {
     for (i, token) in tokens.iter().enumerate() {
         let here = &tokens[i..];
         if depth == 0 && declares(here, name) && here.len() > 3 {
-            return Some(arity_of(list_in(&here[3..])));
+            return Some(arity_of(&here[3..]));
         }
         depth = depth_with(depth, token);
     }
