@@ -1,5 +1,6 @@
 pub mod Host
 pub mod Stored
+pub mod Settings
 pub mod Endings
 pub mod Steps
 pub mod Names
