@@ -1,9 +1,8 @@
 //! The command: what a play needs is read, in order, and the plan is played.
-ghost use Rattle.std.specs.Prelude.{◌<◌, ◌^◌, length, map, IsTrue, IfErr};
+ghost use Rattle.std.specs.Prelude.{map, IsTrue, IfErr};
 ghost use Rattle.plan_text.specs.Plans.{IsPlan};
-ghost use Rattle.stack_rules.specs.Laws.{AllMeet};
 ghost use Rattle.world_core.specs.Calls.{AreServing, cells_of};
-ghost use Rattle.ncs_machine.specs.Host.{scripts_of, tables_of};
+ghost use Rattle.ncs_machine.specs.Settings.{scripts_in};
 ghost use Rattle.command_work.specs.Counts.{KeepsBut};
 ghost use Rattle.command_work.specs.Calls.{DoesOn, TalliesOn, IsName};
 ghost use Rattle.command_play.specs.Games.{plays_area, plays_scripts, plays_under, plays};
@@ -34,7 +33,7 @@ pub struct GameNames<'a> {
 #[tactic(auto, using(crate::proofs::Steps::steps, crate::proofs::StopLemmas::stops), unfolding(crate::specs::Games::plays_area))]
 fn play_area<F: Files, S: Sink>(
     alloc: Global,
-    setting: PlaySetting<'_>,
+    setting: &PlaySetting<'_>,
     area: &str,
     plan: &Plan,
     to: &str,
@@ -42,14 +41,10 @@ fn play_area<F: Files, S: Sink>(
     out: &mut S,
     remarks: &mut Remarks,
 ) -> Result<(), Status>
-    requires few { length setting.scripts.now < 2 ^ 32 }
-    requires meets { AllMeet setting.table.now
-        (scripts_of setting.scripts.now) (tables_of setting.scripts.now) }
-    requires hooks { AreServing (map (λ h. h.known) setting.hooks.now.all.items) }
     requires plan { IsPlan plan.now }
     ensures does { IsTrue F.tells → IsTrue S.tells → DoesOn F.contents S.taken (plays_area
-        (cells_of (map (λ h. h.known) setting.entry.hooks.now.all.items))
-        setting.entry.table.now area.now plan.now to.now (scripts_of setting.entry.scripts.now))
+        (cells_of setting.now.hooks) setting.now.table area.now plan.now to.now
+        (scripts_in setting.now))
         files.old out.old result files.new out.new }
     ensures counts { TalliesOn F.counts S.faults result files.old out.old files.new out.new }
     ensures names { KeepsBut (IsName to.now) (F.contents files.old) (F.contents files.new) }
@@ -86,13 +81,9 @@ fn play_scripts<F: Files, S: Sink>(
     match list_scripts(alloc, table, plan.scripts.as_slice(), files, out) {
         Err(status) => Err(status),
         Ok(scripts) => {
-            let setting = PlaySetting {
-                scripts: &scripts,
-                table,
-                hooks,
-            };
+            let setting = PlaySetting::of(&scripts, table, hooks);
             play_area(
-                alloc, setting, game.area, plan, game.to, files, out, remarks,
+                alloc, &setting, game.area, plan, game.to, files, out, remarks,
             )
         }
     }

@@ -1,8 +1,8 @@
 use Rattle.command_play.specs.Files.{keeps_listing, keeps_game}
 use Rattle.command_play.proofs.game.play_scripts.Goals as goal
 
-pub play_area-requires-clause-meets : goal.play_area-requires-clause-meets
-play_area-requires-clause-meets g c = c.in-Ok.ensures.kept.0
+pub of-setting-requires-clause-meets : goal.of-setting-requires-clause-meets
+of-setting-requires-clause-meets g c = c.in-Ok.ensures.kept.0
 
 pub returns-in-Err-clause-names : goal.returns-in-Err-clause-names
 returns-in-Err-clause-names g c =
