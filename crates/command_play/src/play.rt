@@ -32,8 +32,8 @@ pub(crate) fn play_plan<F: Files, S: Sink>(
 ) -> Result<(), Status>
     requires plan { IsPlan plan.now }
     ensures does { IsTrue F.tells → IsTrue S.tells → DoesOn F.contents S.taken (plays_plan
-        (cells_of setting.now.hooks) setting.now.table area plan.now (scripts_in setting.now) to.now)
-        files.old out.old result files.new out.new }
+        (cells_of setting.now.hooks) setting.now.table area plan.now (scripts_in setting.now)
+        to.now) files.old out.old result files.new out.new }
     ensures counts { TalliesOn F.counts S.faults result files.old out.old files.new out.new }
     ensures names { KeepsBut (IsName to.now) (F.contents files.old) (F.contents files.new) }
     ensures only { IfErr result StopsGame }
