@@ -163,11 +163,6 @@ items_if s p prepared has = objects_map (λ c is. fitting_if s p c prepared is) 
 pub entries_if : (s : Parts) (p : Prepared) → HoldsScripts s p → HasStates s → AllByRecursion (λ (e : Entry). KindHolds (IsFitting p.scripts) e.kind) s.agenda
 entries_if s p prepared has = entries_map (λ c is. fitting_if s p c prepared is) s.agenda has.entries
 
-pub states_by : (s : Parts) (p : Prepared) → OneHeader → SpellingLaws → FitsToo → HoldsScripts s p
-    → AllByRecursion (λ (o : Object). AllByRecursion (ItemHolds (IsFitting p.scripts)) o.items) s.objects
-    → AllByRecursion (λ (e : Entry). KindHolds (IsFitting p.scripts) e.kind) s.agenda → HasStates s
-states_by s p one spelled fits prepared items entries = states_if s p (record { header = one; spellings = spelled; fits = fits }) prepared items entries
-
 -- ---- what the tests of all states say
 
 abbrev pub ItemsFit : Prepared → List Object → Type 0

@@ -13,7 +13,7 @@ use Rattle.play_save.specs.Rules.{IsHeaderOf, IsSound}
 use Rattle.play_save.specs.Breaking.{AreScriptsOf, AreSound, Breaks, IsPreparedFor, IsScriptOf, KeepsScripts}
 use Rattle.play_save.specs.declared.prepare.Prepared.{Prepared}
 use Rattle.state_format.specs.declared.parts.Parts.{Parts}
-use Rattle.play_save.proofs.Lists.{all_at, take_whole}
+use Rattle.play_save.proofs.Lists.{take_whole}
 
 scripts_end : (table : EngineTable) (parts : List Script) (ls : List Loaded) (part : Script) (l : Loaded) → AreScriptsOf table parts ls → IsScriptOf table part l
     → AreScriptsOf table (parts ++ part ∷ []) (ls ++ l ∷ [])
@@ -88,19 +88,14 @@ scripts_kept table parts first others ls n least front back are sound = record {
 }
 
 -- one script more that is well stacked
+sound_end : (table : EngineTable) (parts : List Script) (part : Script) → AreSound table parts → IsSound table part.code → AreSound table (parts ++ part ∷ [])
+sound_end table [] part before is = (is, tt)
+sound_end table (p ∷ parts) part before is = (before.0, sound_end table parts part before.1 is)
+
 pub sound_more : (table : EngineTable) (parts : List Script) (i : ℕ) (part : Script) → AreSound table (take i parts) → IsSound table part.code → i < length parts → part ≡ get_or parts i part
     → AreSound table (take (i + 1) parts)
 sound_more table parts i part before is h at =
-    subst (λ k. AreSound table (take k parts)) (sym (add-one i)) (subst (AreSound table) (sym (take_more parts i part h at)) (sound_end (take i parts) before))
-  where
-    sound_end : (ps : List Script) → AreSound table ps → AreSound table (ps ++ part ∷ [])
-    sound_end [] all = (is, tt)
-    sound_end (p ∷ ps) all = (all.0, sound_end ps all.1)
-
--- a script that isn't sound, among others
-pub one_unsound : (table : EngineTable) (parts : List Script) (i : ℕ) (part : Script) (e : StateFault) → i < length parts → part ≡ get_or parts i part → Breaks 2 (IsSound table part.code) e
-    → Breaks 2 (AreSound table parts) e
-one_unsound table parts i part e h at = breaks_more 2 (IsSound table part.code) (AreSound table parts) e (λ all. all_at (λ (x : Script). IsSound table x.code) parts i part all h at)
+    subst (λ k. AreSound table (take k parts)) (sym (add-one i)) (subst (AreSound table) (sym (take_more parts i part h at)) (sound_end table (take i parts) part before is))
 
 -- ---- all of them, where they are no more than a play may have
 

@@ -119,9 +119,11 @@ none_there places v (w ∷ vs) none =
   where
     rest : count_at places (place_of places v) vs ≡ 0
     rest = let grows = count_grows places (place_of places v) w vs in omega (arith, grows, none)
+
     once_some : (n : ℕ) → once_more n ≡ 0 → ⊥
     once_some zero e = absurd cc
     once_some (suc n) e = absurd cc
+
     other : (n : ℕ) → nat_eq (place_of places v) (place_of places w) ≡ true → ⊥
     other n t = once_some (count_at places (place_of places v) vs)
         (sym (ap (λ (b : Bool). if b then once_more (count_at places (place_of places v) vs) else count_at places (place_of places v) vs) t) ∙ none)
@@ -151,8 +153,10 @@ alone counts v vs some more single = none_there n v vs (none (count_at n (place_
   where
     n : ℕ
     n = length counts
+
     below : once_more (count_at n (place_of n v) vs) ≤ 1
     below = let own = count_own n v vs in let most = more (place_of n v) (place_inside n v some) in let few = lt_not 1 (get_or counts (place_of n v) 0) single in omega (arith, own, most, few)
+
     none : (m : ℕ) → once_more m ≤ 1 → m ≡ 0
     none zero h = refl
     none (suc m) h = absurd (omega (arith, h))
@@ -187,6 +191,7 @@ distinct_more counts (v ∷ vs) some more apart = by_test (either (shares_place 
   where
     rest : CountsMore counts vs
     rest place inside = let grows = count_grows (length counts) place v vs in let most = more place inside in omega (arith, grows, most)
+
     by_test : (shares_place counts v ≡ true) ⊎ (shares_place counts v ≡ false)
         → (IsDistinct same_variable (map variable_of (filter (shares_place counts) vs)) → IsDistinct same_variable (map variable_of vs)) → IsDistinct same_variable (map variable_of (v ∷ vs))
     by_test (inl shared) behind =

@@ -1,6 +1,7 @@
 -- Which rule is the first that is broken.
-use Rattle.std.proofs.Common.{◌≡◌, ℕ, zero, suc, List, [], ◌∷◌, length, refl, sym, ap, ◌∙◌, subst, inl, inr}
+use Rattle.std.proofs.Common.{◌≡◌, ◌≤◌, ℕ, zero, suc, List, [], ◌∷◌, length, refl, sym, ap, ◌∙◌, subst, inl, inr}
 use Rattle.nwq_value.specs.Engine.{EngineTable}
+use Rattle.nwq_value.specs.Limits.{script_limit}
 use Rattle.area_rules.specs.Area.{PlainArea, area_of}
 use Rattle.state_format.specs.declared.parts.Script.{Script}
 use Rattle.state_format.specs.declared.parts.Parts.{Parts}
@@ -27,6 +28,9 @@ prepared_scripts s p is = record { table = p.table; header = is.header; scripts 
 
 pub prepared_area : (s : Parts) (p : Prepared) → IsPreparedFor s p → HasArea s
 prepared_area s p is = record { tree = is.area.tree; area = is.area.of; counted = is.area.counted ∙ ap (λ (a : PlainArea). length a.objects) is.area.area }
+
+pub few_of : (s : Parts) → KeepsLimits s → length s.scripts ≤ script_limit
+few_of s limits = limits.bounds.scripts
 
 -- ---- the rule that a test broke
 

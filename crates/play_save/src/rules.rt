@@ -69,7 +69,7 @@ fn test_last(alloc: Global, parts: &Parts, prepared: &Prepared) -> Result<(), St
 }
 
 /// The rules behind the limits of a state that keeps those before.
-#[tactic(auto, using(crate::proofs::Testing::breaks_agenda, crate::proofs::Testing::breaks_last, crate::proofs::Testing::all_kept))]
+#[tactic(auto, using(crate::proofs::Testing::few_of, crate::proofs::Testing::breaks_agenda, crate::proofs::Testing::breaks_last, crate::proofs::Testing::all_kept))]
 fn test_within(alloc: Global, parts: &Parts, prepared: &Prepared) -> Result<(), StateFault>
     requires prepared { IsPreparedFor parts.now prepared.now }
     requires limits { KeepsLimits parts.now }
