@@ -15,7 +15,7 @@ use Rattle.std.specs.Option.{option_map}
 use Rattle.std.specs.Str.{bytes_eq}
 use Rattle.gff_tree.specs.declared.tree.Leaf.{Leaf}
 use Rattle.gff_tree.specs.declared.tree.Node.{Node}
-use Rattle.gff_tree.specs.Tree.{PlainNode, PlainLeaf, PlainField, Holds, Int, Str, plain_node, plain_leaf, nodes_in, nodes_from}
+use Rattle.gff_tree.specs.Tree.{PlainNode, PlainLeaf, PlainField, Holds, Child, Children, Int, Str, plain_node, plain_leaf, nodes_in, nodes_from}
 use Rattle.local_variables.specs.Variables.{Variable, IntVar, TextVar, is_int, is_text, same_variable, first, matching, int_of, text_of}
 use Rattle.area_rules.specs.Objects.{AreaObject, Entry, Broken, Unread, Tells, with_entry, entry_of, variables_in, structs_in}
 use Rattle.area_back.specs.Back.{value_of, new_entry, is_kept, valued, entries_back, table_back, leaf_back, fields_back, member_back, members_back, objects_back, list_back, lists_back}
@@ -197,7 +197,7 @@ members_done objects nodes i le = by_end (cases_lt i (length objects))
 pub record IsNext {X : Type 0} (xs : List X) (i : ℕ) (x : X) (after : List X) : Type 0 where
   pub inside : i < length xs
   pub at : x ≡ get_or xs i x
-  pub left : after ≡ drop (i + 1) xs
+  pub left : after ≡ drop (suc i) xs
 
 pub next_of : {X : Type 0} (xs : List X) (i : ℕ) (x : X) (after : List X) → drop i xs ≡ x ∷ after → IsNext xs i x after
 next_of [] zero x after e = absurd cc
@@ -205,19 +205,6 @@ next_of [] (suc i) x after e = absurd cc
 next_of (y ∷ xs) zero x after e = record { inside = omega arith; at = cc; left = cc }
 next_of (y ∷ xs) (suc i) x after e =
     let more = next_of xs i x after e in record { inside = (let h = more.inside in omega (arith, h)); at = more.at; left = more.left }
-
--- none is left
-pub none_after : {X : Type 0} (xs : List X) (i n : ℕ) → drop i xs ≡ [] → i ≤ n → drop n xs ≡ []
-none_after [] i zero e le = refl
-none_after [] i (suc n) e le = refl
-none_after (x ∷ xs) zero n e le = absurd cc
-none_after (x ∷ xs) (suc i) zero e le = absurd (omega (arith, le))
-none_after (x ∷ xs) (suc i) (suc n) e le = none_after xs i n e (omega (arith, le))
-
-pub none_further : {X : Type 0} (xs : List X) (i : ℕ) → drop i xs ≡ [] → length xs ≤ i
-none_further [] i e = omega arith
-none_further (x ∷ xs) zero e = absurd cc
-none_further (x ∷ xs) (suc i) e = let h = none_further xs i e in omega (arith, h)
 
 -- a list has no more objects than members
 objects_first : (objects : List AreaObject) (leaf : PlainLeaf) → objects_back (take (length (structs_in (Some leaf))) objects) leaf ≡ objects_back objects leaf

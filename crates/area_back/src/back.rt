@@ -354,11 +354,7 @@ fn put_members(alloc: Global, objects: &mut Rest, nodes: &mut Vec<Node>) -> Resu
 }
 
 /// The list field of a list's changed members.
-fn members_leaf(
-    alloc: Global,
-    objects: &mut Rest,
-    mut nodes: Vec<Node>,
-) -> Result<Leaf, NoMemory>
+fn members_leaf(alloc: Global, objects: &mut Rest, mut nodes: Vec<Node>) -> Result<Leaf, NoMemory>
     ensures leaf { IfOk result (λ leaf. plain_leaf leaf
         ≡ list_from (members_back (into_iter_items objects.old) (map plain_node nodes.items))) }
     ensures rest { OnOk result (into_iter_items objects.new
@@ -388,12 +384,7 @@ fn changed_list(alloc: Global, objects: &mut Rest, leaf: Leaf) -> Result<Leaf, N
 }
 
 /// Puts the variables of the next objects into the members of a list of the top struct.
-fn put_list(
-    alloc: Global,
-    label: &[u8],
-    objects: &mut Rest,
-    top: &mut Node,
-) -> Result<(), NoMemory>
+fn put_list(alloc: Global, label: &[u8], objects: &mut Rest, top: &mut Node) -> Result<(), NoMemory>
     ensures list { OnOk result (plain_node top.new ≡ node_from (kind_of (plain_node top.old))
         (list_back label.now (into_iter_items objects.old)
         (found label.now (fields_of (plain_node top.old))) (fields_of (plain_node top.old)))) }
