@@ -6,6 +6,7 @@
 #![tactic(auto)]
 
 mod sentences;
+#[tactic(auto, using(crate::proofs::Telling::tells, crate::proofs::Telling::tells_none))]
 mod why;
 
 pub use sentences::put_reason;
