@@ -1,6 +1,6 @@
 //! The message after a command.
 
-ghost use Rattle.std.specs.Prelude.{◌≡◌, ◌≤◌, length, false};
+ghost use Rattle.std.specs.Prelude.{◌≡◌, ◌≤◌, bytes_eq, length, false, IfNone, IfSome};
 ghost use Rattle.nwq_value.specs.Limits.{file_limit};
 
 use crate::asked::{Asking, Lister, include_of, line_of_file};
@@ -180,7 +180,10 @@ fn put_place_message<F: Files>(
 }
 
 /// Whether a file that a command reads has this name.
-fn is_named(file: Option<&str>, name: &str) -> bool {
+fn is_named(file: Option<&str>, name: &str) -> bool
+    ensures none { IfNone file.entry (result ≡ false) }
+    ensures named { IfSome file.entry (λ f. result ≡ bytes_eq f.now name.now) }
+{
     match file {
         Some(file) => file == name,
         None => false,

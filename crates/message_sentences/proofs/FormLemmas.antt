@@ -1,5 +1,5 @@
 -- What the parts of a message show together.
-use Rattle.std.proofs.Common.{◌≡◌, ℕ, Bool, true, false, IsTrue, ◌↔◌, List, ◌++◌, codes, Result, Ok, Err, OnOk, refl, sym, ap, ◌∙◌, append_assoc, cc}
+use Rattle.std.proofs.Common.{◌≡◌, ℕ, Bool, true, false, IsTrue, ◌↔◌, List, ◌++◌, codes, Result, Ok, Err, OnOk, refl, sym, ap, ◌∙◌, append_assoc}
 use Rattle.std.specs.Fmt.{decimal}
 use Rattle.nwq_text.specs.Escape.{escaped}
 use Rattle.nwq_text.specs.Line.{line_number}
@@ -37,7 +37,7 @@ spot_shown (Ok x) name bytes at column before a b c d after named one two three 
     let end : List ℕ = codes ":" ++ line ++ codes ":" ++ decimal column in
     let here : after ≡ a ++ end
     = onto a (codes ":") (line ++ codes ":" ++ decimal column) b after one
-      (onto b line (codes ":" ++ decimal column) c after two (onto c (codes ":") (decimal column) d after three put)) in
+    (onto b line (codes ":" ++ decimal column) c after two (onto c (codes ":") (decimal column) d after three put)) in
     record {
       text = named.text ++ end;
       is = record { file = named.text; named = named.is; column = column; counted = counted; is = refl };
@@ -74,12 +74,9 @@ note_at_shown (Ok x) name bytes at sentence piece before a b after spot put show
     let text : List ℕ = note_text sentence piece in
     record {
       text = spot.text ++ (text ++ shown.text);
-      is = record { spot = spot.text; place = spot.is; line = shown.text; shown = shown.is; is = same spot.text sentence piece shown.text };
+      is = record { spot = spot.text; place = spot.is; line = shown.text; shown = shown.is; is = refl };
       appended = onto before spot.text (text ++ shown.text) a after spot.appended (onto a text shown.text b after put shown.appended);
     }
-  where
-    same : (spot sentence piece line : List ℕ) → spot ++ (note_text sentence piece ++ line) ≡ spot ++ note_text sentence piece ++ line
-    same spot sentence piece line = refl
 
 pub note_shown : {T E : Type 0} (result : Result T E) (name sentence piece before a after : List ℕ)
     → Appends (ShowsName name) before a → OnOk result (after ≡ a ++ note_text sentence piece)

@@ -1,8 +1,12 @@
 -- The last cut of a text, the end of a line, and the parts of a line on a flaw.
-use Rattle.std.proofs.Common.{◌≡◌, ◌≢◌, ℕ, ◌+◌, ◌-◌, ◌<◌, ◌≤◌, ◌==◌, Bool, true, false, cond, List, [], ◌∷◌, ◌++◌, length, get_or, take, drop, Option, Some, None, refl, sym, ap, ◌∙◌, arith, append-nil, length-drop}
+use Rattle.std.proofs.Common.{◌≡◌, ◌≢◌, ℕ, ◌+◌, ◌-◌, ◌<◌, ◌≤◌, ◌==◌, Bool, true, false, cond, List, [], ◌∷◌, ◌++◌, length, get_or, take, drop, Option, Some, None, MatchOption, refl, sym, ap, ◌∙◌, subst, arith, append-nil, length-drop}
 use Rattle.std.proofs.lemmas.List.{drop_more, drop_all, take_all, take-append-drop}
 use Rattle.std.proofs.lemmas.Bool.Decides.{nat_tests}
-use Rattle.message_sentences.specs.Told.{without_newline, behind, last_cut_at}
+use Rattle.nwq_text.specs.Cuts.{cut_at}
+use Rattle.nwq_text.specs.Number.{number_of}
+use Rattle.command_work.specs.declared.status.Status.{Status}
+use Rattle.command_work.specs.declared.status.Status.TheVariants as status
+use Rattle.message_sentences.specs.Told.{Tale, Nothing, Missing, Long, Place, without_newline, behind, last_cut_at, fitting, place_at, name_in, offset_in, cause_in, place_told, or_nothing, TellsFlaw, IsTold, IsToldBy}
 
 -- ---- the last cut
 
@@ -64,3 +68,59 @@ flaw_is text i inside is =
     = take_all (length text - (i + 1)) (drop (i + 1) text) (omega (arith, length-drop (i + 1) text))
     in sym (take-append-drop i text)
     ∙ ap (λ xs. take i text ++ xs) (drop_more text i 0 inside ∙ ap (λ x. x ∷ drop (i + 1) text) is ∙ ap (λ xs. 32 ∷ xs) (sym rest))
+
+-- ---- the parts of a line on a source text
+
+pub no_cause : (text : List ℕ) → None ≡ last_cut_at 32 text → None ≡ place_told text
+unfolding place_told
+no_cause text one = ap cause_in one
+
+pub no_offset : (text front cause : List ℕ) → Some (front, cause) ≡ last_cut_at 32 text → None ≡ last_cut_at 32 front → None ≡ place_told text
+unfolding place_told
+no_offset text front cause one two = ap (offset_in cause) two ∙ ap cause_in one
+
+pub no_name : (text front cause middle digits : List ℕ) → Some (front, cause) ≡ last_cut_at 32 text → Some (middle, digits) ≡ last_cut_at 32 front
+    → None ≡ last_cut_at 32 middle → None ≡ place_told text
+unfolding place_told
+no_name text front cause middle digits one two three = ap (name_in digits cause) three ∙ ap (offset_in cause) two ∙ ap cause_in one
+
+pub no_place : (text front cause middle digits name line : List ℕ) → Some (front, cause) ≡ last_cut_at 32 text
+    → Some (middle, digits) ≡ last_cut_at 32 front → Some (name, line) ≡ last_cut_at 32 middle → None ≡ fitting (number_of digits)
+    → None ≡ place_told text
+unfolding place_told
+no_place text front cause middle digits name line one two three four =
+    ap (place_at name cause) four ∙ ap (name_in digits cause) three ∙ ap (offset_in cause) two ∙ ap cause_in one
+
+pub place_is : (text front cause middle digits name line : List ℕ) (at : ℕ) → Some (front, cause) ≡ last_cut_at 32 text
+    → Some (middle, digits) ≡ last_cut_at 32 front → Some (name, line) ≡ last_cut_at 32 middle → Some at ≡ fitting (number_of digits)
+    → Some (Place name at cause) ≡ place_told text
+unfolding place_told
+place_is text front cause middle digits name line at one two three four =
+    ap (place_at name cause) four ∙ ap (name_in digits cause) three ∙ ap (offset_in cause) two ∙ ap cause_in one
+
+-- ---- what a line tells by the status
+
+pub told_none : (s : Status) (line text : List ℕ) (tale : Tale) → text ≡ without_newline line → None ≡ cut_at 32 text → tale ≡ Nothing
+    → IsToldBy s line tale
+told_none s line text tale is cut nothing =
+    subst (λ o. MatchOption o (tale ≡ Nothing) (λ p. IsTold s p.1 tale)) (cut ∙ ap (cut_at 32) is) nothing
+
+pub told_some : (s : Status) (line text word rest : List ℕ) (tale : Tale) → text ≡ without_newline line → Some (word, rest) ≡ cut_at 32 text
+    → IsTold s rest tale → IsToldBy s line tale
+told_some s line text word rest tale is cut told =
+    subst (λ o. MatchOption o (tale ≡ Nothing) (λ p. IsTold s p.1 tale)) (cut ∙ ap (cut_at 32) is) told
+
+pub told_missing : (s : Status) (rest : List ℕ) (tale : Tale) → s ≡ status.Missing → tale ≡ Missing rest → IsTold s rest tale
+told_missing s rest tale is told = subst (λ x. IsTold x rest tale) (sym is) told
+
+pub told_long : (s : Status) (rest : List ℕ) (tale : Tale) → s ≡ status.Long → tale ≡ Long rest → IsTold s rest tale
+told_long s rest tale is told = subst (λ x. IsTold x rest tale) (sym is) told
+
+pub told_script : (s : Status) (rest : List ℕ) (tale : Tale) → s ≡ status.Script → tale ≡ or_nothing (place_told rest) → IsTold s rest tale
+told_script s rest tale is told = subst (λ x. IsTold x rest tale) (sym is) told
+
+pub told_code : (s : Status) (rest : List ℕ) (tale : Tale) → s ≡ status.Code → TellsFlaw rest tale → IsTold s rest tale
+told_code s rest tale is told = subst (λ x. IsTold x rest tale) (sym is) told
+
+pub told_area : (s : Status) (rest : List ℕ) (tale : Tale) → s ≡ status.Area → TellsFlaw rest tale → IsTold s rest tale
+told_area s rest tale is told = subst (λ x. IsTold x rest tale) (sym is) told

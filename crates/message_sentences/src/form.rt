@@ -181,12 +181,7 @@ pub fn put_end(out: &mut Vec<u8>, kind: &[u8], bytes: &[u8], at: u32) -> Result<
 
 /// Appends a message on a whole file.
 #[tactic(auto, using(crate::proofs::FormLemmas::whole_shown))]
-pub fn put_whole(
-    out: &mut Vec<u8>,
-    name: &[u8],
-    sentence: &str,
-    kind: &str,
-) -> Result<(), NoMemory>
+pub fn put_whole(out: &mut Vec<u8>, name: &[u8], sentence: &str, kind: &str) -> Result<(), NoMemory>
     ensures shows { OnOk result (Appends (ShowsWhole name.now sentence.now kind.now)
         out.old.items out.new.items) }
 {

@@ -4,8 +4,9 @@ ghost use Rattle.std.specs.Prelude.{◌≡◌, ◌<◌, ◌⊎◌, bytes_eq, len
 ghost use Rattle.std.specs.Option.{option_map};
 ghost use Rattle.nwq_text.specs.Number.{number_of};
 ghost use Rattle.message_sentences.specs.Told as spec;
-ghost use Rattle.message_sentences.specs.Told.{fitting, last_cut_at, place_told, plain};
-ghost use Rattle.message_sentences.specs.Told.{IsToldBy, TellsFlaw};
+ghost use Rattle.message_sentences.specs.Told.{fitting, last_cut_at, or_nothing};
+ghost use Rattle.message_sentences.specs.Told.{place_told, plain};
+ghost use Rattle.message_sentences.specs.Told.{IsTold, IsToldBy, TellsFlaw};
 
 use command_work::Status;
 use nwq_text::{cut, put_text, read_number};
@@ -171,7 +172,7 @@ fn offset_in(digits: &[u8]) -> Option<u32>
 }
 
 /// What a line tells of a source text.
-#[tactic(auto, unfolding(crate::specs::Told::place_told))]
+#[tactic(auto, using(crate::proofs::ToldLemmas::no_cause, crate::proofs::ToldLemmas::no_offset, crate::proofs::ToldLemmas::no_name, crate::proofs::ToldLemmas::no_place, crate::proofs::ToldLemmas::place_is))]
 fn place_in(text: &[u8]) -> Option<Told<'_>>
     ensures place { option_map plain result ≡ place_told text.now }
 {
@@ -182,18 +183,49 @@ fn place_in(text: &[u8]) -> Option<Told<'_>>
     Some(Told::Place { name, at, cause })
 }
 
+/// What a line tells of a source text, or nothing.
+fn script_told(text: &[u8]) -> Told<'_>
+    ensures { plain result ≡ or_nothing (place_told text.now) }
+{
+    match place_in(text) {
+        None => Told::Nothing,
+        Some(told) => told,
+    }
+}
+
 /// A line without its newline.
 #[tactic(auto, using(crate::proofs::ToldLemmas::ended, crate::proofs::ToldLemmas::unended, crate::proofs::ToldLemmas::empty_line))]
 fn without_newline(line: &[u8]) -> &[u8]
     ensures { result.now ≡ spec.without_newline line.now }
 {
     match line.split_last() {
-        Some((last, before)) if *last == b'\n' => before,
-        _ => line,
+        None => line,
+        Some((last, before)) => { if *last == b'\n' { before } else { line } }
+    }
+}
+
+/// What follows the first word of a line tells, where a command ended with this status.
+#[tactic(auto, using(crate::proofs::ToldLemmas::told_missing, crate::proofs::ToldLemmas::told_long, crate::proofs::ToldLemmas::told_script, crate::proofs::ToldLemmas::told_code, crate::proofs::ToldLemmas::told_area))]
+fn told_in<'a>(
+    alloc: Global,
+    words: &[String],
+    status: Status,
+    rest: &'a [u8],
+) -> Result<Told<'a>, NoMemory>
+    ensures told { IfOk result (λ told. IsTold status rest.now (plain told)) }
+{
+    match status {
+        Status::Missing => Ok(Told::Missing(rest)),
+        Status::Long => Ok(Told::Long(rest)),
+        Status::Script => Ok(script_told(rest)),
+        Status::Code => flaw_told(alloc, rest, words),
+        Status::Area => flaw_told(alloc, rest, words),
+        _ => Ok(Told::Nothing),
     }
 }
 
 /// What the last line tells where a command with these words ended with this status.
+#[tactic(auto, using(crate::proofs::ToldLemmas::told_none, crate::proofs::ToldLemmas::told_some))]
 pub fn told_by<'a>(
     alloc: Global,
     words: &[String],
@@ -205,12 +237,6 @@ pub fn told_by<'a>(
     let text = without_newline(line);
     match cut(text, b' ') {
         None => Ok(Told::Nothing),
-        Some((_word, rest)) => match status {
-            Status::Missing => Ok(Told::Missing(rest)),
-            Status::Long => Ok(Told::Long(rest)),
-            Status::Script => Ok(place_in(rest).unwrap_or(Told::Nothing)),
-            Status::Code | Status::Area => flaw_told(alloc, rest, words),
-            _ => Ok(Told::Nothing),
-        },
+        Some((_word, rest)) => told_in(alloc, words, status, rest),
     }
 }

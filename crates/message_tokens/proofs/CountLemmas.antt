@@ -7,7 +7,7 @@ use Rattle.message_tokens.specs.Counts.{closes, one_outside, depth_behind, outsi
 step : (sign : List ℕ) (depth : ℕ) (t : Token) (ts : List Token) → closes depth t ≡ false
     → outside sign depth (t ∷ ts) ≡ one_outside sign depth t + outside sign (depth_behind depth t) ts
 unfolding outside
-step sign depth t ts open = ap (λ b. cond b 0 (one_outside sign depth t + outside sign (depth_behind depth t) ts)) open
+step sign depth t ts on = ap (λ b. cond b 0 (one_outside sign depth t + outside sign (depth_behind depth t) ts)) on
 
 closed : (sign : List ℕ) (depth : ℕ) (t : Token) (ts : List Token) → closes depth t ≡ true → outside sign depth (t ∷ ts) ≡ 0
 unfolding outside
@@ -21,9 +21,9 @@ nothing sign depth = refl
 pub count_more : (sign : List ℕ) (tokens : List Token) (i depth behind count now total : ℕ) (d t : Token) → i < length tokens → t ≡ get_or tokens i d
     → closes depth t ≡ false → count + outside sign depth (drop i tokens) ≡ total → behind ≡ depth_behind depth t
     → now ≡ count + one_outside sign depth t → now + outside sign behind (drop (i + 1) tokens) ≡ total
-count_more sign tokens i depth behind count now total d t inside is open so deeper more =
+count_more sign tokens i depth behind count now total d t inside is on so deeper more =
     let here : outside sign depth (drop i tokens) ≡ one_outside sign depth t + outside sign (depth_behind depth t) (drop (i + 1) tokens)
-    = ap (outside sign depth) (drop_more tokens i d inside ∙ ap (λ x. x ∷ drop (i + 1) tokens) (sym is)) ∙ step sign depth t (drop (i + 1) tokens) open in
+    = ap (outside sign depth) (drop_more tokens i d inside ∙ ap (λ x. x ∷ drop (i + 1) tokens) (sym is)) ∙ step sign depth t (drop (i + 1) tokens) on in
     let left : outside sign behind (drop (i + 1) tokens) ≡ outside sign (depth_behind depth t) (drop (i + 1) tokens)
     = ap (λ n. outside sign n (drop (i + 1) tokens)) deeper in
     omega (arith, here, left, so, more)

@@ -15,9 +15,9 @@ use Rattle.message_tokens.specs.declared.listing.Tried.{Tried}
 use Rattle.message_tokens.specs.Kinds.{seen, spelled, is_in_units, is_written, AreEachKind, HasEachKind}
 
 -- what is tried
-abbrev kinds : List (TokenKind × List ℕ)
+abbrev pub kinds : List (TokenKind × List ℕ)
 kinds =
-    (kind.Sign, codes ";") ∷ (kind.Sign, codes ")") ∷ (kind.Name, codes "a") ∷ (kind.Int 1, codes "1") ∷ (kind.Text, codes "\"\"") ∷ (kind.Sign, codes "(") ∷
+    (kind.Sign, codes ";") ∷ (kind.Sign, codes ")") ∷ (kind.Name, codes "a") ∷ (kind.Int 1, codes "1") ∷ (kind.Text, 34 ∷ 34 ∷ []) ∷ (kind.Sign, codes "(") ∷
     (kind.Sign, codes ",") ∷ (kind.Sign, codes "{") ∷ (kind.Sign, codes "}") ∷ (kind.Sign, codes "=") ∷ (kind.Word, codes "OBJECT_SELF") ∷ (kind.Word, codes "OBJECT_INVALID") ∷
     (kind.Word, codes "int") ∷ (kind.Word, codes "string") ∷ (kind.Word, codes "object") ∷ (kind.Word, codes "void") ∷ (kind.Word, codes "struct") ∷ (kind.Word, codes "if") ∷
     (kind.Word, codes "while") ∷ (kind.Word, codes "for") ∷ (kind.Word, codes "do") ∷ (kind.Word, codes "switch") ∷ (kind.Word, codes "return") ∷ (kind.Word, codes "else") ∷
@@ -35,15 +35,212 @@ one_digit : IsNumeral 10 (49 ∷ [])
 one_digit = (omega arith, (omega arith, tt))
 
 kinds_are : AllByRecursion (λ p. IsLexeme p.0 p.1) kinds
-unfolding is_word, is_sign
-kinds_are =
-    ((refl, tt), ((refl, tt), ((((refl, tt), refl), omega arith), ((decimal (49 ∷ []) one_digit, omega arith), ((([], quoted (34 ∷ []) [] closed), tt), ((refl, tt), ((refl, tt),
-    ((refl, tt), ((refl, tt), ((refl, tt), ((refl, tt), ((refl, tt), ((refl, tt), ((refl, tt), ((refl, tt), ((refl, tt), ((refl, tt), ((refl, tt), ((refl, tt), ((refl, tt),
-    ((refl, tt), ((refl, tt), ((refl, tt), ((refl, tt), ((refl, tt), ((refl, tt), ((refl, tt), ((refl, tt), ((refl, tt), ((refl, tt), ((refl, tt), ((refl, tt), ((refl, tt),
-    ((refl, tt), ((refl, tt), ((refl, tt), ((refl, tt), ((refl, tt), ((refl, tt), ((refl, tt), ((refl, tt), ((refl, tt), ((refl, tt), ((refl, tt), ((refl, tt), ((refl, tt),
-    ((refl, tt), ((refl, tt), ((refl, tt), ((refl, tt), ((refl, tt), ((refl, tt), ((refl, tt), ((refl, tt), ((refl, tt), ((refl, tt), ((refl, tt), ((refl, tt), ((refl, tt),
-    ((refl, tt), ((refl, tt), ((refl, tt), ((refl, tt), ((refl, tt), ((refl, tt), ((refl, tt), ((refl, tt), ((refl, tt),
-    ((pointed (49 ∷ []) (48 ∷ []) [] one_digit (omega arith, tt) none, tt), ((refl, tt), ((refl, tt), ((refl, tt), ((refl, tt), ((refl, tt), tt))))))))))))))))))))))))))))))))))))))))))))))))))))))))))))))))))))))))))
+unfolding is_word is_sign
+kinds_are = (
+  (refl, tt),
+  (
+    (refl, tt),
+    (
+      (((refl, tt), refl), omega arith),
+      (
+        (decimal (49 ∷ []) one_digit, omega arith),
+        (
+          (([], quoted (34 ∷ []) [] closed), tt),
+          (
+            (refl, tt),
+            (
+              (refl, tt),
+              (
+                (refl, tt),
+                (
+                  (refl, tt),
+                  (
+                    (refl, tt),
+                    (
+                      (refl, tt),
+                      (
+                        (refl, tt),
+                        (
+                          (refl, tt),
+                          (
+                            (refl, tt),
+                            (
+                              (refl, tt),
+                              (
+                                (refl, tt),
+                                (
+                                  (refl, tt),
+                                  (
+                                    (refl, tt),
+                                    (
+                                      (refl, tt),
+                                      (
+                                        (refl, tt),
+                                        (
+                                          (refl, tt),
+                                          (
+                                            (refl, tt),
+                                            (
+                                              (refl, tt),
+                                              (
+                                                (refl, tt),
+                                                (
+                                                  (refl, tt),
+                                                  (
+                                                    (refl, tt),
+                                                    (
+                                                      (refl, tt),
+                                                      (
+                                                        (refl, tt),
+                                                        (
+                                                          (refl, tt),
+                                                          (
+                                                            (refl, tt),
+                                                            (
+                                                              (refl, tt),
+                                                              (
+                                                                (refl, tt),
+                                                                (
+                                                                  (refl, tt),
+                                                                  (
+                                                                    (refl, tt),
+                                                                    (
+                                                                      (refl, tt),
+                                                                      (
+                                                                        (refl, tt),
+                                                                        (
+                                                                          (refl, tt),
+                                                                          (
+                                                                            (refl, tt),
+                                                                            (
+                                                                              (refl, tt),
+                                                                              (
+                                                                                (refl, tt),
+                                                                                (
+                                                                                  (refl, tt),
+                                                                                  (
+                                                                                    (refl, tt),
+                                                                                    (
+                                                                                      (refl, tt),
+                                                                                      (
+                                                                                        (refl, tt),
+                                                                                        (
+                                                                                          (refl, tt),
+                                                                                          (
+                                                                                            (refl, tt),
+                                                                                            (
+                                                                                              (refl, tt),
+                                                                                              (
+                                                                                                (refl, tt),
+                                                                                                (
+                                                                                                  (refl, tt),
+                                                                                                  (
+                                                                                                    (refl, tt),
+                                                                                                    (
+                                                                                                      (refl, tt),
+                                                                                                      (
+                                                                                                        (refl, tt),
+                                                                                                        (
+                                                                                                          (refl, tt),
+                                                                                                          (
+                                                                                                            (refl, tt),
+                                                                                                            (
+                                                                                                              (refl, tt),
+                                                                                                              (
+                                                                                                                (refl, tt),
+                                                                                                                (
+                                                                                                                  (refl, tt),
+                                                                                                                  (
+                                                                                                                    (refl, tt),
+                                                                                                                    (
+                                                                                                                      (refl, tt),
+                                                                                                                      (
+                                                                                                                        (refl, tt),
+                                                                                                                        (
+                                                                                                                          (refl, tt),
+                                                                                                                          (
+                                                                                                                            (refl, tt),
+                                                                                                                            (
+                                                                                                                              (refl, tt),
+                                                                                                                              (
+                                                                                                                                (refl, tt),
+                                                                                                                                (
+                                                                                                                                  (refl, tt),
+                                                                                                                                  (
+                                                                                                                                    (refl, tt),
+                                                                                                                                    (
+                                                                                                                                      (refl, tt),
+                                                                                                                                      (
+                                                                                                                                        (refl, tt),
+                                                                                                                                        ((pointed (49 ∷ []) (48 ∷ []) [] one_digit (omega arith, tt) none, tt), ((refl, tt), ((refl, tt), ((refl, tt), ((refl, tt), ((refl, tt), tt)))))),
+                                                                                                                                      ),
+                                                                                                                                    ),
+                                                                                                                                  ),
+                                                                                                                                ),
+                                                                                                                              ),
+                                                                                                                            ),
+                                                                                                                          ),
+                                                                                                                        ),
+                                                                                                                      ),
+                                                                                                                    ),
+                                                                                                                  ),
+                                                                                                                ),
+                                                                                                              ),
+                                                                                                            ),
+                                                                                                          ),
+                                                                                                        ),
+                                                                                                      ),
+                                                                                                    ),
+                                                                                                  ),
+                                                                                                ),
+                                                                                              ),
+                                                                                            ),
+                                                                                          ),
+                                                                                        ),
+                                                                                      ),
+                                                                                    ),
+                                                                                  ),
+                                                                                ),
+                                                                              ),
+                                                                            ),
+                                                                          ),
+                                                                        ),
+                                                                      ),
+                                                                    ),
+                                                                  ),
+                                                                ),
+                                                              ),
+                                                            ),
+                                                          ),
+                                                        ),
+                                                      ),
+                                                    ),
+                                                  ),
+                                                ),
+                                              ),
+                                            ),
+                                          ),
+                                        ),
+                                      ),
+                                    ),
+                                  ),
+                                ),
+                              ),
+                            ),
+                          ),
+                        ),
+                      ),
+                    ),
+                  ),
+                ),
+              ),
+            ),
+          ),
+        ),
+      ),
+    ),
+  ),
+)
 
 there : (t : Terminal) → IsTrue (is_in_units t) → IsTrue (list_any (is_written t) kinds)
 unfolding spelling

@@ -24,20 +24,20 @@ is_in_units terminal.Question = false
 is_in_units terminal.Hash = false
 is_in_units _ = true
 
-abbrev pub is_name : TokenKind × List ℕ → Bool
-is_name (kind.Name, text) = true
+abbrev pub is_name : TokenKind → Bool
+is_name kind.Name = true
 is_name _ = false
 
-abbrev pub is_int : TokenKind × List ℕ → Bool
-is_int (kind.Int n, text) = true
+abbrev pub is_int : TokenKind → Bool
+is_int (kind.Int n) = true
 is_int _ = false
 
-abbrev pub is_float : TokenKind × List ℕ → Bool
-is_float (kind.Float, text) = true
+abbrev pub is_float : TokenKind → Bool
+is_float kind.Float = true
 is_float _ = false
 
-abbrev pub is_string : TokenKind × List ℕ → Bool
-is_string (kind.Text, text) = true
+abbrev pub is_string : TokenKind → Bool
+is_string kind.Text = true
 is_string _ = false
 
 -- a word or a sign that is written so
@@ -46,10 +46,10 @@ is_written t seen = bytes_eq seen.1 (spelling t)
 
 -- among them is each kind of token that a unit can have
 pub record AreEachKind (kinds : List (TokenKind × List ℕ)) : Type 0 where
-  pub name : IsTrue (list_any is_name kinds)
-  pub int : IsTrue (list_any is_int kinds)
-  pub float : IsTrue (list_any is_float kinds)
-  pub string : IsTrue (list_any is_string kinds)
+  pub name : IsTrue (list_any (λ p. is_name p.0) kinds)
+  pub int : IsTrue (list_any (λ p. is_int p.0) kinds)
+  pub float : IsTrue (list_any (λ p. is_float p.0) kinds)
+  pub string : IsTrue (list_any (λ p. is_string p.0) kinds)
   pub fixed : (t : Terminal) → IsTrue (is_in_units t) → IsTrue (list_any (is_written t) kinds)
 
 abbrev pub HasEachKind : List Token → Type 0

@@ -32,7 +32,7 @@ struct Listed {
 
 /// How many inner brackets are open behind a token.
 fn depth_behind(depth: u32, token: &Token<'_>) -> u32
-    ensures { depth < 4294967295 → result ≡ spec.depth_behind depth token.now }
+    ensures behind { depth < 4294967295 → result ≡ spec.depth_behind depth token.now }
     ensures near { result ≤ depth + 1 }
 {
     if is(token, b"(") {
@@ -46,7 +46,7 @@ fn depth_behind(depth: u32, token: &Token<'_>) -> u32
 
 /// How many signs there were with this token.
 fn counted(count: u32, depth: u32, token: &Token<'_>, sign: &[u8]) -> u32
-    ensures { count < 4294967295 → result ≡ count + one_outside sign.now depth token.now }
+    ensures counted { count < 4294967295 → result ≡ count + one_outside sign.now depth token.now }
     ensures near { result ≤ count + 1 }
 {
     if depth == 0 && is(token, sign) {
