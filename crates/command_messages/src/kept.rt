@@ -49,9 +49,10 @@ fn keep(line: &mut Vec<u8>, piece: &[u8])
     ensures keeps { Keeps piece.now line.new.items }
 {
     line.clear();
-    if piece.len() <= MOST_BYTES {
-        let _kept = line.extend_from_slice(piece);
+    if piece.len() > MOST_BYTES {
+        return;
     }
+    let _kept = line.extend_from_slice(piece);
 }
 
 /// It tells and counts what the sink beneath tells and counts.

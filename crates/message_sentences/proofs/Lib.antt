@@ -1,2 +1,3 @@
 mod FormLemmas
+mod RuleLemmas
 mod ToldLemmas

@@ -196,6 +196,7 @@ fn rule_broken(number: u64) -> &'static str
 }
 
 /// Appends what is wrong with the state of a play, by its number.
+#[tactic(auto, using(crate::proofs::RuleLemmas::rule_told, crate::proofs::RuleLemmas::none_told))]
 fn put_unfit(out: &mut Vec<u8>, number: &[u8]) -> Result<(), NoMemory>
     ensures appends { OnOk result (out.new.items
         ≡ out.old.items ++ unfit_text (number_of number.now)) }

@@ -98,6 +98,7 @@ fn begins_flaw(text: &[u8]) -> bool {
 }
 
 /// How long the name is with which a text begins, if it is this one and a flaw follows.
+#[tactic(auto, using(crate::proofs::ToldLemmas::ends_here, crate::proofs::ToldLemmas::ends_nowhere))]
 fn length_named(alloc: Global, text: &[u8], name: &str) -> Result<usize, NoMemory>
     ensures { IfOk result (spec.EndsName text.now) }
 {
@@ -116,6 +117,7 @@ fn length_named(alloc: Global, text: &[u8], name: &str) -> Result<usize, NoMemor
 }
 
 /// The length of the longest of these names with which a text begins, 0 if there is none.
+#[tactic(auto, using(crate::proofs::ToldLemmas::ends_nowhere))]
 fn longest_named(alloc: Global, text: &[u8], names: &[String]) -> Result<usize, NoMemory>
     ensures { IfOk result (spec.EndsName text.now) }
 {
@@ -131,7 +133,7 @@ fn longest_named(alloc: Global, text: &[u8], names: &[String]) -> Result<usize, 
 
 /// What a line tells of a file that is no source text, whose name is one of the command's words, or
 /// else goes as far as the first word of a flaw.
-#[tactic(auto, using(crate::proofs::ToldLemmas::flaw_is))]
+#[tactic(auto, using(crate::proofs::ToldLemmas::flaw_named))]
 fn flaw_told<'a>(alloc: Global, text: &'a [u8], names: &[String]) -> Result<Told<'a>, NoMemory>
     ensures tells { IfOk result (λ told. TellsFlaw text.now (plain told)) }
 {
@@ -162,12 +164,19 @@ fn flaw_in(text: &[u8]) -> Told<'_>
     Told::Nothing
 }
 
+#[tactic(auto, using(crate::proofs::ToldLemmas::no_offset_read, crate::proofs::ToldLemmas::offset_read, crate::proofs::ToldLemmas::offset_over))]
 fn offset_in(digits: &[u8]) -> Option<u32>
     ensures { result ≡ fitting (number_of digits.now) }
 {
     match read_number(digits) {
-        Some(at) if at <= u64::from(u32::MAX) => Some(at as u32),
-        _ => None,
+        None => None,
+        Some(at) => {
+            if at <= u64::from(u32::MAX) {
+                Some(at as u32)
+            } else {
+                None
+            }
+        }
     }
 }
 
@@ -184,6 +193,7 @@ fn place_in(text: &[u8]) -> Option<Told<'_>>
 }
 
 /// What a line tells of a source text, or nothing.
+#[tactic(auto, using(crate::proofs::ToldLemmas::nothing_told, crate::proofs::ToldLemmas::some_told))]
 fn script_told(text: &[u8]) -> Told<'_>
     ensures { plain result ≡ or_nothing (place_told text.now) }
 {
@@ -205,7 +215,7 @@ fn without_newline(line: &[u8]) -> &[u8]
 }
 
 /// What follows the first word of a line tells, where a command ended with this status.
-#[tactic(auto, using(crate::proofs::ToldLemmas::told_missing, crate::proofs::ToldLemmas::told_long, crate::proofs::ToldLemmas::told_script, crate::proofs::ToldLemmas::told_code, crate::proofs::ToldLemmas::told_area))]
+#[tactic(auto, using(crate::proofs::ToldLemmas::told_done, crate::proofs::ToldLemmas::told_words, crate::proofs::ToldLemmas::told_limit, crate::proofs::ToldLemmas::told_fault, crate::proofs::ToldLemmas::told_memory, crate::proofs::ToldLemmas::told_missing, crate::proofs::ToldLemmas::told_long, crate::proofs::ToldLemmas::told_script, crate::proofs::ToldLemmas::told_code, crate::proofs::ToldLemmas::told_area))]
 fn told_in<'a>(
     alloc: Global,
     words: &[String],
@@ -220,7 +230,11 @@ fn told_in<'a>(
         Status::Script => Ok(script_told(rest)),
         Status::Code => flaw_told(alloc, rest, words),
         Status::Area => flaw_told(alloc, rest, words),
-        _ => Ok(Told::Nothing),
+        Status::Done => Ok(Told::Nothing),
+        Status::Words => Ok(Told::Nothing),
+        Status::Limit => Ok(Told::Nothing),
+        Status::Fault => Ok(Told::Nothing),
+        Status::Memory => Ok(Told::Nothing),
     }
 }
 

@@ -330,13 +330,14 @@ fn tokens_tried(alloc: Global, tried: &[Tried]) -> Result<Vec<Token<'static>>, N
 {
     let mut all = Vec::new(alloc);
     for one in tried {
-        all.push(Token {
+        let token = Token {
             kind: one.kind,
             text: one.text,
             file: 0,
             start: 0,
             end: 0,
-        })?;
+        };
+        all.push(token)?;
     }
     Ok(all)
 }
