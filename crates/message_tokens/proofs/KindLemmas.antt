@@ -12,7 +12,8 @@ use Rattle.nss_symbols.specs.declared.terminal.Terminal.{Terminal}
 use Rattle.nss_symbols.specs.declared.terminal.Terminal.TheVariants as terminal
 use Rattle.nss_symbols.specs.Terminals.{spelling}
 use Rattle.message_tokens.specs.declared.listing.Tried.{Tried}
-use Rattle.message_tokens.specs.Kinds.{seen, spelled, is_in_units, is_written, AreEachKind, HasEachKind}
+use Rattle.message_tokens.specs.Tries.{spelled}
+use Rattle.message_tokens.specs.Kinds.{seen, is_in_units, is_written, AreEachKind, HasEachKind}
 
 -- what is tried
 abbrev pub kinds : List (TokenKind × List ℕ)

@@ -7,14 +7,10 @@ use Rattle.nss_lexer.specs.declared.token.Token.{Token}
 use Rattle.nss_symbols.specs.declared.terminal.Terminal.{Terminal}
 use Rattle.nss_symbols.specs.declared.terminal.Terminal.TheVariants as terminal
 use Rattle.nss_symbols.specs.Terminals.{spelling}
-use Rattle.message_tokens.specs.declared.listing.Tried.{Tried}
 
 -- a token as the grammar sees it: its kind and its text
 abbrev pub seen : Token → TokenKind × List ℕ
 seen t = (t.kind, t.text.now)
-
-abbrev pub spelled : Tried → TokenKind × List ℕ
-spelled t = (t.kind, t.text.now)
 
 -- no rule of the grammar has these four
 abbrev pub is_in_units : Terminal → Bool

@@ -1,4 +1,5 @@
 pub mod Following
 pub mod Kinds
+pub mod Tries
 pub mod Counts
 pub mod Texts

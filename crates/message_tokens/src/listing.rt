@@ -3,12 +3,13 @@
 ghost use Rattle.std.specs.Prelude.{◌≡◌, ◌≤◌, ◌↔◌, ◌++◌, ◌∷◌, [], length, map, take, IfOk};
 ghost use Rattle.std.specs.Prelude.{IfNone, IfSome, IsTrue, OnOk};
 ghost use Rattle.std.specs.List.{AllByRecursion};
-ghost use Rattle.nwq_value.specs.Limits.{file_limit, token_limit};
+ghost use Rattle.nwq_value.specs.Limits.{token_limit};
 ghost use Rattle.nss_lexer.specs.Lexemes.{IsToken};
 ghost use Rattle.nss_symbols.specs.Tokens.{symbols_of};
 ghost use Rattle.nss_parser.specs.Sentence.{IsPlace};
 ghost use Rattle.message_tokens.specs.Following.{Adds, CanFollow, HasNoPlace, Lists};
-ghost use Rattle.message_tokens.specs.Kinds.{seen, spelled, HasEachKind};
+ghost use Rattle.message_tokens.specs.Kinds.{seen, HasEachKind};
+ghost use Rattle.message_tokens.specs.Tries.{spelled};
 
 use nss_lexer::{Token, TokenKind};
 use nss_parser::{ParseFault, parse};
