@@ -303,11 +303,6 @@ pub leaf_back_list : NodesAreTheLists → (vars : List Variable) (leaf : PlainLe
 leaf_back_list law vars leaf nodes is =
     ap (leaf_back vars) is ∙ ap (λ (ns : List PlainNode). list_from (table_back vars ns)) (some_same (nodes_in (nodes_from nodes)) nodes (law nodes))
 
-pub objects_back_list : NodesAreTheLists → (objects : List AreaObject) (leaf : PlainLeaf) (nodes : List PlainNode)
-    → leaf ≡ list_from nodes → objects_back objects leaf ≡ list_from (members_back objects nodes)
-objects_back_list law objects leaf nodes is =
-    ap (objects_back objects) is ∙ ap (λ (ns : List PlainNode). list_from (members_back objects ns)) (some_same (nodes_in (nodes_from nodes)) nodes (law nodes))
-
 -- a field that a call made, as it is wanted
 pub leaf_along : (wanted made : PlainLeaf) (r : Result Leaf NoMemory) → made ≡ wanted → IfOk r (λ (leaf : Leaf). plain_leaf leaf ≡ made) → IfOk r (λ (leaf : Leaf). plain_leaf leaf ≡ wanted)
 leaf_along wanted made (Ok leaf) is e = e ∙ is
