@@ -4,6 +4,7 @@ use Rattle.std.specs.Prelude.{◌==◌, Result, Ok, Err, IfOk, Some, slice_get, 
 use Rattle.std.specs.List.{AllByRecursion, IsDistinct, list_any}
 use Rattle.std.specs.Option.{option_map}
 use Rattle.std.specs.Str.{bytes_eq}
+use Rattle.std.proofs.lemmas.Bool.{eqb-true}
 use Rattle.std.proofs.lemmas.Bool.Decides.{nat_tests}
 use Rattle.std.proofs.lemmas.List.{get_or-replicate, length-replicate, take_all}
 use Rattle.std.proofs.lemmas.List.Elements.{filter-append}
@@ -316,7 +317,7 @@ seen_none law p vs i v seen w before is found h at shared = (
 pub empty_distinct : (vs : List Part) (none : Bool) → none ≡ (length vs == 0) → none ≡ true → IsTrue true ↔ IsDistinct same_variable (map variable_of vs)
 unfolding IsDistinct
 empty_distinct [] none is t = ((λ t. tt), (λ all. refl))
-empty_distinct (v ∷ vs) none is t = absurd cc
+empty_distinct (v ∷ vs) none is t = let zero = eqb-true (length (v ∷ vs)) 0 (sym is ∙ t) in absurd (omega (arith, zero))
 
 pub apart_ok : (counts lent : List ℕ) (vs : List Part) (r : Result Bool NoMemory) → lent ≡ counts → 0 < length counts → CountsPlaces counts vs
     → IfOk r (λ b. IsTrue b ↔ IsDistinct same_variable (map variable_of (filter (shares_place lent) vs))) → IfOk r (λ b. IsTrue b ↔ IsDistinct same_variable (map variable_of vs))
