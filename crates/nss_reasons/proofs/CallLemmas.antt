@@ -37,7 +37,7 @@ filled_is (x ∷ xs) (p ∷ ps) =
 
 pub count_is : (xs : List Expression) → count (plain_all xs) ≡ length xs
 count_is [] = ap count plain_all_none
-count_is (x ∷ xs) = ap count (plain_all_more x xs) ∙ ap suc (count_is xs)
+count_is (x ∷ xs) = omega (arith, ap count (plain_all_more x xs), count_is xs)
 
 -- an expression behind others, as code holds them
 pub pushed : (xs : List Expression) (x : Expression) → plain_all (xs ++ x ∷ []) ≡ joined_typed (plain_all xs) (more_typed (plain x) no_typed)
@@ -62,6 +62,10 @@ untaken_at n xs ps i x p lx ix lp ip =
     ∙ (ap (λ y. untaken n (plain_all (y ∷ drop (i + 1) xs)) (get_or ps i p ∷ drop (i + 1) ps)) (sym ix)
     ∙ (ap (λ q. untaken n (plain_all (x ∷ drop (i + 1) xs)) (q ∷ drop (i + 1) ps)) (sym ip)
     ∙ untaken_step n x (drop (i + 1) xs) p (drop (i + 1) ps))))
+
+pub no_params : (n : ℕ) (ts : TypedExprs) → None ≡ untaken n ts []
+no_params n no_typed = refl
+no_params n (more_typed t ts) = refl
 
 -- ---- typed expressions in a row
 

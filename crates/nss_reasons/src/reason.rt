@@ -1,7 +1,7 @@
 use nwq_value::Ty;
 
-/// Why a node of a unit is refused by the rule of its kind: the types of its parts, and the one that
-/// is wanted, the counts of its arguments, or what else the rule asks for.
+/// Why a node of a unit is refused by the rule of its kind: the types of its parts, and the one
+/// that is wanted, the counts of its arguments, or what else the rule asks for.
 #[derive(Clone, Copy)]
 pub enum Reason {
     /// The operator joins values of these types, and they don't go together.

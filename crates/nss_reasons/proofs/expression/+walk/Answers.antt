@@ -252,13 +252,13 @@ pub binary-returns-in_err-expression : goal.binary-returns-in_err-expression
 binary-returns-in_err-expression t c = record { found = err_on c.from_residual.result _ c.from_residual.ensures.0 }
 
 pub binary-returns-in_err-expression-2 : goal.binary-returns-in_err-expression-2
-binary-returns-in_err-expression-2 t c = record { found = err_on c.from_residual.result _ c.from_residual.ensures.0 }
+binary-returns-in_err-expression-2 t c = record { found = err_on c.from_residual-in_err-expression-2.result _ c.from_residual-in_err-expression-2.ensures.0 }
 
 pub assign-returns-in_err-expression : goal.assign-returns-in_err-expression
 assign-returns-in_err-expression t c = record { found = err_on c.from_residual.result _ c.from_residual.ensures.0 }
 
 pub assign-returns-in_err-expression-2 : goal.assign-returns-in_err-expression-2
-assign-returns-in_err-expression-2 t c = record { found = err_on c.from_residual.result _ c.from_residual.ensures.0 }
+assign-returns-in_err-expression-2 t c = record { found = err_on c.from_residual-in_err-expression-2.result _ c.from_residual-in_err-expression-2.ensures.0 }
 
 pub arguments-returns-in_err-expression : goal.arguments-returns-in_err-expression
 arguments-returns-in_err-expression t c = record { found = err_on c.from_residual.result _ c.from_residual.ensures.0 }

@@ -18,7 +18,8 @@ loop-e-preserved c =
     c.in_ok-one.ensures.value c.in_ok-all.ensures c.loop-e.invariant
 
 pub returns : goal.returns
-returns c =
-    end_value (heads_in c.args.given.now)
-    (sight_in c.args.given.now c.args.c.now) c.args.es.now c.loop-e.e-index c.loop-e.rest.now
-    (option_map plain_all c.loop-e.all) _ (omega (arith, c.loop-e-test.false)) c.loop-e.invariant
+returns c = record {
+  value = end_value (heads_in c.args.given.now)
+      (sight_in c.args.given.now c.args.c.now) c.args.es.now c.loop-e.e-index c.loop-e.rest.now
+      (option_map plain_all c.loop-e.all) _ (omega (arith, c.loop-e-test.false)) c.loop-e.invariant;
+}

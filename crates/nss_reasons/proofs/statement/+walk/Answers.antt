@@ -416,8 +416,8 @@ if_else-returns-in_err-condition t c =
 
 pub if_else-returns-in_err-in_branch : goal.if_else-returns-in_err-in_branch
 if_else-returns-in_err-in_branch t c =
-    let r = c.from_residual.result in
-    let h = c.from_residual.ensures.0 in
+    let r = c.from_residual-in_err-in_branch.result in
+    let h = c.from_residual-in_err-in_branch.ensures.0 in
     record { found = err_on r _ h; sight = err_on r _ h }
 
 pub while_loop-returns-in_err-condition : goal.while_loop-returns-in_err-condition
