@@ -6,6 +6,7 @@ ghost use Rattle.ncs_code.specs.Plain.{PlainOp};
 ghost use Rattle.stack_rules.specs.Rules.{MeetsRules};
 ghost use Rattle.stack_check.specs.Checked.{kept_table};
 ghost use Rattle.world_core.specs.Calls.{AreServing, cells_of};
+ghost use Rattle.ncs_machine.specs.InSetting.{seen};
 ghost use Rattle.ncs_machine.specs.Settings.{scripts_in};
 ghost use Rattle.plan_text.specs.Plans.{IsPlan};
 ghost use Rattle.play_generator.specs.Made.{number_limit, play_of};
@@ -37,18 +38,19 @@ use trace_lines::plays_tell_lines;
 #[tactic(auto, using(crate::proofs::PlayLemmas::plays))]
 fn play_over<S: Sink>(
     alloc: Global,
-    setting: &PlaySetting<'_>,
+    setting: &PlaySetting<'_, '_>,
     number: u32,
     area: Area,
     plan: &Plan,
     out: &mut S,
 ) -> Result<(), Status>
-    requires header { setting.now.table ≡ header_table }
+    requires header { setting.now.code.table ≡ header_table }
     requires number { number ≤ number_limit }
     requires plan { IsPlan plan.now }
     ensures does { IsTrue S.tells → (c : Contents) → Does (tells number (plan_played
-        (cells_of setting.now.hooks) setting.now.table plan.now (scripts_in setting.now)
-        (plan_world area plan.now))) c (S.taken out.old) result c (S.taken out.new) }
+        (cells_of (seen setting.now).hooks) setting.now.code.table plan.now
+        (scripts_in (seen setting.now)) (plan_world area plan.now))) c (S.taken out.old) result c
+        (S.taken out.new) }
     ensures counts { (counts : FileCounts) → Tallies result (Counted counts (S.faults out.old))
         (Counted counts (S.faults out.new)) }
     ensures only { IfErr result (Refusing Status.Limit) }
@@ -69,18 +71,17 @@ fn play_over<S: Sink>(
 #[tactic(auto, using(crate::proofs::PlayLemmas::made))]
 fn play_listed<S: Sink>(
     alloc: Global,
-    setting: &PlaySetting<'_>,
+    setting: &PlaySetting<'_, '_>,
     number: u32,
     made: &Made,
     out: &mut S,
 ) -> Result<(), Status>
-    requires header { setting.now.table ≡ header_table }
+    requires header { setting.now.code.table ≡ header_table }
     requires number { number ≤ number_limit }
     requires made { made.now ≡ play_of number }
-    ensures does { IsTrue S.tells → (ops : List PlainOp) →
-        scripts_in setting.now ≡ listed (codes "beat") ops → (c : Contents) →
-        Does (plays_made (cells_of setting.now.hooks) number ops)
-        c (S.taken out.old) result c (S.taken out.new) }
+    ensures does { IsTrue S.tells → (ops : List PlainOp) → scripts_in (seen setting.now) ≡ listed
+        (codes "beat") ops → (c : Contents) → Does (plays_made (cells_of (seen setting.now).hooks)
+        number ops) c (S.taken out.old) result c (S.taken out.new) }
     ensures counts { (counts : FileCounts) → Tallies result (Counted counts (S.faults out.old))
         (Counted counts (S.faults out.new)) }
     ensures only { IfErr result (Refusing Status.Limit) }

@@ -2,6 +2,7 @@
 ghost use Rattle.std.specs.Prelude.{map, IsTrue, IfErr};
 ghost use Rattle.plan_text.specs.Plans.{IsPlan};
 ghost use Rattle.world_core.specs.Calls.{AreServing, cells_of};
+ghost use Rattle.ncs_machine.specs.InSetting.{seen};
 ghost use Rattle.ncs_machine.specs.Settings.{scripts_in};
 ghost use Rattle.command_work.specs.Counts.{KeepsBut};
 ghost use Rattle.command_work.specs.Calls.{DoesOn, TalliesOn, IsName};
@@ -33,7 +34,7 @@ pub struct GameNames<'a> {
 #[tactic(auto, using(crate::proofs::Steps::steps, crate::proofs::StopLemmas::stops), unfolding(crate::specs::Games::plays_area))]
 fn play_area<F: Files, S: Sink>(
     alloc: Global,
-    setting: &PlaySetting<'_>,
+    setting: &PlaySetting<'_, '_>,
     area: &str,
     plan: &Plan,
     to: &str,
@@ -43,9 +44,8 @@ fn play_area<F: Files, S: Sink>(
 ) -> Result<(), Status>
     requires plan { IsPlan plan.now }
     ensures does { IsTrue F.tells → IsTrue S.tells → DoesOn F.contents S.taken (plays_area
-        (cells_of setting.now.hooks) setting.now.table area.now plan.now to.now
-        (scripts_in setting.now))
-        files.old out.old result files.new out.new }
+        (cells_of (seen setting.now).hooks) setting.now.code.table area.now plan.now to.now
+        (scripts_in (seen setting.now))) files.old out.old result files.new out.new }
     ensures counts { TalliesOn F.counts S.faults result files.old out.old files.new out.new }
     ensures names { KeepsBut (IsName to.now) (F.contents files.old) (F.contents files.new) }
     ensures only { IfErr result StopsGame }

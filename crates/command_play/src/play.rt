@@ -2,6 +2,7 @@
 ghost use Rattle.std.specs.Prelude.{IsTrue, IfErr};
 ghost use Rattle.plan_text.specs.Plans.{IsPlan};
 ghost use Rattle.world_core.specs.Calls.{cells_of};
+ghost use Rattle.ncs_machine.specs.InSetting.{seen};
 ghost use Rattle.ncs_machine.specs.Settings.{scripts_in};
 ghost use Rattle.command_work.specs.Counts.{KeepsBut};
 ghost use Rattle.command_work.specs.Calls.{DoesOn, TalliesOn, IsName};
@@ -22,7 +23,7 @@ use std::alloc::Global;
 #[tactic(auto, using(crate::proofs::PlayLemmas::plays_in, crate::proofs::StopLemmas::stops, command_work::specs::KeepsLemmas::keeps_all))]
 pub(crate) fn play_plan<F: Files, S: Sink>(
     alloc: Global,
-    setting: &PlaySetting<'_>,
+    setting: &PlaySetting<'_, '_>,
     area: Area,
     plan: &Plan,
     to: &str,
@@ -32,8 +33,8 @@ pub(crate) fn play_plan<F: Files, S: Sink>(
 ) -> Result<(), Status>
     requires plan { IsPlan plan.now }
     ensures does { IsTrue F.tells → IsTrue S.tells → DoesOn F.contents S.taken (plays_plan
-        (cells_of setting.now.hooks) setting.now.table area plan.now (scripts_in setting.now)
-        to.now) files.old out.old result files.new out.new }
+        (cells_of (seen setting.now).hooks) setting.now.code.table area plan.now
+        (scripts_in (seen setting.now)) to.now) files.old out.old result files.new out.new }
     ensures counts { TalliesOn F.counts S.faults result files.old out.old files.new out.new }
     ensures names { KeepsBut (IsName to.now) (F.contents files.old) (F.contents files.new) }
     ensures only { IfErr result StopsGame }
@@ -43,7 +44,7 @@ pub(crate) fn play_plan<F: Files, S: Sink>(
         Ok((world, played)) => tell_end(
             alloc,
             world,
-            setting.scripts(),
+            setting.code.scripts(),
             &played,
             to,
             files,

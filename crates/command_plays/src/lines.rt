@@ -2,6 +2,7 @@
 ghost use Rattle.std.specs.Prelude.{◌≡◌, ◌<◌, ◌^◌, [], IsTrue, IfOk, IfErr};
 ghost use Rattle.plan_text.specs.Plans.{IsPlan};
 ghost use Rattle.world_core.specs.Calls.{cells_of};
+ghost use Rattle.ncs_machine.specs.InSetting.{seen};
 ghost use Rattle.ncs_machine.specs.Settings.{FitIn, scripts_in};
 ghost use Rattle.module_player.specs.EndTexts.{HasText, IsEnding};
 ghost use Rattle.command_work.specs.Work.{CutsShort};
@@ -27,22 +28,22 @@ use world_core::World;
 #[tactic(auto, using(crate::proofs::LineLemmas::plays_out))]
 fn play_out<S: Sink>(
     alloc: Global,
-    setting: &PlaySetting<'_>,
+    setting: &PlaySetting<'_, '_>,
     world: &mut World<Saved>,
     plan: &Plan,
     out: &mut S,
 ) -> Result<Played, Status>
     requires plan { IsPlan plan.now }
-    requires fit { FitIn setting.now world.old.world }
+    requires fit { FitIn (seen setting.now) world.old.world }
     requires quiet { world.old.world.trace ≡ [] }
     requires next { world.old.world.agenda.next < 2 ^ 61 }
     ensures told { IfOk result (λ answer. HasText answer.how) }
     ensures ending { IfOk result (λ answer. IsEnding answer (plan_played
-        (cells_of setting.now.hooks) setting.now.table plan.now (scripts_in setting.now)
-        world.old.world) world.new.world) }
-    ensures trace { IsTrue S.tells → TakesLines S.taken (plan_played (cells_of setting.now.hooks)
-        setting.now.table plan.now (scripts_in setting.now) world.old.world) out.old result
-        out.new }
+        (cells_of (seen setting.now).hooks) setting.now.code.table plan.now
+        (scripts_in (seen setting.now)) world.old.world) world.new.world) }
+    ensures trace { IsTrue S.tells → TakesLines S.taken (plan_played
+        (cells_of (seen setting.now).hooks) setting.now.code.table plan.now
+        (scripts_in (seen setting.now)) world.old.world) out.old result out.new }
     ensures counts { TalliesPuts S.faults result out.old out.new }
     ensures only { IfErr result CutsShort }
 {
@@ -58,21 +59,22 @@ fn play_out<S: Sink>(
 /// Plays listed scripts in a world with the limits of a plan, and hands on the world.
 fn play_world<S: Sink>(
     alloc: Global,
-    setting: &PlaySetting<'_>,
+    setting: &PlaySetting<'_, '_>,
     world: World<Saved>,
     plan: &Plan,
     out: &mut S,
 ) -> Result<(World<Saved>, Played), Status>
     requires plan { IsPlan plan.now }
-    requires fit { FitIn setting.now world.world }
+    requires fit { FitIn (seen setting.now) world.world }
     requires quiet { world.world.trace ≡ [] }
     requires next { world.world.agenda.next < 2 ^ 61 }
     ensures told { IfOk result (λ answer. HasText answer.1.how) }
     ensures ending { IfOk result (λ answer. IsEnding answer.1 (plan_played
-        (cells_of setting.now.hooks) setting.now.table plan.now (scripts_in setting.now)
-        world.world) answer.0.world) }
-    ensures trace { IsTrue S.tells → TakesLines S.taken (plan_played (cells_of setting.now.hooks)
-        setting.now.table plan.now (scripts_in setting.now) world.world) out.old result out.new }
+        (cells_of (seen setting.now).hooks) setting.now.code.table plan.now
+        (scripts_in (seen setting.now)) world.world) answer.0.world) }
+    ensures trace { IsTrue S.tells → TakesLines S.taken (plan_played
+        (cells_of (seen setting.now).hooks) setting.now.code.table plan.now
+        (scripts_in (seen setting.now)) world.world) out.old result out.new }
     ensures counts { TalliesPuts S.faults result out.old out.new }
     ensures only { IfErr result CutsShort }
 {
@@ -91,7 +93,7 @@ fn play_world<S: Sink>(
 #[tactic(auto, using(crate::proofs::LineLemmas::lines))]
 pub fn play_lines<S: Sink>(
     alloc: Global,
-    setting: &PlaySetting<'_>,
+    setting: &PlaySetting<'_, '_>,
     area: Area,
     plan: &Plan,
     out: &mut S,
@@ -99,12 +101,12 @@ pub fn play_lines<S: Sink>(
     requires plan { IsPlan plan.now }
     ensures told { IfOk result (λ answer. HasText answer.1.how) }
     ensures ending { IfOk result (λ answer. IsEnding answer.1 (plan_played
-        (cells_of setting.now.hooks) setting.now.table plan.now (scripts_in setting.now)
-        (plan_world area plan.now)) answer.0.world) }
+        (cells_of (seen setting.now).hooks) setting.now.code.table plan.now
+        (scripts_in (seen setting.now)) (plan_world area plan.now)) answer.0.world) }
     // The sink took the play's lines, or a prefix of them where the play was cut short.
-    ensures trace { IsTrue S.tells → TakesLines S.taken (plan_played (cells_of setting.now.hooks)
-        setting.now.table plan.now (scripts_in setting.now) (plan_world area plan.now)) out.old
-        result out.new }
+    ensures trace { IsTrue S.tells → TakesLines S.taken (plan_played
+        (cells_of (seen setting.now).hooks) setting.now.code.table plan.now
+        (scripts_in (seen setting.now)) (plan_world area plan.now)) out.old result out.new }
     ensures counts { TalliesPuts S.faults result out.old out.new }
     ensures only { IfErr result CutsShort }
 {

@@ -4,6 +4,7 @@ ghost use Rattle.std.specs.Prelude.{IsTrue, IfOk, IfErr, OnOk};
 ghost use Rattle.nwq_value.specs.Limits.{entry_limit, instruction_limit, time_limit};
 ghost use Rattle.plan_text.specs.Plans.{IsPlan};
 ghost use Rattle.world_core.specs.Calls.{cells_of};
+ghost use Rattle.ncs_machine.specs.InSetting.{seen};
 ghost use Rattle.ncs_machine.specs.Settings.{FitIn, scripts_in};
 ghost use Rattle.module_player.specs.EndTexts.{IsEnding};
 ghost use Rattle.command_work.specs.Work.{CutsShort};
@@ -29,7 +30,7 @@ use world_core::World;
 /// all. The lines are put as they come.
 fn play_some<S: Sink>(
     alloc: Global,
-    setting: &PlaySetting<'_>,
+    setting: &PlaySetting<'_, '_>,
     world: &mut World<Saved>,
     limits: (u64, u64, u64),
     stop: u64,
@@ -37,7 +38,7 @@ fn play_some<S: Sink>(
     done: u64,
     out: &mut S,
 ) -> Result<Played, Status>
-    requires fit { FitIn setting.now world.old.world }
+    requires fit { FitIn (seen setting.now) world.old.world }
     requires quiet { world.old.world.trace ≡ [] }
     requires next { world.old.world.agenda.next < 2 ^ 61 }
     requires limit { limits.0 ≤ instruction_limit }
@@ -47,14 +48,14 @@ fn play_some<S: Sink>(
     requires within { taken ≤ limits.1 }
     requires done { done < 2 ^ 61 }
     ensures told { IfOk result (λ answer. cut_of answer.how ≡ None) }
-    ensures ending { IfOk result (λ answer. IsEnding answer (played_on (cells_of setting.now.hooks)
-        setting.now.table limits (scripts_in setting.now) stop taken done world.old.world)
-        world.new.world) }
-    ensures trace { IsTrue S.tells → TakesLines S.taken (played_on (cells_of setting.now.hooks)
-        setting.now.table limits (scripts_in setting.now) stop taken done world.old.world) out.old
-        result out.new }
+    ensures ending { IfOk result (λ answer. IsEnding answer (played_on
+        (cells_of (seen setting.now).hooks) setting.now.code.table limits
+        (scripts_in (seen setting.now)) stop taken done world.old.world) world.new.world) }
+    ensures trace { IsTrue S.tells → TakesLines S.taken (played_on
+        (cells_of (seen setting.now).hooks) setting.now.code.table limits
+        (scripts_in (seen setting.now)) stop taken done world.old.world) out.old result out.new }
     ensures counts { TalliesPuts S.faults result out.old out.new }
-    ensures fit { OnOk result (FitIn setting.now world.new.world) }
+    ensures fit { OnOk result (FitIn (seen setting.now) world.new.world) }
     ensures posted { OnOk result
         (world.new.world.agenda.next ≤ world.old.world.agenda.next + 2 ^ 45) }
     ensures executed { IfOk result (λ answer. answer.instructions ≤ done + 2 ^ 45) }
@@ -74,7 +75,7 @@ fn play_some<S: Sink>(
 /// all. The lines are put as they come; the answer is the last world, and how this part ended.
 pub fn play_part<S: Sink>(
     alloc: Global,
-    setting: &PlaySetting<'_>,
+    setting: &PlaySetting<'_, '_>,
     world: World<Saved>,
     limits: (u64, u64, u64),
     stop: u64,
@@ -82,7 +83,7 @@ pub fn play_part<S: Sink>(
     done: u64,
     out: &mut S,
 ) -> Result<(World<Saved>, Played), Status>
-    requires fit { FitIn setting.now world.world }
+    requires fit { FitIn (seen setting.now) world.world }
     requires quiet { world.world.trace ≡ [] }
     requires next { world.world.agenda.next < 2 ^ 61 }
     requires limit { limits.0 ≤ instruction_limit }
@@ -93,15 +94,15 @@ pub fn play_part<S: Sink>(
     requires done { done < 2 ^ 61 }
     ensures told { IfOk result (λ answer. cut_of answer.1.how ≡ None) }
     ensures ending { IfOk result (λ answer. IsEnding answer.1 (played_on
-        (cells_of setting.now.hooks) setting.now.table limits (scripts_in setting.now) stop taken
-        done world.world) answer.0.world) }
+        (cells_of (seen setting.now).hooks) setting.now.code.table limits
+        (scripts_in (seen setting.now)) stop taken done world.world) answer.0.world) }
     // The sink took this part's lines, or a prefix of them where it was cut short.
-    ensures trace { IsTrue S.tells → TakesLines S.taken (played_on (cells_of setting.now.hooks)
-        setting.now.table limits (scripts_in setting.now) stop taken done world.world) out.old
-        result out.new }
+    ensures trace { IsTrue S.tells → TakesLines S.taken (played_on
+        (cells_of (seen setting.now).hooks) setting.now.code.table limits
+        (scripts_in (seen setting.now)) stop taken done world.world) out.old result out.new }
     ensures counts { TalliesPuts S.faults result out.old out.new }
     // What the world keeps, so that it can be saved: how much at most was posted, and executed.
-    ensures fit { IfOk result (λ answer. FitIn setting.now answer.0.world) }
+    ensures fit { IfOk result (λ answer. FitIn (seen setting.now) answer.0.world) }
     ensures posted { IfOk result (λ answer.
         answer.0.world.agenda.next ≤ world.world.agenda.next + 2 ^ 45) }
     ensures executed { IfOk result (λ answer. answer.1.instructions ≤ done + 2 ^ 45) }
@@ -122,7 +123,7 @@ pub fn play_part<S: Sink>(
 #[tactic(auto, using(crate::proofs::LineLemmas::plays_out, crate::proofs::LineLemmas::no_lines))]
 pub fn play_first<S: Sink>(
     alloc: Global,
-    setting: &PlaySetting<'_>,
+    setting: &PlaySetting<'_, '_>,
     area: Area,
     plan: &Plan,
     entries: u64,
@@ -132,15 +133,15 @@ pub fn play_first<S: Sink>(
     requires some { 1 ≤ entries }
     ensures told { IfOk result (λ answer. cut_of answer.1.how ≡ None) }
     ensures ending { IfOk result (λ answer. IsEnding answer.1 (played_first
-        (cells_of setting.now.hooks) setting.now.table plan.now (scripts_in setting.now) entries
-        (plan_world area plan.now)) answer.0.world) }
+        (cells_of (seen setting.now).hooks) setting.now.code.table plan.now
+        (scripts_in (seen setting.now)) entries (plan_world area plan.now)) answer.0.world) }
     // The sink took this part's lines, or a prefix of them where it was cut short.
-    ensures trace { IsTrue S.tells → TakesLines S.taken (played_first (cells_of setting.now.hooks)
-        setting.now.table plan.now (scripts_in setting.now) entries (plan_world area plan.now))
-        out.old result out.new }
+    ensures trace { IsTrue S.tells → TakesLines S.taken (played_first
+        (cells_of (seen setting.now).hooks) setting.now.code.table plan.now
+        (scripts_in (seen setting.now)) entries (plan_world area plan.now)) out.old result out.new }
     ensures counts { TalliesPuts S.faults result out.old out.new }
     // What the world keeps, so that it can be saved.
-    ensures fit { IfOk result (λ answer. FitIn setting.now answer.0.world) }
+    ensures fit { IfOk result (λ answer. FitIn (seen setting.now) answer.0.world) }
     ensures next { IfOk result (λ answer. answer.0.world.agenda.next < 2 ^ 61) }
     ensures executed { IfOk result (λ answer. answer.1.instructions < 2 ^ 61) }
     ensures only { IfErr result CutsShort }

@@ -5,6 +5,7 @@ ghost use Rattle.ncs_code.specs.Plain.{PlainOp};
 ghost use Rattle.stack_rules.specs.Rules.{MeetsRules};
 ghost use Rattle.stack_check.specs.Checked.{kept_table};
 ghost use Rattle.world_core.specs.Calls.{AreServing, cells_of};
+ghost use Rattle.ncs_machine.specs.InSetting.{seen};
 ghost use Rattle.ncs_machine.specs.Settings.{FitIn, scripts_in};
 ghost use Rattle.command_work.specs.Counts.{Refusing};
 ghost use Rattle.command_work.specs.Calls.{TalliesPuts, DoesPuts};
@@ -40,16 +41,16 @@ const UNTIL: u64 = 60_000;
 #[tactic(auto, using(crate::proofs::TellLemmas::cut_refuses))]
 fn play_world<S: Sink>(
     alloc: Global,
-    setting: &PlaySetting<'_>,
+    setting: &PlaySetting<'_, '_>,
     world: World<Saved>,
     out: &mut S,
 ) -> Result<(), Status>
-    requires fit { FitIn setting.now world.world }
+    requires fit { FitIn (seen setting.now) world.world }
     requires quiet { world.world.trace ≡ [] }
     requires next { world.world.agenda.next < 2 ^ 61 }
-    ensures does { IsTrue S.tells → DoesPuts S.taken (tells (scripts_in setting.now) (run_played
-        (cells_of setting.now.hooks) setting.now.table (scripts_in setting.now) world.world))
-        out.old result out.new }
+    ensures does { IsTrue S.tells → DoesPuts S.taken (tells (scripts_in (seen setting.now))
+        (run_played (cells_of (seen setting.now).hooks) setting.now.code.table
+        (scripts_in (seen setting.now)) world.world)) out.old result out.new }
     ensures counts { TalliesPuts S.faults result out.old out.new }
     ensures only { IfErr result (Refusing Status.Limit) }
 {
@@ -65,7 +66,7 @@ fn play_world<S: Sink>(
             drop(world);
             Err(status)
         }
-        Ok(played) => tell_end(alloc, world, setting.scripts(), &played, out),
+        Ok(played) => tell_end(alloc, world, setting.code.scripts(), &played, out),
     }
 }
 
@@ -73,14 +74,13 @@ fn play_world<S: Sink>(
 #[tactic(auto, using(crate::proofs::PlayLemmas::starts))]
 fn play_listed<S: Sink>(
     alloc: Global,
-    setting: &PlaySetting<'_>,
+    setting: &PlaySetting<'_, '_>,
     name: &[u8],
     out: &mut S,
 ) -> Result<(), Status>
-    ensures does { IsTrue S.tells → (ops : List PlainOp) →
-        scripts_in setting.now ≡ listed name.now ops → DoesPuts S.taken
-        (plays_code (cells_of setting.now.hooks) setting.now.table name.now ops)
-        out.old result out.new }
+    ensures does { IsTrue S.tells → (ops : List PlainOp) → scripts_in (seen setting.now) ≡ listed
+        name.now ops → DoesPuts S.taken (plays_code (cells_of (seen setting.now).hooks)
+        setting.now.code.table name.now ops) out.old result out.new }
     ensures counts { TalliesPuts S.faults result out.old out.new }
     ensures only { IfErr result (Refusing Status.Limit) }
 {

@@ -15,7 +15,7 @@ use Rattle.machine_rules.specs.Machine.{Script}
 use Rattle.world_core.specs.Calls.{cells_of}
 use Rattle.ncs_machine.specs.declared.scripts.Loaded.{Loaded}
 use Rattle.ncs_machine.specs.Host.{scripts_of, tables_of}
-use Rattle.ncs_machine.specs.Settings.{CodeSetting, code_setting, scripts_in}
+use Rattle.ncs_machine.specs.Settings.{CodeSetting, checked_listing, code_setting, scripts_in}
 use Rattle.ncs_machine.specs.Stored.{StatesFit}
 use Rattle.module_player.specs.Answers.{EndsAs}
 use Rattle.module_player.specs.CodePlays.{code_runner, played_before}
@@ -42,7 +42,7 @@ use Rattle.command_save.proofs.StateLemmas.{parts_are, are_spelled}
 
 -- ---- the play in the setting that is made of what is opened
 
-pub rest_in : (s : CodeSetting) (o : Opened) (hooks : List Known) → s ≡ code_setting o.scripts o.table hooks → (P : Played Saved → Type 0)
+pub rest_in : (s : CodeSetting) (o : Opened) (hooks : List Known) → s ≡ code_setting (checked_listing o.scripts o.table) hooks → (P : Played Saved → Type 0)
     → P (played_on (cells_of s.hooks) s.table o.limits (scripts_in s) (o.limits.1 + 1) o.taken o.done o.world.world) → P (rest_of (cells_of hooks) o)
 rest_in s o hooks same P h =
     subst (λ (t : CodeSetting). P (played_on (cells_of t.hooks) t.table o.limits (scripts_in t) (o.limits.1 + 1) o.taken o.done o.world.world)) same h

@@ -11,6 +11,7 @@ ghost use Rattle.machine_rules.specs.Runs.{run_stored};
 ghost use Rattle.world_rules.specs.Plays.{entered_as, event_entry, finished, turn_entry};
 ghost use Rattle.ncs_machine.specs.Endings.{FitsBegin};
 ghost use Rattle.ncs_machine.specs.Host.{run_from};
+ghost use Rattle.ncs_machine.specs.InSetting.{seen};
 ghost use Rattle.ncs_machine.specs.Settings.{FitIn, host_in, scripts_in, tables_in};
 ghost use Rattle.ncs_machine.specs.Stored.{KindFits};
 ghost use Rattle.module_player.specs.CodePlays.{run_of, runner_in};
@@ -99,25 +100,26 @@ fn finish_turn(world: &mut World<Saved>, object: u32, ended: Ended) -> Result<bo
 #[tactic(auto, using(crate::proofs::Entering::script_entered))]
 fn script_entry(
     alloc: Global,
-    setting: &PlaySetting<'_>,
+    setting: &PlaySetting<'_, '_>,
     world: &mut World<Saved>,
     script: u32,
     begin: Begin,
     object: u32,
     limit: u64,
 ) -> Result<Entered, NoMemory>
-    requires listed { script < length setting.now.scripts }
-    requires stored { FitsBegin (scripts_in setting.now) (tables_in setting.now) begin }
+    requires listed { script < length setting.now.code.scripts }
+    requires stored { FitsBegin (scripts_in (seen setting.now)) (tables_in (seen setting.now))
+        begin }
     requires limit { limit ≤ instruction_limit }
     requires ready { CanRunEntry world.old.world }
-    requires fit { FitIn setting.now world.old.world }
+    requires fit { FitIn (seen setting.now) world.old.world }
     requires object { object ≤ object_count world.old.world }
     requires room { 1 ≤ world.old.room }
-    ensures entered { IfOk result (λ e. HasEntered setting.now limit e (finished (λ v. v) (run_of
-        (run_from (host_in setting.now) limit script begin object world.old.world))) world.old.world
-        world.new.world) }
+    ensures entered { IfOk result (λ e. HasEntered (seen setting.now) limit e (finished (λ v. v)
+        (run_of (run_from (host_in (seen setting.now)) limit script begin object world.old.world)))
+        world.old.world world.new.world) }
     ensures cut { OnErr result (IsCutIn (λ n. finished (λ v. v) (run_of (run_from
-        (host_in setting.now) n script begin object world.old.world))) limit world.old.world
+        (host_in (seen setting.now)) n script begin object world.old.world))) limit world.old.world
         world.new.world) }
 {
     let (ended, count) = run_scripts(alloc, setting, world, script, begin, object, limit)?;
@@ -129,7 +131,7 @@ fn script_entry(
 #[tactic(auto, using(crate::proofs::Entering::event_lemmas))]
 fn event_entry(
     alloc: Global,
-    setting: &PlaySetting<'_>,
+    setting: &PlaySetting<'_, '_>,
     world: &mut World<Saved>,
     object: u32,
     name: &Text,
@@ -137,20 +139,20 @@ fn event_entry(
 ) -> Result<Entered, NoMemory>
     requires limit { limit ≤ instruction_limit }
     requires ready { CanRunEntry world.old.world }
-    requires fit { FitIn setting.now world.old.world }
+    requires fit { FitIn (seen setting.now) world.old.world }
     requires object { object ≤ object_count world.old.world }
     requires room { 1 ≤ world.old.room }
-    ensures entered { IfOk result (λ e. HasEntered setting.now limit e (event_entry
-        (runner_in setting.now limit) object name.now world.old.world) world.old.world
+    ensures entered { IfOk result (λ e. HasEntered (seen setting.now) limit e (event_entry
+        (runner_in (seen setting.now) limit) object name.now world.old.world) world.old.world
         world.new.world) }
-    ensures cut { OnErr result (IsCutIn (λ n. event_entry (runner_in setting.now n) object name.now
-        world.old.world) limit world.old.world world.new.world) }
+    ensures cut { OnErr result (IsCutIn (λ n. event_entry (runner_in (seen setting.now) n) object
+        name.now world.old.world) limit world.old.world world.new.world) }
 {
     if name.bytes().is_empty() {
         return Ok(QUIET);
     }
-    setting.keeps();
-    match setting.named(name) {
+    setting.code.keeps();
+    match setting.code.named(name) {
         None => {
             world.no_script(object, name)?;
             Ok(QUIET)
@@ -171,26 +173,26 @@ fn event_entry(
 #[tactic(auto, using(crate::proofs::Entering::action_lemmas))]
 fn action_entry(
     alloc: Global,
-    setting: &PlaySetting<'_>,
+    setting: &PlaySetting<'_, '_>,
     world: &mut World<Saved>,
     object: u32,
     saved: Saved,
     limit: u64,
 ) -> Result<Entered, NoMemory>
-    requires stored { FitsOne (scripts_in setting.now) (tables_in setting.now) saved }
+    requires stored { FitsOne (scripts_in (seen setting.now)) (tables_in (seen setting.now)) saved }
     requires limit { limit ≤ instruction_limit }
     requires clock { world.old.world.clock < 2 ^ 62 }
     requires next { world.old.world.agenda.next < 2 ^ 62 }
-    requires fit { FitIn setting.now world.old.world }
+    requires fit { FitIn (seen setting.now) world.old.world }
     requires first { 1 ≤ object }
     requires within { object ≤ object_count world.old.world }
     requires acting { IsActing object world.old.world }
     requires room { 1 ≤ world.old.room }
-    ensures entered { IfOk result (λ e. HasActed setting.now limit e (finished (turn_done object)
-        (run_of (run_stored (host_in setting.now) limit saved object world.old.world)))
-        world.old.world world.new.world) }
+    ensures entered { IfOk result (λ e. HasActed (seen setting.now) limit e (finished
+        (turn_done object) (run_of (run_stored (host_in (seen setting.now)) limit saved object
+        world.old.world))) world.old.world world.new.world) }
     ensures cut { OnErr result (IsCutIn (λ n. finished (turn_done object) (run_of (run_stored
-        (host_in setting.now) n saved object world.old.world))) limit world.old.world
+        (host_in (seen setting.now)) n saved object world.old.world))) limit world.old.world
         world.new.world) }
 {
     let script = saved.script;
@@ -204,21 +206,22 @@ fn action_entry(
 #[tactic(auto, using(crate::proofs::Entering::turn_entry_lemmas))]
 fn turn_entry(
     alloc: Global,
-    setting: &PlaySetting<'_>,
+    setting: &PlaySetting<'_, '_>,
     world: &mut World<Saved>,
     object: u32,
     limit: u64,
 ) -> Result<Entered, NoMemory>
     requires limit { limit ≤ instruction_limit }
     requires ready { CanRunEntry world.old.world }
-    requires fit { FitIn setting.now world.old.world }
+    requires fit { FitIn (seen setting.now) world.old.world }
     requires first { 1 ≤ object }
     requires within { object ≤ object_count world.old.world }
     requires acting { IsActing object world.old.world }
     requires room { 1 ≤ world.old.room }
-    ensures entered { IfOk result (λ e. HasEntered setting.now limit e (turn_taken
-        (runner_in setting.now limit) object world.old.world) world.old.world world.new.world) }
-    ensures cut { OnErr result (IsCutIn (λ n. turn_taken (runner_in setting.now n) object
+    ensures entered { IfOk result (λ e. HasEntered (seen setting.now) limit e (turn_taken
+        (runner_in (seen setting.now) limit) object world.old.world) world.old.world
+        world.new.world) }
+    ensures cut { OnErr result (IsCutIn (λ n. turn_taken (runner_in (seen setting.now) n) object
         world.old.world) limit world.old.world world.new.world) }
 {
     entries_keep_worlds::<Saved>();
@@ -251,22 +254,23 @@ fn unapply_entry(world: &mut World<Saved>, object: u32, number: u64) -> Result<E
 #[tactic(auto, using(crate::proofs::Entering::entry_lemmas))]
 pub(crate) fn enter(
     alloc: Global,
-    setting: &PlaySetting<'_>,
+    setting: &PlaySetting<'_, '_>,
     world: &mut World<Saved>,
     entry: Entry<Saved>,
     limit: u64,
 ) -> Result<Entered, NoMemory>
     requires limit { limit ≤ instruction_limit }
     requires ready { CanRunEntry world.old.world }
-    requires fit { FitIn setting.now world.old.world }
+    requires fit { FitIn (seen setting.now) world.old.world }
     requires placed { IsPlaced (object_count world.old.world) entry.kind }
     requires acting { (o : ℕ) → entry.kind ≡ kind.Turn o → IsActing o world.old.world }
-    requires stored { KindFits (scripts_in setting.now) (tables_in setting.now) entry.kind }
+    requires stored { KindFits (scripts_in (seen setting.now)) (tables_in (seen setting.now))
+        entry.kind }
     requires room { 1 ≤ world.old.room }
-    ensures entered { IfOk result (λ e. HasEntered setting.now limit e (entered_as
-        (runner_in setting.now limit) entry.kind entry.number world.old.world) world.old.world
-        world.new.world) }
-    ensures cut { OnErr result (IsCutIn (λ n. entered_as (runner_in setting.now n) entry.kind
+    ensures entered { IfOk result (λ e. HasEntered (seen setting.now) limit e (entered_as
+        (runner_in (seen setting.now) limit) entry.kind entry.number world.old.world)
+        world.old.world world.new.world) }
+    ensures cut { OnErr result (IsCutIn (λ n. entered_as (runner_in (seen setting.now) n) entry.kind
         entry.number world.old.world) limit world.old.world world.new.world) }
 {
     let Entry {

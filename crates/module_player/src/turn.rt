@@ -9,6 +9,7 @@ ghost use Rattle.world_rules.specs.Trace.{trace_text};
 ghost use Rattle.world_rules.specs.Turns.{begin, drained};
 ghost use Rattle.world_rules.specs.World.{count as object_count};
 ghost use Rattle.world_rules.specs.Plays.{entered_as};
+ghost use Rattle.ncs_machine.specs.InSetting.{seen};
 ghost use Rattle.ncs_machine.specs.Settings.{FitIn, host_in, scripts_in, tables_in};
 ghost use Rattle.ncs_machine.specs.Stored.{KindFits};
 ghost use Rattle.module_player.specs.Cuts.{IsCutAt, IsCutIn, WhereCutIn};
@@ -84,7 +85,7 @@ fn put_lines<S: Sink>(world: &mut World<Saved>, text: &mut Vec<u8>, out: &mut S)
 #[tactic(auto, using(crate::proofs::Turning::take_lemmas))]
 fn take<S: Sink>(
     alloc: Global,
-    setting: &PlaySetting<'_>,
+    setting: &PlaySetting<'_, '_>,
     world: &mut World<Saved>,
     entry: Entry<Saved>,
     limit: u64,
@@ -93,19 +94,21 @@ fn take<S: Sink>(
 ) -> TurnOutcome
     requires limit { limit ≤ instruction_limit }
     requires ready { CanRunEntry world.old.world }
-    requires fit { FitIn setting.now world.old.world }
+    requires fit { FitIn (seen setting.now) world.old.world }
     requires placed { IsPlaced (object_count world.old.world) entry.kind }
     requires acting { (o : ℕ) → entry.kind ≡ kind.Turn o → IsActing o world.old.world }
-    requires stored { KindFits (scripts_in setting.now) (tables_in setting.now) entry.kind }
+    requires stored { KindFits (scripts_in (seen setting.now)) (tables_in (seen setting.now))
+        entry.kind }
     requires room { 1 ≤ world.old.room }
-    ensures takes { Takes result setting.now limit (entered_as (runner_in setting.now limit)
-        entry.kind entry.number world.old.world) world.old.world world.new.world }
+    ensures takes { Takes result (seen setting.now) limit (entered_as
+        (runner_in (seen setting.now) limit) entry.kind entry.number world.old.world)
+        world.old.world world.new.world }
     ensures taken { IsTrue S.tells → TakesText result (lines_text (entered_as
-        (runner_in setting.now limit) entry.kind entry.number world.old.world)) (S.taken out.old)
-        (S.taken out.new) }
+        (runner_in (seen setting.now) limit) entry.kind entry.number world.old.world))
+        (S.taken out.old) (S.taken out.new) }
     ensures counts { CountsNext result (S.faults out.old) (S.faults out.new) }
-    ensures cut { WhereCutIn result (IsCutIn (λ n. entered_as (runner_in setting.now n) entry.kind
-        entry.number world.old.world) limit world.old.world world.new.world) }
+    ensures cut { WhereCutIn result (IsCutIn (λ n. entered_as (runner_in (seen setting.now) n)
+        entry.kind entry.number world.old.world) limit world.old.world world.new.world) }
 {
     match enter(alloc, setting, world, entry, limit) {
         Err(_) => TurnOutcome::NoMemory,
@@ -127,7 +130,7 @@ fn take<S: Sink>(
 #[tactic(auto, using(crate::proofs::Turning::turn_lemmas))]
 pub(crate) fn turn<S: Sink>(
     alloc: Global,
-    setting: &PlaySetting<'_>,
+    setting: &PlaySetting<'_, '_>,
     world: &mut World<Saved>,
     limit: u64,
     until: u64,
@@ -137,14 +140,14 @@ pub(crate) fn turn<S: Sink>(
     requires limit { limit ≤ instruction_limit }
     requires until { until ≤ time_limit }
     requires next { world.old.world.agenda.next + 1 < 2 ^ 62 }
-    requires fit { FitIn setting.now world.old.world }
-    ensures turns { Turns result setting.now limit (runner_in setting.now limit)
+    requires fit { FitIn (seen setting.now) world.old.world }
+    ensures turns { Turns result (seen setting.now) limit (runner_in (seen setting.now) limit)
         (begin until world.old.world) world.old.world world.new.world }
     ensures taken { IsTrue S.tells → TakesText result (trace_text (lines_of
-        (runner_in setting.now limit) (begin until world.old.world))) (S.taken out.old)
+        (runner_in (seen setting.now) limit) (begin until world.old.world))) (S.taken out.old)
         (S.taken out.new) }
     ensures counts { CountsNext result (S.faults out.old) (S.faults out.new) }
-    ensures cut { WhereCutIn result (IsCutAt (host_in setting.now) limit
+    ensures cut { WhereCutIn result (IsCutAt (host_in (seen setting.now)) limit
         (begin until world.old.world) world.old.world world.new.world) }
 {
     entries_keep_fits();

@@ -5,6 +5,7 @@ use Rattle.std.specs.Option.{option_map}
 use Rattle.std.proofs.lemmas.Option.{slice_get-map}
 use Rattle.nwq_value.specs.Engine.{EngineTable}
 use Rattle.saved_state.specs.declared.saved.Saved.{Saved}
+use Rattle.hook_table.specs.declared.hook.Known.{Known}
 use Rattle.machine_rules.specs.Frames.{Frame, started, continued}
 use Rattle.machine_rules.specs.Machine.{Host}
 use Rattle.machine_rules.specs.Runs.{entry, run}
@@ -18,7 +19,7 @@ use Rattle.world_rules.specs.World.{World}
 use Rattle.ncs_machine.specs.declared.entry.Ran.{Ran}
 use Rattle.ncs_machine.specs.Endings.{FitsBegin, IsCut, IsRunOf, WhereCut}
 use Rattle.ncs_machine.specs.Host.{first_frame, script_of, scripts_of}
-use Rattle.ncs_machine.specs.Settings.{CodeSetting, host_in, scripts_in, tables_in}
+use Rattle.ncs_machine.specs.Settings.{CheckedListing, CodeSetting, checked_listing, code_setting, host_in, scripts_in, tables_in}
 use Rattle.ncs_machine.specs.Steps.{Frames, Untouched, state}
 
 some_in : {A : Type 0} (xs : List A) (i : ℕ) → i < length xs → (x : A) × (slice_get xs i ≡ Some x)
@@ -52,7 +53,11 @@ pub not_begun : (h : Host (World Saved)) (script : ℕ) (begin : Begin) (caller 
 not_begun h script (Start) caller w = record { ending = refl; counted = refl; own = refl; world = Untouched refl }
 not_begun h script (Stored saved) caller w = record { ending = refl; counted = refl; own = refl; world = Untouched refl }
 
--- ---- a setting's fields, in the value that contracts see
+-- ---- a setting by its parts
+
+pub setting_is : (l : CheckedListing) (scripts : List Loaded) (table : EngineTable) (hooks : List Known) → scripts ≡ l.scripts → table ≡ l.table
+    → code_setting (checked_listing scripts table) hooks ≡ code_setting l hooks
+setting_is l scripts table hooks a b = rw (a, b) refl
 
 pub safe_here : (s t : CodeSetting) (f g : Frame) → s ≡ t → f ≡ g → IsSafeFrame (scripts_in s) (tables_in s) f → IsSafeFrame (scripts_in t) (tables_in t) g
 safe_here s t f g same alone h = subst (IsSafeFrame (scripts_in t) (tables_in t)) alone (subst (λ k. IsSafeFrame (scripts_in k) (tables_in k) f) same h)

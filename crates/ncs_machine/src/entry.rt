@@ -8,6 +8,7 @@ ghost use Rattle.world_rules.specs.World.{count};
 ghost use Rattle.ncs_machine.specs.Endings.{FitsBegin, IsCut, IsRunOf, WhereCut};
 ghost use Rattle.ncs_machine.specs.Host.{engine_view, first_frame, host, run_from, scripts_of};
 ghost use Rattle.ncs_machine.specs.Host.{tables_of};
+ghost use Rattle.ncs_machine.specs.InSetting.{seen};
 ghost use Rattle.ncs_machine.specs.Settings.{host_in, scripts_in, tables_in};
 ghost use Rattle.ncs_machine.specs.Steps.{state};
 ghost use Rattle.world_core.specs.Calls.{AreServing};
@@ -101,7 +102,7 @@ fn run_machine(
 /// The run of one frame, in a setting.
 fn run_frame(
     alloc: Global,
-    setting: &PlaySetting<'_>,
+    setting: &PlaySetting<'_, '_>,
     frame: Frame,
     world: &mut World<Saved>,
     limit: u64,
@@ -110,22 +111,24 @@ fn run_frame(
     requires clock { world.old.world.clock < 2 ^ 62 }
     requires next { world.old.world.agenda.next < 2 ^ 62 }
     requires caller { frame.self ≤ count world.old.world }
-    requires safe { IsSafeFrame (scripts_in setting.now) (tables_in setting.now) frame }
+    requires safe { IsSafeFrame (scripts_in (seen setting.now)) (tables_in (seen setting.now))
+        frame }
     ensures room { world.old.room ≤ world.new.room }
-    ensures run { IsRunOf result.0 result.1 result.2
-        (run_of (host_in setting.now) limit (entry frame world.old.world))
-        (scripts_in setting.now) (tables_in setting.now) world.old.world world.new.world }
-    ensures cut { WhereCut result.0 (IsCut (host_in setting.now) result.1 result.2
+    ensures run { IsRunOf result.0 result.1 result.2 (run_of (host_in (seen setting.now)) limit
+        (entry frame world.old.world)) (scripts_in (seen setting.now))
+        (tables_in (seen setting.now)) world.old.world world.new.world }
+    ensures cut { WhereCut result.0 (IsCut (host_in (seen setting.now)) result.1 result.2
         (entry frame world.old.world) world.new.world) }
 {
+    setting.code.keeps();
     let mut machine = Machine::of(alloc, frame);
     run_machine(
         alloc,
-        setting.scripts,
+        setting.code.scripts(),
         &mut machine,
         world,
         setting.hooks,
-        setting.table,
+        setting.code.table(),
         limit,
     )
 }
@@ -135,28 +138,29 @@ fn run_frame(
 #[tactic(auto, using(crate::proofs::Beginning::begin_lemmas))]
 pub fn run(
     alloc: Global,
-    setting: &PlaySetting<'_>,
+    setting: &PlaySetting<'_, '_>,
     script: u32,
     begin: Begin,
     world: &mut World<Saved>,
     caller: u32,
     limit: u64,
 ) -> (Ran, u64, u32)
-    requires listed { script < length setting.now.scripts }
-    requires stored { FitsBegin (scripts_in setting.now) (tables_in setting.now) begin }
+    requires listed { script < length setting.now.code.scripts }
+    requires stored { FitsBegin (scripts_in (seen setting.now)) (tables_in (seen setting.now))
+        begin }
     requires limit { limit ≤ instruction_limit }
     requires clock { world.old.world.clock < 2 ^ 62 }
     requires next { world.old.world.agenda.next < 2 ^ 62 }
     requires caller { caller ≤ count world.old.world }
     ensures room { world.old.room ≤ world.new.room }
-    ensures run { IsRunOf result.0 result.1 result.2
-        (run_from (host_in setting.now) limit script begin caller world.old.world)
-        (scripts_in setting.now) (tables_in setting.now) world.old.world world.new.world }
-    ensures cut { WhereCut result.0 (IsCut (host_in setting.now) result.1 result.2
-        (entry (first_frame script begin caller) world.old.world) world.new.world) }
+    ensures run { IsRunOf result.0 result.1 result.2 (run_from (host_in (seen setting.now)) limit
+        script begin caller world.old.world) (scripts_in (seen setting.now))
+        (tables_in (seen setting.now)) world.old.world world.new.world }
+    ensures cut { WhereCut result.0 (IsCut (host_in (seen setting.now)) result.1 result.2 (entry
+        (first_frame script begin caller) world.old.world) world.new.world) }
 {
     entries_begin_safely();
-    setting.keeps();
+    setting.code.keeps();
     match begin {
         Begin::Start => {
             let frame = Frame::started(alloc, script, caller);

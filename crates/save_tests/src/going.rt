@@ -4,6 +4,7 @@ ghost use Rattle.std.specs.Prelude.{◌≡◌, ◌≤◌, ◌<◌, ◌^◌, [], 
 ghost use Rattle.world_core.specs.Calls.{AreServing};
 ghost use Rattle.stack_rules.specs.Laws.{AllMeet};
 ghost use Rattle.ncs_machine.specs.Host.{scripts_of, tables_of};
+ghost use Rattle.ncs_machine.specs.InSetting.{seen};
 ghost use Rattle.ncs_machine.specs.Settings.{FitIn};
 ghost use Rattle.ncs_machine.specs.Stored.{StatesFit};
 
@@ -28,14 +29,14 @@ fn at_most(limit: u64) -> u64
 /// the entries taken and the instructions done; `None` where one of these numbers is too large.
 fn go_on_by(
     alloc: Global,
-    setting: &PlaySetting<'_>,
+    setting: &PlaySetting<'_, '_>,
     world: &mut World<Saved>,
     limits: (u64, u64, u64),
     taken: u64,
     done: u64,
     out: &mut MemSink,
 ) -> Option<Played>
-    requires fit { FitIn setting.now world.old.world }
+    requires fit { FitIn (seen setting.now) world.old.world }
     requires quiet { world.old.world.trace ≡ [] }
 {
     let (limit, entries, until) = limits;

@@ -1,6 +1,7 @@
 use Rattle.std.proofs.Common.{subst}
 use Rattle.world_core.specs.Calls.{cells_of}
 use Rattle.ncs_machine.specs.Host.{scripts_of}
+use Rattle.ncs_machine.specs.InSetting.{seen}
 use Rattle.ncs_machine.specs.Settings.{scripts_in}
 use Rattle.command_work.specs.Work.{Does}
 use Rattle.command_work.specs.Counts.{Counted}
@@ -13,7 +14,7 @@ use Rattle.command_play.proofs.play.play_plan.Goals as goal
 
 pub returns-in-Ok-clause-does : goal.returns-in-Ok-clause-does
 returns-in-Ok-clause-does g c = λ files_tell sink_tells.
-    let s = c.args.setting.now in
+    let s = seen c.args.setting.now in
     let p = plan_played (cells_of s.hooks) s.table c.args.plan.now (scripts_in s) (plan_world c.args.area c.args.plan.now) in
     trace_whole (cells_of s.hooks) s.table c.args.area c.args.plan.now c.args.to.now (scripts_in s) (g.F.Files.contents c.args.files.now)
     (g.F.Files.contents c.tell_end.new.files) (g.S.Sink.taken c.args.out.now) (g.S.Sink.taken c.play_lines.new.out) c.tell_end.result
