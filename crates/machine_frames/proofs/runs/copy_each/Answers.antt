@@ -1,6 +1,6 @@
 use Rattle.std.proofs.Common.{arith, ◌≡◌, ◌<◌, ◌-◌, ℕ, suc}
 use Rattle.machine_frames.proofs.RunLemmas.{copy_begins, from_fits, onto_fits, reads, writes, copied_one}
-use Rattle.machine_frames.proofs.runs.copy_down.Goals as goal
+use Rattle.machine_frames.proofs.runs.copy_each.Goals as goal
 
 pub loop-left-init : goal.loop-left-init
 loop-left-init c = copy_begins c.args.from c.args.onto c.args.count c.args.stack.now c.requires.from c.requires.onto c.requires.order

@@ -1,4 +1,4 @@
-use Rattle.machine_frames.proofs.runs.copy_down.Given as goal
+use Rattle.machine_frames.proofs.runs.copy_each.Given as goal
 use Rattle.machine_frames.proofs.RunLemmas.{CopiedDown}
 
 abbrev pub invariant-loop-left : goal.invariant-loop-left
