@@ -1,5 +1,5 @@
 //! The play of a plan, and what it leaves.
-ghost use Rattle.std.specs.Prelude.{◌<◌, ◌^◌, length, map, IsTrue, IfErr};
+ghost use Rattle.std.specs.Prelude.{◌≡◌, ◌<◌, ◌^◌, length, map, IsTrue, IfErr};
 ghost use Rattle.plan_text.specs.Plans.{IsPlan};
 ghost use Rattle.stack_rules.specs.Laws.{AllMeet};
 ghost use Rattle.world_core.specs.Calls.{AreServing, cells_of};

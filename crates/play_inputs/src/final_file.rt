@@ -1,4 +1,4 @@
-ghost use Rattle.std.specs.Prelude.{ℕ, IsTrue, IfErr};
+ghost use Rattle.std.specs.Prelude.{◌≡◌, ℕ, IsTrue, IfErr};
 ghost use Rattle.gff_tree.specs.Whole.{plain_gff};
 ghost use Rattle.area_back.specs.Back.{tree_back};
 ghost use Rattle.command_work.specs.Counts.{KeepsBut, Refusing};

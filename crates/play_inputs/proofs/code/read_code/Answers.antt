@@ -13,4 +13,5 @@ returns-clause-names g c =
 pub returns-clause-once : goal.returns-clause-once
 returns-clause-once g c = λ tells.
     subst (λ (name : List ℕ). OnOk c.read_by.result (ReadsCode c.args.line.now.binary (g.F.Files.contents c.args.files.now) name (g.F.Files.reads c.args.files.now)
-    (g.F.Files.reads c.read_by.new.files))) (c.in-Ok.ensures.same ∙ c.bytes.ensures.same) (c.read_by.ensures.once tells)
+    (g.F.Files.reads c.read_by.new.files))) (c.deref-in-Ok-code_name.ensures ∙ (c.in-Ok.ensures.same ∙ c.bytes.ensures.same))
+    (c.read_by.ensures.once tells)
