@@ -1,6 +1,6 @@
 -- Variables by their places: how many have each, and those that share one.
-use Rattle.std.proofs.Common.{◌≡◌, ◌<◌, ◌≤◌, ℕ, ℤ, zero, suc, ◌+◌, List, [], ◌∷◌, ◌++◌, length, take, drop, get_or, map, filter, replicate, cond, sym, ap, refl, ◌∙◌, subst, inl, inr, ◌⊎◌, ◌%◌, arith}
-use Rattle.std.specs.Prelude.{◌==◌, Result, Ok, Err, IfOk, Some, slice_get, Bool, true, false, ◌||◌, IsTrue, ◌↔◌, nat_eq, nat_lt, if◌then◌else◌}
+use Rattle.std.proofs.Common.{◌≡◌, ◌<◌, ◌≤◌, ℕ, zero, suc, ◌+◌, List, [], ◌∷◌, ◌++◌, length, take, drop, get_or, map, filter, replicate, cond, sym, ap, refl, ◌∙◌, subst, inl, inr, ◌⊎◌, ◌%◌, arith}
+use Rattle.std.specs.Prelude.{◌==◌, Result, Ok, Err, IfOk, Some, slice_get, Bool, true, false, IsTrue, ◌↔◌, nat_eq, nat_lt, if◌then◌else◌}
 use Rattle.std.specs.List.{AllByRecursion, IsDistinct, list_any}
 use Rattle.std.specs.Option.{option_map}
 use Rattle.std.specs.Str.{bytes_eq}

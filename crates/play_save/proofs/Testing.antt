@@ -1,5 +1,5 @@
 -- Which rule is the first that is broken.
-use Rattle.std.proofs.Common.{◌≡◌, ◌≤◌, ℕ, zero, suc, List, [], ◌∷◌, length, refl, sym, ap, ◌∙◌, subst, inl, inr}
+use Rattle.std.proofs.Common.{◌≡◌, ◌≤◌, ℕ, List, length, refl, sym, ap, ◌∙◌, subst, inl, inr}
 use Rattle.nwq_value.specs.Engine.{EngineTable}
 use Rattle.nwq_value.specs.Limits.{script_limit}
 use Rattle.area_rules.specs.Area.{PlainArea, area_of}
@@ -7,7 +7,7 @@ use Rattle.state_format.specs.declared.parts.Script.{Script}
 use Rattle.state_format.specs.declared.parts.Parts.{Parts}
 use Rattle.play_save.specs.declared.fault.StateFault.{StateFault}
 use Rattle.play_save.specs.declared.fault.StateFault.TheVariants as fault
-use Rattle.play_save.specs.Rules.{Rule, KeepsAll, IsFirstBroken, IsUnfit, IsAccepted, IsHeaderOf, HasHeader, HasScripts, HasArea, KeepsLimits, HasAgenda, HasStates, HasTurns}
+use Rattle.play_save.specs.Rules.{IsUnfit, IsAccepted, IsHeaderOf, HasHeader, HasScripts, HasArea, KeepsLimits, HasAgenda, HasStates, HasTurns}
 use Rattle.play_save.specs.Breaking.{Breaks, BreaksFirst, BreaksLast, AreSound, IsReadFrom, IsPreparedFor}
 use Rattle.engine_table.specs.Headers.{OneHeader}
 use Rattle.play_save.proofs.CapturedLemmas.{one_table}
