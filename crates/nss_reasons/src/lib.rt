@@ -2,9 +2,9 @@
 //!
 //! [`explain`] answers for a token the [`Reason`] of the node there whose rule doesn't fit its
 //! parts: the types that they have and the one that is wanted, the counts of arguments, the value
-//! of a case. `specs/Reasons.antt` says it of the tree, by what the definitions of `typing_rules` give
-//! for the node's parts. The walk goes over the unit once; only at the token are parts typed, with
-//! the walks of `nss_expressions`. The page on it is docs/TYPES.md.
+//! of a case. `specs/Reasons.antt` says it of the tree, by what the definitions of `typing_rules`
+//! give for the node's parts. The walk goes over the unit once; only at the token are parts typed,
+//! with the walks of `nss_expressions`. The page on it is docs/TYPES.md.
 #![tactic(auto)]
 
 #[tactic(auto, using(crate::proofs::CallLemmas::filled_is, crate::proofs::CallLemmas::count_is))]

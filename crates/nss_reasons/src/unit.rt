@@ -96,8 +96,8 @@ fn reason_in(
     reason
 }
 
-/// Why the node of a unit with this token is refused: the first reason there of the nodes whose rule
-/// doesn't fit their typed parts.
+/// Why the node of a unit with this token is refused: the first reason there of the nodes whose
+/// rule doesn't fit their typed parts.
 pub fn explain(
     alloc: Global,
     table: &Table,
