@@ -1,4 +1,4 @@
-use Rattle.std.proofs.Common.{◌≡◌, ◌∙◌, ◌+◌, drop, false, true, if◌then◌else◌, Some, sym, ap, arith, rules}
+use Rattle.std.proofs.Common.{◌≡◌, ◌∙◌, ◌+◌, drop, false, true, if◌then◌else◌, slice_index_or, Some, sym, ap, arith, rules}
 use Rattle.std.proofs.lemmas.List.{at_drop_all}
 use Rattle.nwq_value.specs.declared.engine.Param.{Param}
 use Rattle.typing_rules.specs.Reading.{plain, plain_all}
@@ -15,10 +15,11 @@ returns-then-not-takes c =
     let n = c.loop-number.number in
     let x = c.index-xs-number.result in
     let p = c.index-params-number.result in
-    let same = ap (λ (q : Param). q.ty) c.index-params-number.is in
+    let wanted = (slice_index_or c.args.params.now n p).ty in
+    let same : p.ty ≡ wanted = ap (λ (q : Param). q.ty) c.index-params-number.is in
     let refused : c.takes.result ≡ false = search rules in
     let no : takes p.ty (plain x) ≡ false = ap (λ t. takes t (plain x)) same ∙ (sym c.takes.ensures ∙ refused) in
-    ap (λ t. Some (Argument (n + 1) t _)) c.ty.ensures.ty
+    ap (λ t. Some (Argument (n + 1) t wanted)) c.ty.ensures.ty
     ∙ (ap (λ t. Some (Argument (n + 1) (type_of (plain x)) t)) (sym same)
     ∙ (sym (ap (λ b. if b then untaken (n + 1) (plain_all (drop (n + 1) c.args.xs.now)) (drop (n + 1) c.args.params.now) else Some (Argument (n + 1) (type_of (plain x)) p.ty)) no)
     ∙ (sym (untaken_at n c.args.xs.now c.args.params.now n x p c.loop-number-test.true c.index-xs-number.is c.if-number-params.true c.index-params-number.is) ∙ c.loop-number.invariant)))
@@ -28,7 +29,8 @@ loop-number-preserved c =
     let n = c.loop-number.number in
     let x = c.index-xs-number.result in
     let p = c.index-params-number.result in
-    let same = ap (λ (q : Param). q.ty) c.index-params-number.is in
+    let wanted = (slice_index_or c.args.params.now n p).ty in
+    let same : p.ty ≡ wanted = ap (λ (q : Param). q.ty) c.index-params-number.is in
     let taken : c.takes.result ≡ true = search rules in
     let yes : takes p.ty (plain x) ≡ true = ap (λ t. takes t (plain x)) same ∙ (sym c.takes.ensures ∙ taken) in
     sym (ap (λ b. if b then untaken (n + 1) (plain_all (drop (n + 1) c.args.xs.now)) (drop (n + 1) c.args.params.now) else Some (Argument (n + 1) (type_of (plain x)) p.ty)) yes)
