@@ -1,6 +1,6 @@
 -- The sentence for each reason that tells types or counts. A `%` stands for the token.
 use Rattle.std.specs.Prelude.{ℕ, ◌==◌, nat_lt, List, [], ◌++◌, bytes_eq, codes, Option, None, Some, if◌then◌else◌}
-use Rattle.nwq_text.specs.Number.{decimal}
+use Rattle.std.specs.Fmt.{decimal}
 use Rattle.nwq_value.specs.declared.value.Ty.{Ty}
 use Rattle.nwq_value.specs.declared.value.Ty.TheVariants.{Void, Int, Text, Object, Effect, Event, Action, Struct, Refused}
 use Rattle.message_sentences.specs.Template.{filled}

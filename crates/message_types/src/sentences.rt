@@ -1,7 +1,7 @@
 //! The sentences for reasons that tell types or counts.
 
 ghost use Rattle.std.specs.Prelude.{◌≡◌, ◌++◌, ℕ, List, codes, is_some, IfOk, OnOk};
-ghost use Rattle.nwq_text.specs.Number.{decimal};
+ghost use Rattle.std.specs.Fmt.{decimal};
 ghost use Rattle.nss_reasons.specs.declared.reason.Reason.TheVariants.{Returned};
 ghost use Rattle.message_types.specs.Sentences.{count_text, or_nothing, range_text, said, sum_text};
 ghost use Rattle.message_types.specs.Sentences.{type_word, wanted_text};
@@ -78,6 +78,18 @@ fn sum_text(piece: &[u8], left: Ty, right: Ty) -> &'static str
     }
 }
 
+/// Appends the types of the operands of an operator.
+fn put_pair(out: &mut Vec<u8>, piece: &[u8], left: Ty, right: Ty) -> Result<(), NoMemory>
+    ensures appends { OnOk result (out.new.items ≡ out.old.items
+        ++ (type_word left ++ (codes " and " ++ (type_word right
+        ++ sum_text piece.now left right)))) }
+{
+    put_words(out, type_word(left))?;
+    put_words(out, " and ")?;
+    put_words(out, type_word(right))?;
+    put_words(out, sum_text(piece, left, right))
+}
+
 /// Appends the sentence on the operands of an operator.
 fn put_operands(out: &mut Vec<u8>, piece: &[u8], left: Ty, right: Ty) -> Result<(), NoMemory>
     ensures appends { OnOk result (out.new.items ≡ out.old.items
@@ -85,15 +97,12 @@ fn put_operands(out: &mut Vec<u8>, piece: &[u8], left: Ty, right: Ty) -> Result<
         ++ (type_word left ++ (codes " and " ++ (type_word right
         ++ sum_text piece.now left right))))) }
 {
-    put_typed(
+    put_sentence(
         out,
         "the types that `%` is given don't go together: ",
         piece,
-        left,
     )?;
-    put_words(out, " and ")?;
-    put_words(out, type_word(right))?;
-    put_words(out, sum_text(piece, left, right))
+    put_pair(out, piece, left, right)
 }
 
 fn put_number(out: &mut Vec<u8>, number: usize) -> Result<(), NoMemory>
@@ -134,6 +143,16 @@ fn put_counts(out: &mut Vec<u8>, given: usize, least: usize, most: usize) -> Res
     put_words(out, last)
 }
 
+/// Appends the number of an argument, its type and the one that is wanted.
+fn put_numbered(out: &mut Vec<u8>, number: usize, given: Ty, wanted: Ty) -> Result<(), NoMemory>
+    ensures appends { OnOk result (out.new.items ≡ out.old.items
+        ++ (decimal number ++ (codes ": " ++ wanted_text given wanted))) }
+{
+    put_number(out, number)?;
+    put_words(out, ": ")?;
+    put_wanted(out, given, wanted)
+}
+
 /// Appends the sentence on the first argument that its parameter doesn't take.
 fn put_argument(
     out: &mut Vec<u8>,
@@ -152,9 +171,7 @@ fn put_argument(
         "an argument of `%` has another type than its parameter: argument ",
         piece,
     )?;
-    put_number(out, number)?;
-    put_words(out, ": ")?;
-    put_wanted(out, given, wanted)
+    put_numbered(out, number, given, wanted)
 }
 
 /// Appends the sentence on what a `return` gives back.

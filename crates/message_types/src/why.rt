@@ -49,6 +49,7 @@ fn put_of_tree(
     piece: &[u8],
     table: &Table,
 ) -> Result<bool, NoMemory>
+    requires few { length tokens.now ≤ token_limit }
     ensures told { IfOk result
         (Told table.now (plain_tree tree.now) piece.now out.old.items out.new.items) }
 {
