@@ -153,24 +153,21 @@ fn put_numbered(out: &mut Vec<u8>, number: usize, given: Ty, wanted: Ty) -> Resu
     put_wanted(out, given, wanted)
 }
 
-/// Appends the sentence on the first argument that its parameter doesn't take.
+/// Appends a sentence, and behind it the number of an argument, its type and the one that is
+/// wanted.
 fn put_argument(
     out: &mut Vec<u8>,
+    sentence: &str,
     piece: &[u8],
     number: usize,
     given: Ty,
     wanted: Ty,
 ) -> Result<(), NoMemory>
     ensures appends { OnOk result (out.new.items ≡ out.old.items
-        ++ (filled piece.now
-        (codes "an argument of `%` has another type than its parameter: argument ")
+        ++ (filled piece.now sentence.now
         ++ (decimal number ++ (codes ": " ++ wanted_text given wanted)))) }
 {
-    put_sentence(
-        out,
-        "an argument of `%` has another type than its parameter: argument ",
-        piece,
-    )?;
+    put_sentence(out, sentence, piece)?;
     put_numbered(out, number, given, wanted)
 }
 
@@ -255,7 +252,14 @@ fn put_said(out: &mut Vec<u8>, piece: &[u8], reason: Reason) -> Result<(), NoMem
             number,
             given,
             wanted,
-        } => put_argument(out, piece, number, given, wanted),
+        } => put_argument(
+            out,
+            "an argument of `%` has another type than its parameter: argument ",
+            piece,
+            number,
+            given,
+            wanted,
+        ),
         Reason::Condition { ty } => put_typed(out, "the condition of `%` is no int: ", piece, ty),
         Reason::Returned { given, wanted } => put_returned(out, piece, given, wanted),
         Reason::Value { given, wanted } => put_value(
