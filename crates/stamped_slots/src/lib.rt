@@ -9,6 +9,10 @@
 #![tactic(auto)]
 
 mod slots;
+mod stamp_index;
 mod stamped;
+mod walk;
 
+pub use stamp_index::StampIndex;
 pub use stamped::Stamped;
+pub use walk::Walk;
