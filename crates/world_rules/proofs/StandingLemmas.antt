@@ -1,5 +1,5 @@
 -- Effects under their stamps, and the stamps under their numbers and hashes.
-use Rattle.std.proofs.Common.{◌≡◌, ◌≢◌, ◌<◌, ◌≤◌, ◌+◌, ◌↔◌, ℕ, ℤ, zero, suc, Bool, true, false, cond, List, [], ◌∷◌, ◌++◌, length, Option, None, Some, IsTrue, refl, sym, ap, subst, ◌∙◌, arith}
+use Rattle.std.proofs.Common.{◌≡◌, ◌≢◌, ◌<◌, ◌≤◌, ◌+◌, ◌↔◌, ℕ, ℤ, suc, Bool, true, false, cond, List, [], ◌∷◌, ◌++◌, length, Option, None, Some, IsTrue, refl, sym, ap, subst, ◌∙◌, arith}
 use Rattle.std.specs.Prelude.{◌==◌, ◌&&◌, nat_lt, if◌then◌else◌, Result, Ok, Err}
 use Rattle.std.specs.Result.{is_err, OnOk}
 use Rattle.std.specs.Ordering.{int_eq}
@@ -10,7 +10,7 @@ use Rattle.std.proofs.lemmas.Bool.Decides.{same_from_decides, Decides-like, Deci
 use Rattle.nwq_value.specs.Effect.{Effect}
 use Rattle.stamped_slots.specs.Stamps.{at, put, without, Rise, AreUnder}
 use Rattle.stamped_slots.specs.Firsts.{passes, NoneBefore, IsFirst}
-use Rattle.stamped_slots.specs.Index.{is_pair, is_under, Marks, IsLeast}
+use Rattle.stamped_slots.specs.Index.{is_pair, is_under, IsLeast}
 use Rattle.stamped_slots.specs.StampLemmas.{not_same, none_below, none_above, at_other, at_same, put_last, under_last, under_at, under_without, gone_other, gone_same, rise_from}
 use Rattle.world_rules.specs.declared.data.Stood.{Stood}
 use Rattle.world_rules.specs.Changes.{is_numbered, is_effect, same_effect, same_ints, without_first}

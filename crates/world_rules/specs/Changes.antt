@@ -1,6 +1,6 @@
 -- The small changes of a world that routines and entries are made of. Each leaves the rest of the
 -- world as it is.
-use Rattle.std.specs.Prelude.{ℕ, ℤ, ◌+◌, min, zero, suc, Bool, true, false, ◌&&◌, not, ◌==◌, if◌then◌else◌, List, [], ◌∷◌, ◌++◌, Option, None, Some}
+use Rattle.std.specs.Prelude.{ℕ, ℤ, ◌+◌, min, zero, suc, Bool, true, false, ◌&&◌, not, ◌==◌, if◌then◌else◌, List, [], ◌∷◌, ◌++◌, Option}
 use Rattle.std.specs.Ordering.{int_eq}
 use Rattle.action_queue.specs.Queued.{Queued}
 use Rattle.action_queue.specs.declared.queue.Item.{Item}

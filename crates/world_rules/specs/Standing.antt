@@ -1,6 +1,6 @@
 -- How the effects of an object are kept: each under a stamp, and the stamps by the numbers of those
 -- for a time, and by the hash of what each is. Public clauses speak of `is_number` alone.
-use Rattle.std.specs.Prelude.{◌≡◌, ◌==◌, ℕ, List, [], ◌∷◌, Option, None, Some, Bool, false, true, Box}
+use Rattle.std.specs.Prelude.{◌≡◌, ◌==◌, ℕ, List, [], ◌∷◌, Option, None, Some, Bool, false, Box}
 use Rattle.std.specs.declared.alloc.Global.{Global}
 use Rattle.std.specs.Hash as fed
 use Rattle.std.specs.Hash.FoldHasher as folding

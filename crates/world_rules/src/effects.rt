@@ -192,7 +192,7 @@ fn add(
 }
 
 /// Takes the effect under a stamp out, and the stamp from under its keys.
-#[tactic(auto, using(crate::proofs::StandingLemmas::index_taken, crate::proofs::StandingLemmas::index_lacks))]
+#[tactic(auto, using(crate::proofs::StandingLemmas::index_lacks))]
 fn take_out(
     all: &mut Stamped<Stood>,
     numbers: &mut StampIndex,

@@ -12,13 +12,13 @@ returns-then-is_equal_at c = record {
 pub overflow_add-from : goal.overflow_add-from
 overflow_add-from c =
     let below = next_below c.content_hash-key.result c.loop-stamp.from c.in-Some.stamp c.args.next c.args.all.now.items
-        c.args.contents.now c.requires.under c.requires.index c.in-Some.ensures.least in
+    c.args.contents.now c.requires.under c.requires.index c.in-Some.ensures.least in
     omega (arith, below.1, c.ranges.next.fits)
 
 pub loop-stamp-smaller : goal.loop-stamp-smaller
 loop-stamp-smaller c =
     let below = next_below c.content_hash-key.result c.loop-stamp.from c.in-Some.stamp c.args.next c.args.all.now.items
-        c.args.contents.now c.requires.under c.requires.index c.in-Some.ensures.least in
+    c.args.contents.now c.requires.under c.requires.index c.in-Some.ensures.least in
     omega (arith, below.0, below.1)
 
 pub loop-stamp-preserved : goal.loop-stamp-preserved
