@@ -1,5 +1,5 @@
 -- The steps of the way back.
-use Rattle.std.proofs.Common.{◌≡◌, ◌<◌, ◌≤◌, ◌+◌, ℕ, zero, suc, min, Bool, true, false, cond, not, ◌||◌, List, [], ◌∷◌, ◌++◌, length, map, filter, get_or, set, take, drop, drop-cons, add-one, Option, None, Some, MatchOption, Result, Ok, Err, refl, sym, ap, subst, ◌∙◌, arith}
+use Rattle.std.proofs.Common.{◌≡◌, ◌<◌, ◌≤◌, ◌+◌, ℕ, zero, suc, min, Bool, true, false, cond, not, ◌||◌, List, [], ◌∷◌, ◌++◌, length, map, filter, get_or, set, take, drop, drop-cons, add-one, Option, None, Some, Result, Ok, Err, refl, sym, ap, subst, ◌∙◌, arith}
 use Rattle.std.specs.Prelude.{codes}
 use Rattle.std.proofs.Common.{◌⊎◌, inl, inr}
 use Rattle.std.specs.Result.{OnOk, IfOk}
@@ -10,16 +10,14 @@ use Rattle.gff_tree.specs.Fields.{kind_of, fields_of, node_from, list_from, foun
 use Rattle.std.specs.List.{list_any}
 use Rattle.std.proofs.lemmas.List.{length-map, map-set, get_or-map}
 use Rattle.std.proofs.lemmas.List.Edits.{map_over_more}
-use Rattle.std.specs.Borrow.{Bor}
 use Rattle.std.specs.Option.{option_map}
 use Rattle.std.specs.Str.{bytes_eq}
 use Rattle.gff_tree.specs.declared.tree.Leaf.{Leaf}
 use Rattle.gff_tree.specs.declared.tree.Node.{Node}
-use Rattle.gff_tree.specs.Tree.{PlainNode, PlainLeaf, PlainField, Holds, Int, Str, plain_node, plain_leaf, nodes_in, nodes_from}
+use Rattle.gff_tree.specs.Tree.{PlainNode, PlainLeaf, PlainField, Holds, Child, Children, Int, Str, plain_node, plain_leaf, nodes_in, nodes_from}
 use Rattle.local_variables.specs.Variables.{Variable, IntVar, TextVar, is_int, is_text, same_variable, first, matching, int_of, text_of}
 use Rattle.area_rules.specs.Objects.{AreaObject, Entry, Broken, Unread, Tells, with_entry, entry_of, variables_in, structs_in}
 use Rattle.area_back.specs.Back.{value_of, new_entry, is_kept, valued, entries_back, table_back, leaf_back, fields_back, member_back, members_back, objects_back, list_back, lists_back}
-use Rattle.area_tree.specs.Reading.{leaf_in}
 use Rattle.area_back.specs.Current.{current, with_told}
 use Rattle.local_variables.specs.Laws.{PutIsThere}
 
@@ -192,6 +190,32 @@ members_done objects nodes i le = by_end (cases_lt i (length objects))
     by_end (inr all) = ap (λ (os : List AreaObject). members_back os (map plain_node nodes)) (take_all i objects all)
     by_end (inl less) = members_end objects (map plain_node nodes) i (omega (arith, le, less, length-map nodes plain_node))
 
+-- ---- the objects that are left
+
+-- the next of what is left
+pub record IsNext {X : Type 0} (xs : List X) (i : ℕ) (x : X) (after : List X) : Type 0 where
+  pub inside : i < length xs
+  pub at : x ≡ get_or xs i x
+  pub left : after ≡ drop (suc i) xs
+
+pub next_of : {X : Type 0} (xs : List X) (i : ℕ) (x : X) (after : List X) → drop i xs ≡ x ∷ after → IsNext xs i x after
+next_of [] zero x after e = absurd cc
+next_of [] (suc i) x after e = absurd cc
+next_of (y ∷ xs) zero x after e = record { inside = omega arith; at = cc; left = cc }
+next_of (y ∷ xs) (suc i) x after e =
+    let more = next_of xs i x after e in record { inside = (let h = more.inside in omega (arith, h)); at = more.at; left = more.left }
+
+-- a list has no more objects than members
+objects_first : (objects : List AreaObject) (leaf : PlainLeaf) → objects_back (take (length (structs_in (Some leaf))) objects) leaf ≡ objects_back objects leaf
+objects_first objects (Holds scalar) = refl
+objects_first objects (Child node) = refl
+objects_first objects (Children nodes) = ap list_from (members_end objects (nodes_in nodes) (length (nodes_in nodes)) (omega arith))
+
+list_first : (label : List ℕ) (objects : List AreaObject) (leaf : Option PlainLeaf) (fields : List PlainField)
+    → list_back label (take (length (structs_in leaf)) objects) leaf fields ≡ list_back label objects leaf fields
+list_first label objects None fields = refl
+list_first label objects (Some leaf) fields = ap (λ (l : PlainLeaf). replaced label l fields) (objects_first objects leaf)
+
 -- ---- a field that is replaced twice
 
 replaced_twice_at : (b : Bool) (label : List ℕ) (x y : PlainLeaf) (field : PlainField) (fields : List PlainField)
@@ -238,22 +262,20 @@ member_some vars node table is =
 
 -- ---- the lists of the top struct
 
-pub lists_turn : FieldsAreTheNodes → (labels later : List (List ℕ)) (label : List ℕ) (rest next : List AreaObject) (n : ℕ) (leaf : Option PlainLeaf) (top now whole : PlainNode) →
-    labels ≡ label ∷ later → node_from (kind_of top) (lists_back labels rest (fields_of top)) ≡ whole → leaf ≡ found label (fields_of top) → n ≡ length (structs_in leaf) →
-    now ≡ node_from (kind_of top) (list_back label (take n rest) (found label (fields_of top)) (fields_of top)) → next ≡ drop n rest →
+pub lists_turn : FieldsAreTheNodes → (labels later : List (List ℕ)) (label : List ℕ) (rest next : List AreaObject) (top now whole : PlainNode) →
+    labels ≡ label ∷ later → node_from (kind_of top) (lists_back labels rest (fields_of top)) ≡ whole →
+    now ≡ node_from (kind_of top) (list_back label rest (found label (fields_of top)) (fields_of top)) → next ≡ drop (length (structs_in (found label (fields_of top)))) rest →
     node_from (kind_of now) (lists_back later next (fields_of now)) ≡ whole
-lists_turn law labels later label rest next n leaf top now whole is at looked counted made left =
+lists_turn law labels later label rest next top now whole is at made left =
     let fs = fields_of top in
     let k = length (structs_in (found label fs)) in
-    let count : n ≡ k = counted ∙ ap (λ (o : Option PlainLeaf). length (structs_in o)) looked in
     let opened : node_from (kind_of top) (lists_back later (drop k rest) (list_back label (take k rest) (found label fs) fs)) ≡ whole =
     subst (λ (ls : List (List ℕ)). node_from (kind_of top) (lists_back ls rest fs) ≡ whole) is at in
     let same : now ≡ node_from (kind_of top) (list_back label (take k rest) (found label fs) fs) = made
-    ∙ ap (λ (m : ℕ). node_from (kind_of top) (list_back label (take m rest) (found label fs) fs)) count in
+    ∙ ap (node_from (kind_of top)) (sym (list_first label rest (found label fs) fs)) in
     ap (λ (p : PlainNode). node_from (kind_of p) (lists_back later next (fields_of p))) same
     ∙ (ap (λ (os : List AreaObject). node_from (kind_of top)
-    (lists_back later os (fields_of (node_from (kind_of top) (list_back label (take k rest) (found label fs) fs)))))
-    (left ∙ ap (λ (m : ℕ). drop m rest) count)
+    (lists_back later os (fields_of (node_from (kind_of top) (list_back label (take k rest) (found label fs) fs))))) left
     ∙ (ap (λ (gs : List PlainField). node_from (kind_of top) (lists_back later (drop k rest) gs)) (law (kind_of top) (list_back label (take k rest) (found label fs) fs)) ∙ opened))
 
 -- ---- a table and the fields that hold it
@@ -281,11 +303,6 @@ pub leaf_back_list : NodesAreTheLists → (vars : List Variable) (leaf : PlainLe
 leaf_back_list law vars leaf nodes is =
     ap (leaf_back vars) is ∙ ap (λ (ns : List PlainNode). list_from (table_back vars ns)) (some_same (nodes_in (nodes_from nodes)) nodes (law nodes))
 
-pub objects_back_list : NodesAreTheLists → (objects : List AreaObject) (leaf : PlainLeaf) (nodes : List PlainNode)
-    → leaf ≡ list_from nodes → objects_back objects leaf ≡ list_from (members_back objects nodes)
-objects_back_list law objects leaf nodes is =
-    ap (objects_back objects) is ∙ ap (λ (ns : List PlainNode). list_from (members_back objects ns)) (some_same (nodes_in (nodes_from nodes)) nodes (law nodes))
-
 -- a field that a call made, as it is wanted
 pub leaf_along : (wanted made : PlainLeaf) (r : Result Leaf NoMemory) → made ≡ wanted → IfOk r (λ (leaf : Leaf). plain_leaf leaf ≡ made) → IfOk r (λ (leaf : Leaf). plain_leaf leaf ≡ wanted)
 leaf_along wanted made (Ok leaf) is e = e ∙ is
@@ -303,8 +320,3 @@ empty_member law vars node none absent =
 pub ok_along : (node wanted now : PlainNode) (r : Result (Unit {0}) NoMemory) (back_of : PlainNode → PlainNode) → node ≡ wanted → OnOk r (now ≡ back_of node) → OnOk r (now ≡ back_of wanted)
 ok_along node wanted now (Ok u) back_of is e = e ∙ ap back_of is
 ok_along node wanted now (Err e) back_of is h = tt
-
--- what a search finds, as what it answers
-pub find_is : (found_leaf : Option PlainLeaf) (result : Option (Bor Leaf)) → MatchOption result (found_leaf ≡ None) (λ leaf. found_leaf ≡ Some (plain_leaf leaf.now)) → found_leaf ≡ leaf_in result
-find_is f None is = is
-find_is f (Some leaf) is = is

@@ -1,16 +1,16 @@
 //! The variables of the objects put into the tree that was read.
 
-ghost use Rattle.std.specs.Prelude.{◌≡◌, ◌∷◌, ◌++◌, [], map, filter, not, take, drop, length};
+ghost use Rattle.std.specs.Prelude.{◌≡◌, ◌∷◌, ◌++◌, [], map, filter, not, drop, length};
 ghost use Rattle.std.specs.Prelude.{codes, None, Some, IfOk, OnOk};
 ghost use Rattle.std.specs.Option.{option_map};
 ghost use Rattle.std.specs.List.{list_any};
+ghost use Rattle.std.specs.Vec.Iter.{into_iter_items};
 ghost use Rattle.gff_tree.specs.Tree.{Holds, Str, plain_node, plain_leaf};
 ghost use Rattle.gff_tree.specs.Whole.{plain_gff};
 ghost use Rattle.gff_tree.specs.Label.{label_of};
 ghost use Rattle.gff_tree.specs.Fields.{kind_of, fields_of, node_from, list_from, found};
 ghost use Rattle.local_variables.specs.Variables.{Variable, variable_of, same_variable};
 ghost use Rattle.area_rules.specs.Objects.{structs_in, variables_in, entry_of, list_labels};
-ghost use Rattle.area_tree.specs.Reading.{leaf_in};
 ghost use Rattle.area_back.specs.Current.{current, with_told};
 ghost use Rattle.area_back.specs.Back.{name_of, type_of, value_of, new_entry, is_kept};
 ghost use Rattle.area_back.specs.Back.{variable_for, valued, table_back, leaf_back, member_back};
@@ -23,6 +23,10 @@ use local_variables::{Var, Vars, variables_tell};
 use nwq_value::NoMemory;
 use shared_bytes::SharedBytes;
 use std::alloc::Global;
+use std::vec::IntoIter;
+
+/// The objects whose members are still to be changed.
+type Rest = IntoIter<Object, Global>;
 
 /// The label of a text that is one.
 fn label(text: &[u8]) -> Label
@@ -94,7 +98,7 @@ fn fill_entry(alloc: Global, vars: &Vars, v: Var<'_>, entry: &mut Node) -> Resul
 fn entry_for(alloc: Global, vars: &Vars, v: Var<'_>) -> Result<Node, NoMemory>
     ensures { IfOk result (λ entry. plain_node entry ≡ new_entry (variable_of v.entry)) }
 {
-    let mut entry = Node::new(0, Vec::new(alloc));
+    let mut entry = Node::new(0, Vec::with_capacity(alloc, 3)?);
     match fill_entry(alloc, vars, v, &mut entry) {
         Ok(()) => Ok(entry),
         Err(e) => {
@@ -323,20 +327,38 @@ fn put_member(alloc: Global, vars: &Vars, node: &mut Node) -> Result<(), NoMemor
     }
 }
 
-fn put_members(alloc: Global, objects: &[Object], nodes: &mut Vec<Node>) -> Result<(), NoMemory>
-    ensures { OnOk result (map plain_node nodes.new.items
-        ≡ members_back objects.now (map plain_node nodes.old.items)) }
+/// Puts the variables of an object into its struct, and lets the object go.
+fn put_object(alloc: Global, object: Object, node: &mut Node) -> Result<(), NoMemory>
+    ensures { OnOk result (plain_node node.new ≡ member_back object.vars (plain_node node.old)) }
 {
-    for i in 0..nodes.len().min(objects.len()) {
-        put_member(alloc, objects[i].vars(), &mut nodes[i])?;
+    let put = put_member(alloc, object.vars(), node);
+    drop(object);
+    put
+}
+
+/// Puts the variables of the next objects into the members of a list. Each object goes before the
+/// next member is changed, so that no variables are kept twice.
+fn put_members(alloc: Global, objects: &mut Rest, nodes: &mut Vec<Node>) -> Result<(), NoMemory>
+    ensures members { OnOk result (map plain_node nodes.new.items
+        ≡ members_back (into_iter_items objects.old) (map plain_node nodes.old.items)) }
+    ensures rest { OnOk result (into_iter_items objects.new
+        ≡ drop (length nodes.old.items) (into_iter_items objects.old)) }
+{
+    for i in 0..nodes.len() {
+        match objects.next() {
+            None => return Ok(()),
+            Some(object) => put_object(alloc, object, &mut nodes[i])?,
+        }
     }
     Ok(())
 }
 
 /// The list field of a list's changed members.
-fn members_leaf(alloc: Global, objects: &[Object], mut nodes: Vec<Node>) -> Result<Leaf, NoMemory>
-    ensures { IfOk result (λ leaf. plain_leaf leaf
-        ≡ list_from (members_back objects.now (map plain_node nodes.items))) }
+fn members_leaf(alloc: Global, objects: &mut Rest, mut nodes: Vec<Node>) -> Result<Leaf, NoMemory>
+    ensures leaf { IfOk result (λ leaf. plain_leaf leaf
+        ≡ list_from (members_back (into_iter_items objects.old) (map plain_node nodes.items))) }
+    ensures rest { OnOk result (into_iter_items objects.new
+        ≡ drop (length nodes.items) (into_iter_items objects.old)) }
 {
     match put_members(alloc, objects, &mut nodes) {
         Ok(()) => Ok(Leaf::of_list(nodes)),
@@ -347,10 +369,12 @@ fn members_leaf(alloc: Global, objects: &[Object], mut nodes: Vec<Node>) -> Resu
     }
 }
 
-/// What a list of objects becomes; what is no list stays.
-fn changed_list(alloc: Global, objects: &[Object], leaf: Leaf) -> Result<Leaf, NoMemory>
-    ensures { IfOk result (λ changed. plain_leaf changed
-        ≡ objects_back objects.now (plain_leaf leaf)) }
+/// What a list of the next objects becomes; what is no list stays.
+fn changed_list(alloc: Global, objects: &mut Rest, leaf: Leaf) -> Result<Leaf, NoMemory>
+    ensures changed { IfOk result (λ changed. plain_leaf changed
+        ≡ objects_back (into_iter_items objects.old) (plain_leaf leaf)) }
+    ensures rest { OnOk result (into_iter_items objects.new
+        ≡ drop (length (structs_in (Some (plain_leaf leaf)))) (into_iter_items objects.old)) }
 {
     fields_tell();
     match leaf.into_list() {
@@ -359,11 +383,14 @@ fn changed_list(alloc: Global, objects: &[Object], leaf: Leaf) -> Result<Leaf, N
     }
 }
 
-/// Puts the variables of objects into the members of a list of the top struct.
-fn put_list(alloc: Global, label: &[u8], objects: &[Object], top: &mut Node) -> Result<(), NoMemory>
-    ensures { OnOk result (plain_node top.new ≡ node_from (kind_of (plain_node top.old))
-        (list_back label.now objects.now (found label.now (fields_of (plain_node top.old)))
-        (fields_of (plain_node top.old)))) }
+/// Puts the variables of the next objects into the members of a list of the top struct.
+fn put_list(alloc: Global, label: &[u8], objects: &mut Rest, top: &mut Node) -> Result<(), NoMemory>
+    ensures list { OnOk result (plain_node top.new ≡ node_from (kind_of (plain_node top.old))
+        (list_back label.now (into_iter_items objects.old)
+        (found label.now (fields_of (plain_node top.old))) (fields_of (plain_node top.old)))) }
+    ensures rest { OnOk result (into_iter_items objects.new
+        ≡ drop (length (structs_in (found label.now (fields_of (plain_node top.old)))))
+        (into_iter_items objects.old)) }
 {
     fields_tell();
     match top.replace(label, Leaf::Byte(0)) {
@@ -376,51 +403,14 @@ fn put_list(alloc: Global, label: &[u8], objects: &[Object], top: &mut Node) -> 
     }
 }
 
-fn member_count(leaf: Option<&Leaf>) -> usize
-    ensures { result ≡ length (structs_in (leaf_in leaf.entry)) }
-{
-    match leaf {
-        None => 0,
-        Some(leaf) => match leaf.list() {
-            Some(nodes) => nodes.len(),
-            None => 0,
-        },
-    }
-}
-
-/// The first of some objects, as many as there are up to a number.
-fn first_objects(objects: &[Object], count: usize) -> &[Object]
-    ensures { result.now ≡ take count objects.now }
-{
-    if count < objects.len() {
-        &objects[..count]
-    } else {
-        objects
-    }
-}
-
-fn later_objects(objects: &[Object], count: usize) -> &[Object]
-    ensures { result.now ≡ drop count objects.now }
-{
-    if count < objects.len() {
-        &objects[count..]
-    } else {
-        &[]
-    }
-}
-
 /// Puts the variables of all objects into the five lists.
-fn put_lists(alloc: Global, objects: &[Object], top: &mut Node) -> Result<(), NoMemory>
+fn put_lists(alloc: Global, objects: &mut Rest, top: &mut Node) -> Result<(), NoMemory>
     ensures { OnOk result (plain_node top.new ≡ node_from (kind_of (plain_node top.old))
-        (lists_back list_labels objects.now (fields_of (plain_node top.old)))) }
+        (lists_back list_labels (into_iter_items objects.old) (fields_of (plain_node top.old)))) }
 {
     fields_tell();
-    let mut rest = objects;
     for list in 0..5 {
-        let label = list_label(list);
-        let count = member_count(top.find(label));
-        put_list(alloc, label, first_objects(rest, count), top)?;
-        rest = later_objects(rest, count);
+        put_list(alloc, list_label(list), objects, top)?;
     }
     Ok(())
 }
@@ -432,7 +422,8 @@ pub fn into_tree(alloc: Global, area: Area) -> Result<Gff, NoMemory>
     fields_tell();
     let (tree, objects) = area.into_parts();
     let Gff { file_type, mut top } = tree;
-    match put_lists(alloc, &objects, &mut top) {
+    let mut objects = objects.into_iter();
+    match put_lists(alloc, &mut objects, &mut top) {
         Ok(()) => Ok(Gff { file_type, top }),
         Err(e) => {
             drop(top);

@@ -18,8 +18,6 @@ use message_sentences::{
     told_by,
 };
 use message_stacks::put_why;
-use message_types::{given_at, put_parameters};
-use nss_lexer::TokenKind;
 use nwq_outside::{Files, Sink};
 use nwq_value::{NoMemory, Table, Text};
 use real_files::Trouble;
@@ -57,58 +55,19 @@ fn table_for<F: Files>(
 }
 
 /// What a message asks of the units, for causes that are told by them.
-fn ask_of<'a>(alloc: Global, spot: Spot<'a>) -> Result<Option<Ask<'a>>, NoMemory>
+fn ask_of<'a>(spot: Spot<'a>) -> Option<Ask<'a>>
     requires size { length spot.bytes.now ≤ file_limit }
     requires place { spot.at ≤ length spot.bytes.now }
 {
     if same(spot.cause, b"syntax") {
-        return Ok(Some(Ask::Following));
+        return Some(Ask::Following);
     }
-    if same(spot.cause, b"mismatch") {
-        return Ok(Some(Ask::Types));
+    if !same(spot.cause, b"mismatch") && !same(spot.cause, b"arity") {
+        return None;
     }
-    if !same(spot.cause, b"arity") {
-        return Ok(None);
-    }
-    match (
-        token_at(spot.bytes, spot.at),
-        given_at(alloc, spot.bytes, spot.at)?,
-    ) {
-        (Some(token), Some(given)) => Ok(Some(Ask::Arity {
-            name: token.text,
-            given,
-        })),
-        _ => Ok(None),
-    }
-}
-
-/// Appends the parameters of the routine whose argument has another type.
-fn put_mismatch(out: &mut Vec<u8>, spot: Spot<'_>, table: Option<&Table>) -> Result<(), NoMemory>
-    requires size { length spot.bytes.now ≤ file_limit }
-    requires place { spot.at ≤ length spot.bytes.now }
-{
     match token_at(spot.bytes, spot.at) {
-        Some(token) if matches!(token.kind, TokenKind::Name) => put_parameters(
-            out, table, token.text,
-        ),
-        _ => Ok(()),
-    }
-}
-
-/// Appends what is said where no unit answered.
-fn put_unanswered(
-    out: &mut Vec<u8>,
-    spot: Spot<'_>,
-    table: Option<&Table>,
-    ask: Ask<'_>,
-) -> Result<(), NoMemory>
-    requires size { length spot.bytes.now ≤ file_limit }
-    requires place { spot.at ≤ length spot.bytes.now }
-{
-    match ask {
-        Ask::Following => Ok(()),
-        Ask::Arity { .. } => put_cause(out, spot),
-        Ask::Types => put_mismatch(out, spot, table),
+        Some(token) => Some(Ask::Why(token.text)),
+        None => None,
     }
 }
 
@@ -125,11 +84,12 @@ fn put_told<F: Files>(
     ensures same { F.contents files.new ≡ F.contents files.old }
 {
     let table = table_for(alloc, inputs, spot.cause, files);
-    let Some(ask) = ask_of(alloc, spot)? else {
+    let Some(ask) = ask_of(spot) else {
         return put_by_token(alloc, out, spot, table.as_ref());
     };
     let scripts = scripts_of(alloc, inputs, files)?;
-    if !matches!(ask, Ask::Arity { .. }) {
+    let is_first = matches!(ask, Ask::Following);
+    if is_first {
         put_cause_open(alloc, out, spot)?;
     }
     let answered = put_of_scripts(
@@ -141,10 +101,10 @@ fn put_told<F: Files>(
         ask,
         files,
     )?;
-    if answered {
+    if answered || is_first {
         return Ok(());
     }
-    put_unanswered(out, spot, table.as_ref(), ask)
+    put_cause(out, spot)
 }
 
 /// Appends the message on a place of a source text.

@@ -10,7 +10,7 @@ use crate::places::{Spot, put_following};
 use engine_table::{built_in, read_header};
 use message_sentences::same;
 use message_tokens::syntax_fault;
-use message_types::{arity_named, is_refused_at, put_arity, put_types};
+use message_types::put_why;
 use nss_include::{Unit, gather};
 use nss_lexer::Token;
 use nwq_outside::{Files, Read};
@@ -128,47 +128,21 @@ fn put_following_in(
     }
 }
 
-/// Appends how many arguments a function takes, where the unit that is refused at the place, or the
-/// header, has it.
+/// Appends why the rules of types refuse a unit at a place, where they do.
 #[tactic(auto, using(crate::proofs::UnitTokens::few_tokens))]
-fn put_arity_in(
+fn put_why_in(
     alloc: Global,
     out: &mut Vec<u8>,
     unit: &Unit,
     table: Option<&Table>,
     spot: Spot<'_>,
-    name: &[u8],
-    given: u32,
-) -> Result<bool, NoMemory> {
-    let tokens = unit.tokens(alloc)?;
-    if let Some(header) = table
-        && !is_refused_at(alloc, tokens.as_slice(), spot.at, header)?
-    {
-        return Ok(false);
-    }
-    match arity_named(table, tokens.as_slice(), name) {
-        None => Ok(false),
-        Some(arity) => {
-            put_arity(out, name, arity, given)?;
-            Ok(true)
-        }
-    }
-}
-
-/// Appends the types at a place, where a unit is refused there for them.
-#[tactic(auto, using(crate::proofs::UnitTokens::few_tokens))]
-fn put_types_in(
-    alloc: Global,
-    out: &mut Vec<u8>,
-    unit: &Unit,
-    table: Option<&Table>,
-    spot: Spot<'_>,
+    piece: &[u8],
 ) -> Result<bool, NoMemory> {
     let Some(table) = table else {
         return Ok(false);
     };
     let tokens = unit.tokens(alloc)?;
-    put_types(alloc, out, tokens.as_slice(), spot.at, table)
+    put_why(alloc, out, tokens.as_slice(), spot.at, piece, table)
 }
 
 /// What a message asks of the unit of a script.
@@ -176,10 +150,8 @@ fn put_types_in(
 pub(crate) enum Ask<'a> {
     /// What could stand at the place.
     Following,
-    /// How many arguments the function of this name takes, of which so many are given.
-    Arity { name: &'a [u8], given: u32 },
-    /// Which types stand at the place.
-    Types,
+    /// Why the rules of types refuse the token of this text there.
+    Why(&'a [u8]),
 }
 
 /// Appends what a unit answers. Whether it did.
@@ -193,8 +165,7 @@ fn put_answer(
 ) -> Result<bool, NoMemory> {
     match ask {
         Ask::Following => put_following_in(alloc, out, unit, spot),
-        Ask::Arity { name, given } => put_arity_in(alloc, out, unit, table, spot, name, given),
-        Ask::Types => put_types_in(alloc, out, unit, table, spot),
+        Ask::Why(piece) => put_why_in(alloc, out, unit, table, spot, piece),
     }
 }
 

@@ -2,4 +2,5 @@ pub mod Games
 pub mod Tellings
 pub mod Stops
 pub mod Files
+pub mod Reads
 pub mod Laws

@@ -1,5 +1,6 @@
 //! The command: what a play needs is read, in order, and the plan is played.
-ghost use Rattle.std.specs.Prelude.{◌<◌, ◌^◌, length, map, IsTrue, IfErr};
+ghost use Rattle.std.specs.Prelude.{◌≡◌, ◌<◌, ◌^◌, length, map, IsTrue, IfErr, OnOk};
+ghost use Rattle.nwq_outside.specs.Outside.{next};
 ghost use Rattle.plan_text.specs.Plans.{IsPlan};
 ghost use Rattle.stack_rules.specs.Laws.{AllMeet};
 ghost use Rattle.world_core.specs.Calls.{AreServing, cells_of};
@@ -8,6 +9,8 @@ ghost use Rattle.command_work.specs.Counts.{KeepsBut};
 ghost use Rattle.command_work.specs.Calls.{DoesOn, TalliesOn, IsName};
 ghost use Rattle.command_play.specs.Games.{plays_area, plays_scripts, plays_under, plays};
 ghost use Rattle.command_play.specs.Tellings.{IsGameFile, StopsGame};
+ghost use Rattle.command_play.specs.Reads.{ReadsArea, ReadsGame};
+ghost use Rattle.command_sources.specs.Reads.{header_read};
 
 use crate::play::play_plan;
 use crate::remarks::Remarks;
@@ -53,6 +56,7 @@ fn play_area<F: Files, S: Sink>(
         files.old out.old result files.new out.new }
     ensures counts { TalliesOn F.counts S.faults result files.old out.old files.new out.new }
     ensures names { KeepsBut (IsName to.now) (F.contents files.old) (F.contents files.new) }
+    ensures once { F.reads files.new ≡ next (F.reads files.old) }
     ensures only { IfErr result StopsGame }
 {
     match read_area(alloc, area, files, out) {
@@ -81,6 +85,8 @@ fn play_scripts<F: Files, S: Sink>(
     ensures counts { TalliesOn F.counts S.faults result files.old out.old files.new out.new }
     ensures names { KeepsBut (IsGameFile game.entry.to.now)
         (F.contents files.old) (F.contents files.new) }
+    ensures once { IsTrue F.tells → OnOk result (ReadsArea plan.now.scripts
+        (F.contents files.old) (F.reads files.old) (F.reads files.new)) }
     ensures only { IfErr result StopsGame }
 {
     match list_scripts(alloc, table, plan.scripts.as_slice(), files, out) {
@@ -117,6 +123,9 @@ fn play_under<F: Files, S: Sink>(
     ensures counts { TalliesOn F.counts S.faults result files.old out.old files.new out.new }
     ensures names { KeepsBut (IsGameFile game.entry.to.now)
         (F.contents files.old) (F.contents files.new) }
+    ensures once { IsTrue F.tells → OnOk result (ReadsArea plan.now.scripts
+        (F.contents files.old) (header_read game.entry.header.now (F.reads files.old))
+        (F.reads files.new)) }
     ensures only { IfErr result StopsGame }
 {
     match read_table(alloc, game.header, files, out) {
@@ -145,6 +154,10 @@ pub fn play_files<F: Files, S: Sink>(
     // The files of bytecode of scripts, and the file of the area that is left, alone are written.
     ensures names { KeepsBut (IsGameFile game.entry.to.now)
         (F.contents files.old) (F.contents files.new) }
+    // Each file is read once: the plan, the header, those of each script, and the area.
+    ensures once { IsTrue F.tells → IsTrue S.tells →
+        OnOk result (ReadsGame game.entry.header.now game.entry.plan.now (F.contents files.old)
+        (F.reads files.old) (F.reads files.new)) }
     ensures only { IfErr result StopsGame }
 {
     match read_plan_file(alloc, game.plan, files, out) {

@@ -54,6 +54,7 @@ fn leave_area<F: Files, S: Sink>(
         files.old out.old result files.new out.new }
     ensures counts { TalliesOn F.counts S.faults result files.old out.old files.new out.new }
     ensures names { KeepsBut (IsName to.now) (F.contents files.old) (F.contents files.new) }
+    ensures unread { F.reads files.new ≡ F.reads files.old }
     ensures only { IfErr result (Refusing Status.Area) }
 {
     match write_area(alloc, to, area, files, out) {
@@ -82,6 +83,7 @@ fn end_by<F: Files, S: Sink>(
         result (F.contents files.new) (S.taken out.new) }
     ensures counts { TalliesOn F.counts S.faults result files.old out.old files.new out.new }
     ensures names { KeepsBut (IsName to.now) (F.contents files.old) (F.contents files.new) }
+    ensures unread { F.reads files.new ≡ F.reads files.old }
     ensures only { IfErr result StopsEnd }
 {
     match how {
@@ -121,6 +123,7 @@ pub fn tell_end<F: Files, S: Sink>(
         result (F.contents files.new) (S.taken out.new) }
     ensures counts { TalliesOn F.counts S.faults result files.old out.old files.new out.new }
     ensures names { KeepsBut (IsName to.now) (F.contents files.old) (F.contents files.new) }
+    ensures unread { F.reads files.new ≡ F.reads files.old }
     ensures only { IfErr result StopsEnd }
     ensures used_up { IsTrue remarks.new.random_used_up ↔ (world.world.random ≡ []) }
 {

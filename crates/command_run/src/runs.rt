@@ -1,8 +1,9 @@
-ghost use Rattle.std.specs.Prelude.{◌≡◌, ◌≤◌, ℕ, length, map, IsTrue, IfErr};
+ghost use Rattle.std.specs.Prelude.{◌≡◌, ◌≤◌, ℕ, length, map, IsTrue, IfErr, OnOk};
 ghost use Rattle.nwq_value.specs.Limits.{file_limit};
 ghost use Rattle.world_core.specs.Calls.{AreServing, cells_of};
 ghost use Rattle.command_work.specs.Counts.{Refusing};
 ghost use Rattle.command_work.specs.Calls.{DoesOn, TalliesOn, TalliesPuts, DoesPuts};
+ghost use Rattle.command_sources.specs.Reads.{ReadsUnit, header_read};
 ghost use Rattle.command_files.specs.Checks.{IsStackedFile};
 ghost use Rattle.command_compile.specs.Files.{code_name};
 ghost use Rattle.command_plays.specs.Scripts.{plays_file};
@@ -66,6 +67,8 @@ fn run_under<F: Files, S: Sink>(
         files.old out.old result files.new out.new }
     ensures counts { TalliesOn F.counts S.faults result files.old out.old files.new out.new }
     ensures same { F.contents files.new ≡ F.contents files.old }
+    ensures once { IsTrue F.tells → OnOk result (ReadsUnit (F.contents files.old) script.now
+        (F.reads files.old) (F.reads files.new)) }
     ensures only { IfErr result StopsRun }
 {
     match read_compiled(alloc, table, script, files, out) {
@@ -90,6 +93,9 @@ pub fn run<F: Files, S: Sink>(
         files.old out.old result files.new out.new }
     ensures counts { TalliesOn F.counts S.faults result files.old out.old files.new out.new }
     ensures same { F.contents files.new ≡ F.contents files.old }
+    // The header is read, unless it is the built-in one, and each file of the script's unit, once.
+    ensures once { IsTrue F.tells → OnOk result (ReadsUnit (F.contents files.old) script.now
+        (header_read header.now (F.reads files.old)) (F.reads files.new)) }
     ensures only { IfErr result StopsRun }
 {
     match read_table(alloc, header, files, out) {

@@ -1,9 +1,11 @@
 //! The header and the area of a play that may be saved, with the bytes of their files.
 ghost use Rattle.std.specs.Prelude.{◌≡◌, ◌≤◌, ℕ, length, IsTrue, IfOk, IfErr};
 ghost use Rattle.nwq_value.specs.Limits.{file_limit};
+ghost use Rattle.nwq_outside.specs.Outside.{next};
 ghost use Rattle.play_save.specs.Rules.{IsAreaOf, IsHeaderOf};
 ghost use Rattle.command_work.specs.Counts.{Refusing, StopsArea, StopsSource};
 ghost use Rattle.command_work.specs.Calls.{DoesOn, TalliesOn, TalliesPuts, DoesPuts};
+ghost use Rattle.command_sources.specs.Reads.{header_read};
 ghost use Rattle.command_save.specs.Inputs.{area_in, area_named, header_in, header_named};
 ghost use Rattle.command_save.specs.Inputs.{header_of};
 
@@ -69,6 +71,7 @@ fn header_of_file<F: Files, S: Sink>(
         (header_named name.now) files.old out.old result files.new out.new }
     ensures counts { TalliesOn F.counts S.faults result files.old out.old files.new out.new }
     ensures same { F.contents files.new ≡ F.contents files.old }
+    ensures once { F.reads files.new ≡ next (F.reads files.old) }
     ensures header { IfOk result (λ h. IsHeaderOf h.text h.table) }
     ensures only { IfErr result StopsSource }
 {
@@ -90,6 +93,7 @@ pub(crate) fn read_header<F: Files, S: Sink>(
         files.old out.old result files.new out.new }
     ensures counts { TalliesOn F.counts S.faults result files.old out.old files.new out.new }
     ensures same { F.contents files.new ≡ F.contents files.old }
+    ensures once { F.reads files.new ≡ header_read word.now (F.reads files.old) }
     ensures header { IfOk result (λ h. IsHeaderOf h.text h.table) }
     ensures only { IfErr result StopsSource }
 {
@@ -138,6 +142,7 @@ pub(crate) fn read_area_file<F: Files, S: Sink>(
         files.old out.old result files.new out.new }
     ensures counts { TalliesOn F.counts S.faults result files.old out.old files.new out.new }
     ensures same { F.contents files.new ≡ F.contents files.old }
+    ensures once { F.reads files.new ≡ next (F.reads files.old) }
     ensures area { IfOk result (λ a. IsAreaOf a.area.tree a.bytes) }
     ensures only { IfErr result StopsArea }
 {

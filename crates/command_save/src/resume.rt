@@ -1,6 +1,7 @@
 //! The command that resumes: a state is read, and its play goes on.
 ghost use Rattle.std.specs.Prelude.{◌≡◌, ◌≤◌, ℕ, length, map, IsTrue, IfErr};
 ghost use Rattle.nwq_value.specs.Limits.{file_limit};
+ghost use Rattle.nwq_outside.specs.Outside.{next};
 ghost use Rattle.world_core.specs.Calls.{AreServing, cells_of};
 ghost use Rattle.ncs_machine.specs.Host.{scripts_of};
 ghost use Rattle.command_work.specs.Counts.{KeepsBut, Refusing, StopsArea};
@@ -59,6 +60,7 @@ fn read_state_file<F: Files, S: Sink>(
         (state_named name.now) files.old out.old result files.new out.new }
     ensures counts { TalliesOn F.counts S.faults result files.old out.old files.new out.new }
     ensures same { F.contents files.new ≡ F.contents files.old }
+    ensures once { F.reads files.new ≡ next (F.reads files.old) }
     ensures only { IfErr result StopsArea }
 {
     match read_file(alloc, name, files, out) {
@@ -86,6 +88,7 @@ fn play_rest<F: Files, S: Sink>(
         files.old out.old result files.new out.new }
     ensures counts { TalliesOn F.counts S.faults result files.old out.old files.new out.new }
     ensures names { KeepsBut (IsName to.now) (F.contents files.old) (F.contents files.new) }
+    ensures unread { F.reads files.new ≡ F.reads files.old }
     ensures only { IfErr result StopsEnd }
 {
     let Opened {
@@ -134,6 +137,7 @@ fn resume_state<F: Files, S: Sink>(
         files.old out.old result files.new out.new }
     ensures counts { TalliesOn F.counts S.faults result files.old out.old files.new out.new }
     ensures names { KeepsBut (IsName to.now) (F.contents files.old) (F.contents files.new) }
+    ensures unread { F.reads files.new ≡ F.reads files.old }
     ensures only { IfErr result StopsEnd }
 {
     state.keeps();
@@ -162,6 +166,8 @@ pub fn resume_play<F: Files, S: Sink>(
     ensures counts { TalliesOn F.counts S.faults result files.old out.old files.new out.new }
     // The file of the area that is left alone is written.
     ensures names { KeepsBut (IsName to.now) (F.contents files.old) (F.contents files.new) }
+    // The state is read, once.
+    ensures once { F.reads files.new ≡ next (F.reads files.old) }
     ensures only { IfErr result StopsResume }
 {
     match read_state_file(alloc, state, files, out) {

@@ -1,6 +1,7 @@
 //! The command that saves: what a play needs is read, in order, and some entries of the plan are
 //! played.
-ghost use Rattle.std.specs.Prelude.{◌<◌, ◌≤◌, ◌^◌, length, map, IsTrue, IfErr};
+ghost use Rattle.std.specs.Prelude.{◌≡◌, ◌<◌, ◌≤◌, ◌^◌, length, map, IsTrue, IfErr, OnOk};
+ghost use Rattle.nwq_outside.specs.Outside.{next};
 ghost use Rattle.plan_text.specs.Plans.{IsPlan};
 ghost use Rattle.stack_rules.specs.Laws.{AllMeet};
 ghost use Rattle.world_core.specs.Calls.{AreServing, cells_of};
@@ -9,6 +10,8 @@ ghost use Rattle.play_save.specs.Rules.{IsAreaOf, IsHeaderOf};
 ghost use Rattle.play_save.specs.States.{MayList};
 ghost use Rattle.command_work.specs.Counts.{KeepsBut};
 ghost use Rattle.command_work.specs.Calls.{DoesOn, TalliesOn, IsName};
+ghost use Rattle.command_sources.specs.Reads.{header_read};
+ghost use Rattle.command_play.specs.Reads.{ReadsArea, ReadsGame};
 ghost use Rattle.command_play.specs.Tellings.{IsGameFile, StopsGame};
 ghost use Rattle.command_save.specs.Saves.{saves, saves_area, saves_plan, saves_scripts};
 ghost use Rattle.command_save.specs.Saves.{saves_under};
@@ -63,6 +66,7 @@ fn save_plan<F: Files, S: Sink>(
     ensures counts { TalliesOn F.counts S.faults result files.old out.old files.new out.new }
     ensures names { KeepsBut (IsName words.entry.state.now) (F.contents files.old)
         (F.contents files.new) }
+    ensures unread { F.reads files.new ≡ F.reads files.old }
     ensures only { IfErr result StopsGame }
 {
     plays_can_rest();
@@ -124,6 +128,7 @@ fn save_area<F: Files, S: Sink>(
     ensures counts { TalliesOn F.counts S.faults result files.old out.old files.new out.new }
     ensures names { KeepsBut (IsName words.entry.state.now) (F.contents files.old)
         (F.contents files.new) }
+    ensures once { F.reads files.new ≡ next (F.reads files.old) }
     ensures only { IfErr result StopsGame }
 {
     match read_area_file(alloc, words.area, files, out) {
@@ -158,6 +163,8 @@ fn save_scripts<F: Files, S: Sink>(
     ensures counts { TalliesOn F.counts S.faults result files.old out.old files.new out.new }
     ensures names { KeepsBut (IsGameFile words.entry.state.now) (F.contents files.old)
         (F.contents files.new) }
+    ensures once { IsTrue F.tells → OnOk result (ReadsArea plan.now.scripts
+        (F.contents files.old) (F.reads files.old) (F.reads files.new)) }
     ensures only { IfErr result StopsGame }
 {
     match list_scripts(alloc, &header.table, plan.scripts.as_slice(), files, out) {
@@ -196,6 +203,9 @@ fn save_under<F: Files, S: Sink>(
     ensures counts { TalliesOn F.counts S.faults result files.old out.old files.new out.new }
     ensures names { KeepsBut (IsGameFile words.entry.state.now) (F.contents files.old)
         (F.contents files.new) }
+    ensures once { IsTrue F.tells → OnOk result (ReadsArea plan.now.scripts
+        (F.contents files.old) (header_read words.entry.header.now (F.reads files.old))
+        (F.reads files.new)) }
     ensures only { IfErr result StopsGame }
 {
     match read_header(alloc, words.header, files, out) {
@@ -224,6 +234,10 @@ pub fn save_play<F: Files, S: Sink>(
     // The files of bytecode of scripts, and the file of the state, alone are written.
     ensures names { KeepsBut (IsGameFile words.entry.state.now)
         (F.contents files.old) (F.contents files.new) }
+    // Each file is read once: the plan, the header, those of each script, and the area.
+    ensures once { IsTrue F.tells → IsTrue S.tells → OnOk result
+        (ReadsGame words.entry.header.now words.entry.plan.now (F.contents files.old)
+        (F.reads files.old) (F.reads files.new)) }
     ensures only { IfErr result StopsGame }
 {
     match read_plan_file(alloc, words.plan, files, out) {

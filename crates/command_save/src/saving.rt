@@ -118,6 +118,7 @@ fn save_state<F: Files, S: Sink>(
         result (F.contents files.new) (S.taken out.new) }
     ensures counts { TalliesOn F.counts S.faults result files.old out.old files.new out.new }
     ensures names { KeepsBut (IsName name.now) (F.contents files.old) (F.contents files.new) }
+    ensures unread { F.reads files.new ≡ F.reads files.old }
     ensures only { IfErr result (Refusing Status.Area) }
 {
     let entries = broken.played.entries;
@@ -179,6 +180,7 @@ pub(crate) fn save_broken<F: Files, S: Sink>(
         result (F.contents files.new) (S.taken out.new) }
     ensures counts { TalliesOn F.counts S.faults result files.old out.old files.new out.new }
     ensures names { KeepsBut (IsName name.now) (F.contents files.old) (F.contents files.new) }
+    ensures unread { F.reads files.new ≡ F.reads files.old }
     ensures only { IfErr result StopsGame }
 {
     match broken.played.how {

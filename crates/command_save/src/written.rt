@@ -38,6 +38,7 @@ pub(crate) fn write_bytes<F: Files, S: Sink>(
         (state_told name.now bytes.now entries) files.old out.old result files.new out.new }
     ensures counts { TalliesOn F.counts S.faults result files.old out.old files.new out.new }
     ensures names { KeepsBut (IsName name.now) (F.contents files.old) (F.contents files.new) }
+    ensures unread { F.reads files.new ≡ F.reads files.old }
     ensures only { IfErr result CutsShort }
 {
     match write_file(name, bytes, files) {

@@ -1,4 +1,5 @@
 pub mod Lists
 pub mod Tables
+pub mod Reads
 pub mod Reading
 pub mod Laws

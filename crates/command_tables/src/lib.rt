@@ -3,8 +3,8 @@
 //!
 //! [`read_tables`] is the first work of a command whose words end in such a list
 //! (`specs/Tables.antt`). The list is tested whole (`specs/Lists.antt`) before the first table is
-//! read. A list or a table that is refused is refused here, at its first bad line. See
-//! docs/TABLES.md and docs/REFUSALS.md.
+//! read. A list or a table that is refused is refused here, at its first bad line. How often files
+//! are read says `specs/Reads.antt`. See docs/TABLES.md and docs/REFUSALS.md.
 #![tactic(auto)]
 
 pub mod laws;

@@ -5,6 +5,8 @@ ghost use Rattle.command_work.specs.Counts.{Refusing, StopsArea};
 ghost use Rattle.command_work.specs.Calls.{DoesOn, TalliesOn, TalliesPuts, DoesPuts};
 ghost use Rattle.command_tables.specs.Lists.{may_follow, AreNames, HasNames, IsFaulty, names_in};
 ghost use Rattle.command_tables.specs.Lists.{names_listed};
+ghost use Rattle.command_tables.specs.Reads.{ListsNames};
+ghost use Rattle.nwq_outside.specs.Outside.{next};
 
 use command_work::{AreaFlaw, Status, read_file, refuse_area};
 use nwq_outside::{Files, Sink};
@@ -85,6 +87,7 @@ fn names_of_bytes<S: Sink>(
     ensures does { IsTrue S.tells → DoesPuts S.taken (names_in list.now bytes.now)
         out.old result out.new }
     ensures counts { TalliesPuts S.faults result out.old out.new }
+    ensures has { IfOk result (HasNames bytes.now) }
     ensures names { IfOk result AreNames }
     ensures only { IfErr result (Refusing Status.Area) }
 {
@@ -107,6 +110,9 @@ pub(crate) fn read_list<F: Files, S: Sink>(
         (names_listed list.now) files.old out.old result files.new out.new }
     ensures counts { TalliesOn F.counts S.faults result files.old out.old files.new out.new }
     ensures same { F.contents files.new ≡ F.contents files.old }
+    ensures once { F.reads files.new ≡ next (F.reads files.old) }
+    ensures lists { IsTrue F.tells → IsTrue S.tells →
+        IfOk result (ListsNames (F.contents files.old) list.now) }
     ensures names { IfOk result AreNames }
     ensures only { IfErr result StopsArea }
 {

@@ -1,11 +1,14 @@
-ghost use Rattle.std.specs.Prelude.{◌≡◌, [], ◌∷◌, ◌++◌, map, None, Ok, IsTrue, IfErr, OnOk};
+ghost use Rattle.std.specs.Prelude.{◌≡◌, [], ◌∷◌, ◌++◌, map, None, Ok, IsTrue, IfErr, OnOk, OnErr};
 ghost use Rattle.std.specs.Option.{option_map};
+ghost use Rattle.nwq_outside.specs.Outside.{next};
 ghost use Rattle.nwq_text.specs.Names.{is_script_name};
 ghost use Rattle.table_2da.specs.Look.{table_named};
 ghost use Rattle.command_work.specs.Counts.{StopsArea};
 ghost use Rattle.command_work.specs.Calls.{DoesOn, TalliesOn};
 ghost use Rattle.command_tables.specs.Lists.{AreNames};
 ghost use Rattle.command_tables.specs.Reading.{with_tables};
+ghost use Rattle.command_tables.specs.Reads.{AtMostOnce, ReadsFront, ReadsListed, ReadsPart};
+ghost use Rattle.command_tables.specs.Reads.{after_each, ReadsTables, ReadsSomeTables};
 ghost use Rattle.command_tables.specs.Tables.{table_file, table_in_file, with_table, one_more};
 ghost use Rattle.command_tables.specs.Tables.{all_behind};
 ghost use Rattle.command_tables.specs.Tables.{tables_listed, tables_given};
@@ -19,7 +22,7 @@ use std::alloc::Global;
 use table_2da::{Table2, Tables};
 
 /// The table of this name.
-#[tactic(auto, using(crate::proofs::ReadLemmas::table_wanted))]
+#[tactic(auto, using(crate::proofs::ReadLemmas::table_wanted, crate::proofs::CountLemmas::most_reads))]
 fn read_one<F: Files, S: Sink>(
     alloc: Global,
     name: &[u8],
@@ -31,6 +34,8 @@ fn read_one<F: Files, S: Sink>(
         (table_in_file (table_file name.now)) files.old out.old result files.new out.new }
     ensures counts { TalliesOn F.counts S.faults result files.old out.old files.new out.new }
     ensures same { F.contents files.new ≡ F.contents files.old }
+    ensures once { OnOk result (F.reads files.new ≡ next (F.reads files.old)) }
+    ensures most { OnErr result (AtMostOnce (F.reads files.old) (F.reads files.new)) }
     ensures only { IfErr result StopsArea }
 {
     match file_of(alloc, name) {
@@ -54,7 +59,7 @@ fn put_table(alloc: Global, name: &Text, table: Table2, tables: &mut Tables) -> 
 }
 
 /// Reads the table of this name and puts it last.
-#[tactic(auto, using(crate::proofs::Steps::steps, crate::proofs::ReadLemmas::more_tables), unfolding(crate::specs::Tables::one_more))]
+#[tactic(auto, using(crate::proofs::Steps::steps, crate::proofs::ReadLemmas::more_tables, crate::proofs::CountLemmas::most_reads), unfolding(crate::specs::Tables::one_more))]
 fn add_table<F: Files, S: Sink>(
     alloc: Global,
     name: &Text,
@@ -71,6 +76,8 @@ fn add_table<F: Files, S: Sink>(
         ≡ map (λ t. t.name) tables.old ++ name.now ∷ []) }
     ensures counts { TalliesOn F.counts S.faults result files.old out.old files.new out.new }
     ensures same { F.contents files.new ≡ F.contents files.old }
+    ensures once { OnOk result (F.reads files.new ≡ next (F.reads files.old)) }
+    ensures most { OnErr result (AtMostOnce (F.reads files.old) (F.reads files.new)) }
     ensures only { IfErr result StopsArea }
 {
     match read_one(alloc, name.bytes(), files, out) {
@@ -97,6 +104,9 @@ fn add_tables<F: Files, S: Sink>(
         files.old out.old (with_tables tables.new result) files.new out.new }
     ensures counts { TalliesOn F.counts S.faults result files.old out.old files.new out.new }
     ensures same { F.contents files.new ≡ F.contents files.old }
+    ensures once { OnOk result (F.reads files.new ≡ after_each names.now (F.reads files.old)) }
+    ensures front { OnErr result
+        (ReadsFront names.now (F.reads files.old) (F.reads files.new)) }
     ensures only { IfErr result StopsArea }
 {
     let mut rest = names;
@@ -122,6 +132,9 @@ fn read_all<F: Files, S: Sink>(
         (all_behind [] names.now) files.old out.old result files.new out.new }
     ensures counts { TalliesOn F.counts S.faults result files.old out.old files.new out.new }
     ensures same { F.contents files.new ≡ F.contents files.old }
+    ensures once { OnOk result (F.reads files.new ≡ after_each names.now (F.reads files.old)) }
+    ensures front { OnErr result
+        (ReadsFront names.now (F.reads files.old) (F.reads files.new)) }
     ensures only { IfErr result StopsArea }
 {
     let mut tables = Tables::new(alloc);
@@ -146,6 +159,10 @@ fn read_listed<F: Files, S: Sink>(
         (tables_listed list.now) files.old out.old result files.new out.new }
     ensures counts { TalliesOn F.counts S.faults result files.old out.old files.new out.new }
     ensures same { F.contents files.new ≡ F.contents files.old }
+    ensures once { IsTrue F.tells → IsTrue S.tells → OnOk result (ReadsListed list.now
+        (F.contents files.old) (F.reads files.old) (F.reads files.new)) }
+    ensures front { IsTrue F.tells → IsTrue S.tells → OnErr result (ReadsPart list.now
+        (F.contents files.old) (F.reads files.old) (F.reads files.new)) }
     ensures only { IfErr result StopsArea }
 {
     match read_list(alloc, list, files, out) {
@@ -166,6 +183,13 @@ pub fn read_tables<F: Files, S: Sink>(
         files.old out.old result files.new out.new }
     ensures counts { TalliesOn F.counts S.faults result files.old out.old files.new out.new }
     ensures same { F.contents files.new ≡ F.contents files.old }
+    // The list is read once, and then the file of each table once; up to the first that is refused.
+    ensures once { IsTrue F.tells → IsTrue S.tells → OnOk result
+        (ReadsTables (option_map (λ name. name.now) list.entry)
+        (F.contents files.old) (F.reads files.old) (F.reads files.new)) }
+    ensures front { IsTrue F.tells → IsTrue S.tells → OnErr result
+        (ReadsSomeTables (option_map (λ name. name.now) list.entry)
+        (F.contents files.old) (F.reads files.old) (F.reads files.new)) }
     ensures only { IfErr result StopsArea }
     ensures none { list.entry ≡ None → result ≡ Ok [] }
 {

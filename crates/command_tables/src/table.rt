@@ -1,4 +1,5 @@
 ghost use Rattle.std.specs.Prelude.{◌≡◌, ℕ, string_bytes, IsTrue, IfOk, IfErr};
+ghost use Rattle.nwq_outside.specs.Outside.{next};
 ghost use Rattle.nwq_text.specs.Names.{is_script_name};
 ghost use Rattle.command_work.specs.Counts.{Refusing, StopsArea};
 ghost use Rattle.command_work.specs.Calls.{DoesOn, TalliesOn, TalliesPuts, DoesPuts};
@@ -53,6 +54,7 @@ pub(crate) fn read_named<F: Files, S: Sink>(
         (table_in_file file.now) files.old out.old result files.new out.new }
     ensures counts { TalliesOn F.counts S.faults result files.old out.old files.new out.new }
     ensures same { F.contents files.new ≡ F.contents files.old }
+    ensures once { F.reads files.new ≡ next (F.reads files.old) }
     ensures only { IfErr result StopsArea }
 {
     match read_file(alloc, file, files, out) {

@@ -81,22 +81,16 @@ zero_is (c ∷ cells) y h = ap (λ (c : Cell). zero_on_top (c ∷ cells)) (same 
 
 pub ruleset two_lemmas = (first_int, second_int)
 
--- the answer is written onto the lower one before the upper one goes
-pub fold_value : (cells : List Cell) (x : ℤ) → slice_get cells 1 ≡ Some (Holds (Int x)) → HasValue 1 cells
-fold_value cells x b = record { value = Int x; is = b }
+-- the upper one goes before the answer is written onto the lower one
+pub fold_lies : (cells : List Cell) (c : Cell) → slice_get cells 0 ≡ Some c → 0 < length cells
+fold_lies cells c h = within_one cells c h
 
-pub fold_lies : (cells : List Cell) (c new : Cell) → slice_get cells 0 ≡ Some c → 0 < length (slice_set cells 1 new)
-fold_lies [] c new h = absurd cc
-fold_lies (a ∷ cells) c new h = omega arith
+pub fold_value : (cells : List Cell) (x : ℤ) → slice_get cells 1 ≡ Some (Holds (Int x)) → HasValue 0 (drop 1 cells)
+fold_value cells x b = record { value = Int x; is = lower cells 0 ∙ b }
 
 pub fold_is : (f : ℤ → ℤ → ℤ) (cells : List Cell) (x y : ℤ) → slice_get cells 0 ≡ Some (Holds (Int y)) → slice_get cells 1 ≡ Some (Holds (Int x))
-    → of_ints f cells ≡ Some (drop 1 (slice_set cells 1 (Holds (Int (f x y)))))
-fold_is f cells x y a b = two_is f cells x y a b ∙ sym (ap Some (set_upper cells (Holds (Int x)) (Holds (Int (f x y))) b))
-  where
-    set_upper : (cells : List Cell) (c new : Cell) → slice_get cells 1 ≡ Some c → drop 1 (slice_set cells 1 new) ≡ new ∷ drop 2 cells
-    set_upper [] c new h = absurd cc
-    set_upper (a ∷ []) c new h = absurd cc
-    set_upper (a ∷ b ∷ cells) c new h = refl
+    → of_ints f cells ≡ Some (slice_set (drop 1 cells) 0 (Holds (Int (f x y))))
+fold_is f cells x y a b = two_is f cells x y a b ∙ sym (ap Some (set_lower cells (Holds (Int x)) (Holds (Int (f x y))) b))
 
 pub ruleset fold_lemmas = (fold_value, fold_lies, fold_is, zero_is)
 
@@ -127,9 +121,9 @@ pub ruleset drop_lemmas = (dropped_has, dropped_lies, dropped_is, zero_is)
 
 -- ---- a starting value
 
-pub int_started : (kind : ℕ) (cells : List Cell) → kind ≡ 3 → value_pushed (starting_value kind) cells ≡ Some (Holds (Int (pos 0)) ∷ cells)
+pub zero_started : (cells : List Cell) → value_pushed (starting_value 0x03) cells ≡ Some (Holds (Int (pos 0)) ∷ cells)
 unfolding type_of_one
-int_started kind cells is = ap (λ (k : ℕ). value_pushed (starting_value k) cells) is
+zero_started cells = refl
 
 -- ---- two texts
 

@@ -7,7 +7,7 @@ use Rattle.std.proofs.lemmas.List.{take-append-drop, length-take-le, length-drop
 use Rattle.nwq_value.specs.declared.value.Value.{Value}
 use Rattle.saved_state.specs.declared.cell.Cell.{Cell}
 use Rattle.saved_state.specs.declared.cell.Cell.TheVariants.{Value as Holds, Base}
-use Rattle.saved_state.specs.Cells.{StackView}
+use Rattle.saved_state.specs.Cells.{StackView, run_written}
 use Rattle.machine_rules.specs.Cells.{values_on, with_values, overwritten}
 use Rattle.machine_frames.specs.Tops.{HasValue, AreValues}
 
@@ -314,5 +314,19 @@ many_pushed above count first now h put =
     let after : now ≡ record first { cells = with_values t.vs first.cells } =
     put ∙ ap (λ (c : List Cell). record first { cells = c ++ first.cells }) (values_taken count (drop above first.cells) t.vs t.are) in
     subst (λ o. IfSome o (λ vs. now ≡ record first { cells = with_values vs first.cells })) (sym t.are) after
+
+pub run_copied : (from onto count : ℕ) (first now : StackView) → AreValues count (drop from first.cells)
+    → now ≡ record first { cells = run_written onto from count first.cells }
+    → IfSome (values_on count (drop from first.cells)) (λ vs. now ≡ record first { cells = overwritten onto vs first.cells })
+run_copied from onto count first now h put =
+    let t = there count (drop from first.cells) h in
+    let size = (length_is count (drop from first.cells) t.vs t.are).0 in
+    let after : now ≡ record first { cells = overwritten onto t.vs first.cells } =
+    put
+    ∙ ap (λ (c : List Cell). record first { cells = take onto first.cells ++ (c ++ drop (onto + count) first.cells) }) (values_taken count (drop from first.cells) t.vs t.are)
+    ∙ ap (λ (n : ℕ). record first { cells = take onto first.cells ++ with_values t.vs (drop (onto + n) first.cells) }) (sym size) in
+    subst (λ o. IfSome o (λ vs. now ≡ record first { cells = overwritten onto vs first.cells })) (sym t.are) after
+
+pub ruleset run_lemmas = (run_copied, many_fit)
 
 pub ruleset push_lemmas = (none_pushed, one_has, copy_pushed, many_fit, many_pushed)

@@ -83,8 +83,54 @@ fn push_copy_apart(alloc: Global, stack: &mut Stack, above: usize) -> Result<(),
 /// Writes the `count` values that begin `from` cells down onto those that begin `onto` cells down,
 /// the lowest first, so that each is read before it is written.
 #[inline(always)]
-#[tactic(auto, using(crate::proofs::RunLemmas::copy_lemmas))]
 pub fn copy_down(
+    alloc: Global,
+    stack: &mut Stack,
+    from: usize,
+    onto: usize,
+    count: usize,
+) -> Result<(), NoMemory>
+    requires from { AreValues count (drop from stack.old.cells) }
+    requires onto { AreValues count (drop onto stack.old.cells) }
+    requires order { from ≤ onto }
+    ensures cells { OnOk result (IfSome (values_on count (drop from stack.old.cells))
+        (λ vs. stack.new ≡ record stack.old { cells = overwritten onto vs stack.old.cells })) }
+{
+    if count > 1 {
+        copy_run(alloc, stack, from, onto, count)
+    } else {
+        copy_each(alloc, stack, from, onto, count)
+    }
+}
+
+/// The same of several values, which are mostly on top of the stack.
+#[inline(never)]
+#[tactic(auto, using(crate::proofs::RunLemmas::run_lemmas))]
+fn copy_run(
+    alloc: Global,
+    stack: &mut Stack,
+    from: usize,
+    onto: usize,
+    count: usize,
+) -> Result<(), NoMemory>
+    requires from { AreValues count (drop from stack.old.cells) }
+    requires onto { AreValues count (drop onto stack.old.cells) }
+    requires order { from ≤ onto }
+    requires some { 1 < count }
+    ensures cells { OnOk result (IfSome (values_on count (drop from stack.old.cells))
+        (λ vs. stack.new ≡ record stack.old { cells = overwritten onto vs stack.old.cells })) }
+{
+    if stack.copy_down(from, onto, count)? {
+        Ok(())
+    } else {
+        copy_each(alloc, stack, from, onto, count)
+    }
+}
+
+/// The same one by one.
+#[inline(always)]
+#[tactic(auto, using(crate::proofs::RunLemmas::copy_lemmas))]
+fn copy_each(
     alloc: Global,
     stack: &mut Stack,
     from: usize,

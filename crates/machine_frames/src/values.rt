@@ -49,7 +49,7 @@ fn two_ints_apart(stack: &mut Stack, op: Binary) -> Result<(), NoMemory>
     fold_ints(stack, op, x, y)
 }
 
-/// What two ints give is written onto the lower one, and then the upper one goes.
+/// The upper one of two ints goes, and then what both give is written onto the lower one.
 #[inline(always)]
 #[tactic(auto, using(crate::proofs::Popped::fold_lemmas))]
 fn fold_ints(stack: &mut Stack, op: Binary, x: i32, y: i32) -> Result<(), NoMemory>
@@ -59,9 +59,8 @@ fn fold_ints(stack: &mut Stack, op: Binary, x: i32, y: i32) -> Result<(), NoMemo
     ensures cells { OnOk result (of_ints (binary_of op) stack.old.cells ≡ Some stack.new.cells) }
     ensures bp { OnOk result (stack.new.bp ≡ stack.old.bp) }
 {
-    put(stack, 1, Value::Int(of_two(op, x, y)))?;
     stack.drop_one();
-    Ok(())
+    put(stack, 0, Value::Int(of_two(op, x, y)))
 }
 
 /// The same of an instruction whose type byte says that it is of ints.
@@ -119,7 +118,7 @@ pub fn complement(stack: &mut Stack) -> Result<(), NoMemory>
 /// The two texts on top become one.
 #[inline(never)]
 #[tactic(auto, using(crate::proofs::Popped::text_lemmas))]
-fn two_texts(alloc: Global, stack: &mut Stack) -> Result<(), NoMemory>
+pub fn two_texts(alloc: Global, stack: &mut Stack) -> Result<(), NoMemory>
     requires case { of_texts joined_texts stack.old.cells ≢ None }
     ensures cells { OnOk result (of_texts joined_texts stack.old.cells ≡ Some stack.new.cells) }
     ensures bp { OnOk result (stack.new.bp ≡ stack.old.bp) }
@@ -129,8 +128,8 @@ fn two_texts(alloc: Global, stack: &mut Stack) -> Result<(), NoMemory>
     put(stack, 0, Value::Text(joined))
 }
 
-/// ADD, of ints or of texts.
-#[inline(always)]
+/// ADD by its type byte.
+#[inline(never)]
 pub fn add(alloc: Global, stack: &mut Stack, kind: u8) -> Result<(), NoMemory>
     requires case { added kind stack.old.cells ≢ None }
     ensures cells { OnOk result (added kind stack.old.cells ≡ Some stack.new.cells) }
@@ -177,25 +176,20 @@ fn take_zero_apart(stack: &mut Stack) -> bool
     n == 0
 }
 
-/// RSADD. An int is pushed here.
+/// RSADD of an int.
 #[inline(always)]
-#[tactic(auto, using(crate::proofs::Popped::int_started))]
-pub fn push_start(alloc: Global, stack: &mut Stack, kind: u8) -> Result<(), NoMemory>
-    requires case { value_pushed (starting_value kind) stack.old.cells ≢ None }
+#[tactic(auto, using(crate::proofs::Popped::zero_started))]
+pub fn push_zero(stack: &mut Stack) -> Result<(), NoMemory>
     ensures cells { OnOk result
-        (value_pushed (starting_value kind) stack.old.cells ≡ Some stack.new.cells) }
+        (value_pushed (starting_value 0x03) stack.old.cells ≡ Some stack.new.cells) }
     ensures bp { OnOk result (stack.new.bp ≡ stack.old.bp) }
 {
-    if kind == 0x03 {
-        stack.push(Cell::Value(Value::Int(0)))
-    } else {
-        push_start_apart(alloc, stack, kind)
-    }
+    stack.push(Cell::Value(Value::Int(0)))
 }
 
-/// RSADD of any value.
+/// RSADD by its type byte.
 #[inline(never)]
-fn push_start_apart(alloc: Global, stack: &mut Stack, kind: u8) -> Result<(), NoMemory>
+pub fn push_start(alloc: Global, stack: &mut Stack, kind: u8) -> Result<(), NoMemory>
     requires case { value_pushed (starting_value kind) stack.old.cells ≢ None }
     ensures cells { OnOk result
         (value_pushed (starting_value kind) stack.old.cells ≡ Some stack.new.cells) }

@@ -166,6 +166,83 @@ const TYPES: &[Row] = &[
 /// Scripts of one line that are refused, each for another reason.
 const SCRIPTS: &[Refused] = &[
     Refused {
+        bytes: b"void main() { object o; int i; if (i) -o; }",
+        line: b"refused p.nss 1 38 mismatch\n",
+        said: "p.nss:1:39: error: what `-` is given is no int: object [mismatch]\nvoid main() { \
+            object o; int i; if (i) -o; }\n                                      ^\n",
+    },
+    Refused {
+        bytes: b"int nwq_int; void main() { string s = 1; }",
+        line: b"refused p.nss 1 34 mismatch\n",
+        said: "p.nss:1:35: error: the value has another type than `s`: int, where string is wanted \
+            [mismatch]\nint nwq_int; void main() { string s = 1; \
+            }\n                                  ^\n",
+    },
+    Refused {
+        bytes: b"void main() { int n; do n; while (\"s\"); }",
+        line: b"refused p.nss 1 21 mismatch\n",
+        said: "p.nss:1:22: error: the condition of `do` is no int: string [mismatch]\nvoid main() \
+            { int n; do n; while (\"s\"); }\n                     ^\n",
+    },
+    Refused {
+        bytes: b"void main() { switch (\"a\") { } }",
+        line: b"refused p.nss 1 14 mismatch\n",
+        said: "p.nss:1:15: error: the condition of `switch` is no int: string [mismatch]\nvoid \
+            main() { switch (\"a\") { } }\n              ^\n",
+    },
+    Refused {
+        bytes: b"void f() { return 1; } void main() {}",
+        line: b"refused p.nss 1 11 mismatch\n",
+        said: "p.nss:1:12: error: `return` gives a value of another type than the function's: int, \
+            where void is wanted [mismatch]\nvoid f() { return 1; } void main() {}\n           ^\n",
+    },
+    Refused {
+        bytes: b"const int N = \"a\"; void main() {}",
+        line: b"refused p.nss 1 10 mismatch\n",
+        said: "p.nss:1:11: error: the value has another type than `N`: string, where int is wanted \
+            [mismatch]\nconst int N = \"a\"; void main() {}\n          ^\n",
+    },
+    Refused {
+        bytes: b"void f(int n = \"a\") {} void main() {}",
+        line: b"refused p.nss 1 7 mismatch\n",
+        said: "p.nss:1:8: error: the default has another type than its parameter, which begins \
+            with `int`: string, where int is wanted [mismatch]\nvoid f(int n = \"a\") {} void \
+            main() {}\n       ^\n",
+    },
+    Refused {
+        bytes: b"void main() { switch (1) { case \"a\": ; } }",
+        line: b"refused p.nss 1 27 mismatch\n",
+        said: "p.nss:1:28: error: the value of `case` is no int: string [mismatch]\nvoid main() { \
+            switch (1) { case \"a\": ; } }\n                           ^\n",
+    },
+    Refused {
+        bytes: b"void main() { SetLocalInt(1, 2, 3); }",
+        line: b"refused p.nss 1 14 mismatch\n",
+        said: "p.nss:1:15: error: an argument of `SetLocalInt` has another type than its \
+            parameter: argument 1: int, where object is wanted [mismatch]\nvoid main() { \
+            SetLocalInt(1, 2, 3); }\n              ^\n",
+    },
+    Refused {
+        bytes: b"void main() { DelayCommand(1, 2); }",
+        line: b"refused p.nss 1 14 mismatch\n",
+        said: "p.nss:1:15: error: an argument of `DelayCommand` has another type than its \
+            parameter: argument 2: int, where action is wanted [mismatch]\nvoid main() { \
+            DelayCommand(1, 2); }\n              ^\n",
+    },
+    Refused {
+        bytes: b"int f(int n, int m = 1) { return n; } void main() { f(); }",
+        line: b"refused p.nss 1 52 arity\n",
+        said: "p.nss:1:53: error: `f` takes 1 to 2 arguments, and 0 are given [arity]\nint f(int \
+            n, int m = 1) { return n; } void main() { f(); \
+            }\n                                                    ^\n",
+    },
+    Refused {
+        bytes: b"void main() { string s; s = 1; }",
+        line: b"refused p.nss 1 26 mismatch\n",
+        said: "p.nss:1:27: error: the types that `=` is given don't go together: string and int \
+            [mismatch]\nvoid main() { string s; s = 1; }\n                          ^\n",
+    },
+    Refused {
         bytes: b"int f() { return; } void main() {}",
         line: b"refused p.nss 1 10 mismatch\n",
         said: "p.nss:1:11: error: `return` gives no value, and the function has a result \

@@ -1,15 +1,13 @@
-//! What messages say of types and of arguments: which types stand at a place that is refused for
-//! them and which are wanted, how many arguments a call gives and its function takes.
+//! What messages say of types and of arguments.
 //!
-//! A unit that is refused has no typed tree. [`put_types`] finds the type of an inner expression by
-//! the typing of changed units ([`probe`]): what it tells is what the rules of types say, and where
-//! no trial decides it tells nothing. The page on messages is docs/MESSAGES.md.
+//! [`put_why`] finds the reason for which the rules of types refuse a unit at a token
+//! ([`nss_reasons::explain`]), and appends its sentence, as `specs/Sentences.antt` has it. The page
+//! on messages is docs/MESSAGES.md.
 #![tactic(auto)]
 
-mod parts;
-mod probe;
-mod takes;
-mod types;
+mod sentences;
+#[tactic(auto, using(crate::proofs::Telling::tells, crate::proofs::Telling::tells_none))]
+mod why;
 
-pub use takes::{arity_named, given_at, put_arity, put_parameters};
-pub use types::{is_refused_at, put_types};
+pub use sentences::put_reason;
+pub use why::put_why;

@@ -34,42 +34,22 @@ drop_none xs i none = ⊎_elim (λ h. absurd (no_some (sym h.2 ∙ none))) (λ h
 
 -- ---- effects of an object
 
-some_stood : (x : Option Stood) (e : Effect) → option_map (λ (s : Stood). s.effect) x ≡ Some e → (s : Stood) × (x ≡ Some s) × (s.effect ≡ e)
-some_stood None e is = absurd cc
-some_stood (Some s) e is = (s, refl, cc)
-
-no_stood : (x : Option Stood) → option_map (λ (s : Stood). s.effect) x ≡ None → x ≡ None
-no_stood None is = refl
-no_stood (Some s) is = absurd cc
-
 nothing_more : (xs : List ℕ) → xs ++ [] ≡ xs
 nothing_more [] = refl
 nothing_more (x ∷ xs) = ap (λ ys. x ∷ ys) (nothing_more xs)
 
-pub effects_begin : (o i : ℕ) (es : List Stood) (out : List ℕ) → i ≡ 0 → out ++ effects_text o (drop i es) ≡ out ++ effects_text o es
-effects_begin o i es out zero_is = ap (λ n. out ++ effects_text o (drop n es)) zero_is
-
-pub effects_go : (o i j : ℕ) (es : List Stood) (out next all : List ℕ) (e : Effect) → j ≡ i + 1 → out ++ effects_text o (drop i es) ≡ all
-    → Some e ≡ option_map (λ (s : Stood). s.effect) (slice_get es i) → next ≡ out ++ standing_text o e → next ++ effects_text o (drop j es) ≡ all
-effects_go o i j es out next all e one inv is put =
-    let s = some_stood (slice_get es i) e (sym is) in
-    ap (λ n. next ++ effects_text o (drop n es)) (one ∙ add-one i)
-    ∙ ap (λ x. x ++ effects_text o (drop (suc i) es)) (put ∙ ap (λ f. out ++ standing_text o f) (sym s.2))
-    ∙ append_assoc out (standing_text o s.0.effect) (effects_text o (drop (suc i) es))
-    ∙ ap (λ d. out ++ effects_text o d) (sym (drop_some es i s.0 s.1))
+pub effects_go : (o : ℕ) (es left : List Stood) (s : Stood) (out next all : List ℕ) → Some s ≡ slice_get es 0
+    → left ≡ drop 1 es → out ++ effects_text o es ≡ all → next ≡ out ++ standing_text o s.effect
+    → next ++ effects_text o left ≡ all
+effects_go o es left s out next all is rest inv put =
+    ap (λ x. next ++ effects_text o x) rest
+    ∙ ap (λ x. x ++ effects_text o (drop 1 es)) put
+    ∙ append_assoc out (standing_text o s.effect) (effects_text o (drop 1 es))
+    ∙ ap (λ d. out ++ effects_text o d) (sym (drop_some es 0 s (sym is)))
     ∙ inv
 
-pub effects_end : (o i : ℕ) (es : List Stood) (out all : List ℕ) → out ++ effects_text o (drop i es) ≡ all
-    → None ≡ option_map (λ (s : Stood). s.effect) (slice_get es i) → out ≡ all
-effects_end o i es out all inv is =
-    sym (nothing_more out) ∙ ap (λ d. out ++ effects_text o d) (sym (drop_none es i (no_stood (slice_get es i) (sym is)))) ∙ inv
-
-standing_some : (o : ℕ) (e : Effect) → 2 ≤ length (standing_text o e)
-standing_some o e = simp length-append (omega arith)
-
--- two bytes at least for each line
-pub effects_long : (o i j : ℕ) (out next : List ℕ) (e : Effect) → j ≡ i + 1 → i + i ≤ length out → next ≡ out ++ standing_text o e → j + j ≤ length next
-effects_long o i j out next e one long put = omega (arith, one, long, ap length put, length-append out (standing_text o e), standing_some o e)
+pub effects_end : (o : ℕ) (es : List Stood) (out all : List ℕ) → None ≡ slice_get es 0 → out ++ effects_text o es ≡ all → out ≡ all
+effects_end o es out all is inv = sym (nothing_more out) ∙ ap (λ d. out ++ effects_text o d) (sym (drop_none es 0 (sym is))) ∙ inv
 
 -- ---- an object's queue
 
@@ -182,7 +162,7 @@ text_is scripts answer p w effects queues agenda out word h a b c said d =
     (end_line p.ending w.clock answer.entries answer.instructions)
     ∙ sym (end_of (script_name scripts) scripts answer p w h)
 
-pub ruleset effect_lemmas = (effects_begin, effects_go, effects_end)
+pub ruleset effect_lemmas = (effects_go, effects_end)
 
 pub ruleset queue_lemmas = (items_begin, items_go, items_end)
 

@@ -156,15 +156,11 @@ fn put_effects_of(out: &mut Vec<u8>, world: &World<Saved>, object: u32) -> Resul
     ensures lines { OnOk result (out.new.items
         ≡ out.old.items ++ effects_text object (effects_of object world.now.world)) }
 {
-    for i in 0..usize::MAX {
-        match world.effect_at(object, i) {
-            None => return Ok(()),
-            Some(effect) => put_standing(out, object, effect)?,
-        }
+    let mut effects = world.effects(object);
+    while let Some(stood) = effects.next() {
+        put_standing(out, object, &stood.effect)?;
     }
-    // Each line has two bytes at least, so no text has so many lines.
-    let _length = out.len();
-    unreachable!()
+    Ok(())
 }
 
 /// Appends the lines of an object's queue.

@@ -19,6 +19,7 @@ mod Meaning
 mod Rows
 mod Sure
 mod WordLemmas
+mod ReadLemmas
 mod WholeMeaning
 mod NoFaults
 mod Cuts

@@ -19,3 +19,4 @@ pub mod GivenTables
 pub mod Meaning
 pub mod Answers
 pub mod Budgets
+pub mod Reads

@@ -5,6 +5,7 @@ ghost use Rattle.command_work.specs.Counts.{Counted, Tallies, KeepsBut};
 ghost use Rattle.command_words.specs.Words.{form_of};
 ghost use Rattle.nwq_top.specs.Command.{work_of, MayWrite};
 ghost use Rattle.nwq_top.specs.Endings.{ComesOf, ComesOfResult};
+ghost use Rattle.nwq_top.specs.Reads.{ReadsOnce};
 
 use command_compile::compile_file;
 use command_files::{assemble_file, check_file, disassemble_file, show_tree};
@@ -38,6 +39,9 @@ pub fn command<F: Files, S: Sink>(
         (Counted (F.counts files.new) (S.faults out.new)) }
     ensures names { KeepsBut (MayWrite (form_of (map string_bytes words.now)))
         (F.contents files.old) (F.contents files.new) }
+    ensures once { IsTrue F.tells → IsTrue S.tells →
+        ReadsOnce (form_of (map string_bytes words.now)) result (F.contents files.old)
+        (F.reads files.old) (F.reads files.new) }
     ensures only { ComesOfResult (form_of (map string_bytes words.now)) result }
 {
     match command_of(words) {
@@ -108,6 +112,9 @@ pub fn status_of_words<F: Files, S: Sink>(
         (Counted (F.counts files.new) (S.faults out.new)) }
     ensures names { KeepsBut (MayWrite (form_of (map string_bytes words.now)))
         (F.contents files.old) (F.contents files.new) }
+    ensures once { IsTrue F.tells → IsTrue S.tells →
+        ReadsOnce (form_of (map string_bytes words.now)) (ending result) (F.contents files.old)
+        (F.reads files.old) (F.reads files.new) }
     ensures only { ComesOf (form_of (map string_bytes words.now)) result }
 {
     match command(alloc, words, files, out, hooks, remarks) {

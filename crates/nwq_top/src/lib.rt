@@ -21,7 +21,8 @@
 //! `specs/FileCommands.antt` says what `tree`, `check`, `dis` and `asm` do. The laws of
 //! [`word_laws`] say that whatever does the work of the words does this, and one more that typing
 //! refuses a source at one fault. `specs/Cuts.antt` says what is left where a call is cut,
-//! `specs/Changes.antt` which names change, and `specs/Answers.antt` that each input has an answer.
+//! `specs/Changes.antt` which names change, `specs/Reads.antt` how often files are read, and
+//! `specs/Answers.antt` that each input has an answer.
 //!
 //! The tables that its scripts look cells up in are [`nwq_tables`]', which comes first: the tables
 //! are read, hooks are made with them, and `nwq_main` is handed these hooks and the same words.
@@ -46,6 +47,7 @@ ghost use Rattle.nwq_top.specs.Changes.{MayChange};
 ghost use Rattle.nwq_top.specs.Cuts.{IsFrontOf};
 ghost use Rattle.nwq_top.specs.Endings.{ComesOf};
 ghost use Rattle.nwq_top.specs.Meaning.{Means};
+ghost use Rattle.nwq_top.specs.Reads.{ReadsOnce};
 ghost use Rattle.telling_sink.specs.Told.{Told};
 
 use crate::laws::{names_change, one_outcome, work_means};
@@ -100,6 +102,11 @@ pub fn nwq_main<F: Files, S: Sink>(
     ensures changes { IsTrue F.tells →
         KeepsBut (MayChange (form_of (map string_bytes words.now)) (F.contents files.old)
         (ending result)) (F.contents files.old) (F.contents files.new) }
+    // Where the work is done, each file was read once, where its turn came; and one file that the
+    // words lead to alone also where it is refused.
+    ensures once { IsTrue F.tells →
+        ReadsOnce (form_of (map string_bytes words.now)) (ending result) (F.contents files.old)
+        (F.reads files.old) (F.reads files.new) }
     ensures only { ComesOf (form_of (map string_bytes words.now)) result }
 {
     work_means();

@@ -1,12 +1,15 @@
 ghost use Rattle.std.specs.Prelude.{◌≡◌, [], drop, map, None, Ok, IsTrue, IfErr};
+ghost use Rattle.std.specs.Prelude.{OnOk, OnErr};
 ghost use Rattle.world_core.specs.Calls.{cells_of, AreServing};
 ghost use Rattle.command_work.specs.Work.{IsCut, Does, ending};
 ghost use Rattle.command_work.specs.Counts.{Counted, Tallies, KeepsBut, StopsArea};
+ghost use Rattle.command_tables.specs.Reads.{ReadsTables, ReadsSomeTables};
 ghost use Rattle.command_tables.specs.Tables.{tables_given};
 ghost use Rattle.command_words.specs.Words.{form_of, list_of};
 ghost use Rattle.nwq_top.specs.Command.{work_of, MayWrite};
 ghost use Rattle.nwq_top.specs.Endings.{ComesOf};
 ghost use Rattle.nwq_top.specs.Meaning.{Means};
+ghost use Rattle.nwq_top.specs.Reads.{ReadsOnce};
 ghost use Rattle.nwq_top.specs.Program.{by_status, status_number, status_numbered, words_of};
 
 use crate::command::status_of_words;
@@ -55,6 +58,12 @@ pub fn program_tables<F: Files, S: Sink>(
     ensures counts { Tallies (by_status result) (Counted (F.counts files.old) (S.faults out.old))
         (Counted (F.counts files.new) (S.faults out.new)) }
     ensures same { F.contents files.new ≡ F.contents files.old }
+    ensures once { IsTrue F.tells → IsTrue S.tells → OnOk result
+        (ReadsTables (list_of (form_of (words_of all.now))) (F.contents files.old)
+        (F.reads files.old) (F.reads files.new)) }
+    ensures front { IsTrue F.tells → IsTrue S.tells → OnErr result
+        (ReadsSomeTables (list_of (form_of (words_of all.now))) (F.contents files.old)
+        (F.reads files.old) (F.reads files.new)) }
     ensures only { IfErr result (λ n. StopsArea (status_numbered n)) }
     ensures none { list_of (form_of (words_of all.now)) ≡ None → result ≡ Ok [] }
 {
@@ -93,6 +102,9 @@ pub fn nwq_program<F: Files, S: Sink>(
         (Counted (F.counts files.new) (S.faults out.new)) }
     ensures names { KeepsBut (MayWrite (form_of (words_of all.now)))
         (F.contents files.old) (F.contents files.new) }
+    ensures once { IsTrue F.tells → IsTrue S.tells →
+        ReadsOnce (form_of (words_of all.now)) (ending (status_numbered result))
+        (F.contents files.old) (F.reads files.old) (F.reads files.new) }
     ensures only { ComesOf (form_of (words_of all.now)) (status_numbered result) }
 {
     work_means();

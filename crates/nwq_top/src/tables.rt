@@ -1,6 +1,8 @@
 ghost use Rattle.std.specs.Prelude.{◌≡◌, [], map, string_bytes, None, Ok, IsTrue, IfErr};
+ghost use Rattle.std.specs.Prelude.{OnOk, OnErr};
 ghost use Rattle.command_work.specs.Work.{Does};
 ghost use Rattle.command_work.specs.Counts.{Counted, Tallies, StopsArea};
+ghost use Rattle.command_tables.specs.Reads.{ReadsTables, ReadsSomeTables};
 ghost use Rattle.command_tables.specs.Tables.{tables_given};
 ghost use Rattle.command_words.specs.Words.{form_of, list_of};
 ghost use Rattle.telling_sink.specs.Told.{Told};
@@ -31,6 +33,12 @@ fn tables_told<'a, F: Files, S: Sink, L: Loan>(
     ensures counts { Tallies result.0 (Counted (F.counts files.old) (S.faults out.old))
         (Counted (F.counts files.new) (S.faults result.1.now)) }
     ensures same { F.contents files.new ≡ F.contents files.old }
+    ensures once { IsTrue F.tells → OnOk result.0
+        (ReadsTables (list_of (form_of (map string_bytes words.now))) (F.contents files.old)
+        (F.reads files.old) (F.reads files.new)) }
+    ensures front { IsTrue F.tells → OnErr result.0
+        (ReadsSomeTables (list_of (form_of (map string_bytes words.now))) (F.contents files.old)
+        (F.reads files.old) (F.reads files.new)) }
     ensures only { IfErr result.0 StopsArea }
     ensures none { list_of (form_of (map string_bytes words.now)) ≡ None → result.0 ≡ Ok [] }
 {
@@ -54,6 +62,13 @@ pub fn nwq_tables<F: Files, S: Sink>(
     ensures counts { Tallies result (Counted (F.counts files.old) (S.faults out.old))
         (Counted (F.counts files.new) (S.faults out.new)) }
     ensures same { F.contents files.new ≡ F.contents files.old }
+    // The list is read once, and then the file of each table once; up to the first that is refused.
+    ensures once { IsTrue F.tells → OnOk result
+        (ReadsTables (list_of (form_of (map string_bytes words.now))) (F.contents files.old)
+        (F.reads files.old) (F.reads files.new)) }
+    ensures front { IsTrue F.tells → OnErr result
+        (ReadsSomeTables (list_of (form_of (map string_bytes words.now))) (F.contents files.old)
+        (F.reads files.old) (F.reads files.new)) }
     ensures only { IfErr result StopsArea }
     ensures none { list_of (form_of (map string_bytes words.now)) ≡ None → result ≡ Ok [] }
 {

@@ -5,6 +5,7 @@ ghost use Rattle.command_work.specs.Counts.{Counted, Tallies, KeepsBut};
 ghost use Rattle.command_words.specs.Words.{form_of};
 ghost use Rattle.nwq_top.specs.Command.{work_of, MayWrite};
 ghost use Rattle.nwq_top.specs.Endings.{ComesOf};
+ghost use Rattle.nwq_top.specs.Reads.{ReadsOnce};
 ghost use Rattle.telling_sink.specs.Told.{Told};
 
 use crate::command::status_of_words;
@@ -36,6 +37,9 @@ pub(crate) fn status_told<'a, F: Files, S: Sink, L: Loan>(
         (Counted (F.counts files.new) (S.faults result.1.now)) }
     ensures names { KeepsBut (MayWrite (form_of (map string_bytes words.now)))
         (F.contents files.old) (F.contents files.new) }
+    ensures once { IsTrue F.tells →
+        ReadsOnce (form_of (map string_bytes words.now)) (ending result.0) (F.contents files.old)
+        (F.reads files.old) (F.reads files.new) }
     ensures only { ComesOf (form_of (map string_bytes words.now)) result.0 }
 {
     let mut telling: Telling<'a, S, L> = Telling::new(out);

@@ -6,6 +6,7 @@ mod OnePlan
 mod Steps
 mod CodeLemmas
 mod ListingLemmas
+mod ReadLemmas
 mod NameLemmas
 mod OneListing
 mod StopLemmas

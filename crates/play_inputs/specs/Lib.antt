@@ -4,4 +4,5 @@ pub mod Finals
 pub mod Wanted
 pub mod Laws
 pub mod Listings
+pub mod Reads
 pub mod ListingLaws

@@ -1,13 +1,16 @@
 //! The code of a script that a plan lists.
 ghost use Rattle.std.specs.Prelude.{◌≡◌, ◌≤◌, ℕ, false, length, string_bytes, IsTrue, IfOk, IfErr};
+ghost use Rattle.std.specs.Prelude.{OnOk};
 ghost use Rattle.nwq_value.specs.Limits.{file_limit};
 ghost use Rattle.nwq_text.specs.Names.{is_script_name};
 ghost use Rattle.command_work.specs.Counts.{KeepsBut};
 ghost use Rattle.command_work.specs.Calls.{DoesOn, TalliesOn, IsName};
+ghost use Rattle.command_sources.specs.Reads.{ReadsUnit};
 ghost use Rattle.command_files.specs.Checks.{plain_checked_answer, KeepsTable};
 ghost use Rattle.command_compile.specs.Files.{code_name};
 ghost use Rattle.play_inputs.specs.Listings.{writes_loaded, source_named, code_by, script_in};
 ghost use Rattle.play_inputs.specs.Listings.{IsOwnFile, StopsListing, script_answer};
+ghost use Rattle.play_inputs.specs.Reads.{ReadsCode};
 
 use command_compile::{code_name, read_compiled};
 use command_files::{load_checked, read_checked};
@@ -44,6 +47,7 @@ fn write_loaded<F: Files, S: Sink>(
         files.old out.old (plain_checked_answer result) files.new out.new }
     ensures counts { TalliesOn F.counts S.faults result files.old out.old files.new out.new }
     ensures names { KeepsBut (IsName file.now) (F.contents files.old) (F.contents files.new) }
+    ensures unread { F.reads files.new ≡ F.reads files.old }
     ensures kept { IfOk result (KeepsTable table.now) }
     ensures only { IfErr result StopsListing }
 {
@@ -73,6 +77,8 @@ fn read_source<F: Files, S: Sink>(
     ensures counts { TalliesOn F.counts S.faults result files.old out.old files.new out.new }
     ensures names { KeepsBut (IsName (code_name name.now)) (F.contents files.old) (F.contents
         files.new) }
+    ensures once { IsTrue F.tells → OnOk result (ReadsUnit (F.contents files.old) name.now
+        (F.reads files.old) (F.reads files.new)) }
     ensures kept { IfOk result (KeepsTable table.now) }
     ensures only { IfErr result StopsListing }
 {
@@ -100,6 +106,8 @@ fn read_by<F: Files, S: Sink>(
     ensures counts { TalliesOn F.counts S.faults result files.old out.old files.new out.new }
     ensures names { KeepsBut (λ other. (binary ≡ false) × (other ≡ code_name name.now))
         (F.contents files.old) (F.contents files.new) }
+    ensures once { IsTrue F.tells → OnOk result (ReadsCode binary (F.contents files.old)
+        name.now (F.reads files.old) (F.reads files.new)) }
     ensures kept { IfOk result (KeepsTable table.now) }
     ensures only { IfErr result StopsListing }
 {
@@ -125,6 +133,8 @@ fn read_code<F: Files, S: Sink>(
         files.old out.old (plain_checked_answer result) files.new out.new }
     ensures counts { TalliesOn F.counts S.faults result files.old out.old files.new out.new }
     ensures names { KeepsBut (IsOwnFile line.now) (F.contents files.old) (F.contents files.new) }
+    ensures once { IsTrue F.tells → OnOk result (ReadsCode line.now.binary (F.contents files.old)
+        line.now.name (F.reads files.old) (F.reads files.new)) }
     ensures kept { IfOk result (KeepsTable table.now) }
     ensures only { IfErr result StopsListing }
 {
@@ -151,6 +161,8 @@ pub(crate) fn read_script<F: Files, S: Sink>(
         (script_in table.now line.now) files.old out.old (script_answer result) files.new out.new }
     ensures counts { TalliesOn F.counts S.faults result files.old out.old files.new out.new }
     ensures names { KeepsBut (IsOwnFile line.now) (F.contents files.old) (F.contents files.new) }
+    ensures once { IsTrue F.tells → OnOk result (ReadsCode line.now.binary (F.contents files.old)
+        line.now.name (F.reads files.old) (F.reads files.new)) }
     ensures kept { IfOk result (λ loaded. KeepsTable table.now loaded.code) }
     ensures name { IfOk result (λ loaded. loaded.name ≡ line.now.name) }
     ensures only { IfErr result StopsListing }

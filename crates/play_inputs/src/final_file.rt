@@ -1,4 +1,4 @@
-ghost use Rattle.std.specs.Prelude.{ℕ, IsTrue, IfErr};
+ghost use Rattle.std.specs.Prelude.{◌≡◌, ℕ, IsTrue, IfErr};
 ghost use Rattle.gff_tree.specs.Whole.{plain_gff};
 ghost use Rattle.area_back.specs.Back.{tree_back};
 ghost use Rattle.command_work.specs.Counts.{KeepsBut, Refusing};
@@ -27,6 +27,7 @@ fn write_tree<F: Files, S: Sink>(
         (final_written name.now (plain_gff tree.now)) files.old out.old result files.new out.new }
     ensures counts { TalliesOn F.counts S.faults result files.old out.old files.new out.new }
     ensures names { KeepsBut (IsName name.now) (F.contents files.old) (F.contents files.new) }
+    ensures unread { F.reads files.new ≡ F.reads files.old }
     ensures only { IfErr result (Refusing Status.Area) }
 {
     match write(alloc, tree) {
@@ -51,6 +52,7 @@ pub fn write_area<F: Files, S: Sink>(
         (final_written name.now (tree_back area)) files.old out.old result files.new out.new }
     ensures counts { TalliesOn F.counts S.faults result files.old out.old files.new out.new }
     ensures names { KeepsBut (IsName name.now) (F.contents files.old) (F.contents files.new) }
+    ensures unread { F.reads files.new ≡ F.reads files.old }
     ensures only { IfErr result (Refusing Status.Area) }
 {
     match into_tree(alloc, area) {

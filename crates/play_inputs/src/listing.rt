@@ -9,6 +9,7 @@ ghost use Rattle.command_work.specs.Calls.{DoesOn, TalliesOn};
 ghost use Rattle.play_inputs.specs.Listings.{lists_on, scripts_listed, listed_by, listed_answer};
 ghost use Rattle.play_inputs.specs.Listings.{IsSourceFile, KeepTables, StopsListing};
 ghost use Rattle.play_inputs.specs.Listings.{line_names, loaded_names};
+ghost use Rattle.play_inputs.specs.Reads.{ReadsLines};
 
 use crate::code::read_script;
 use command_work::Status;
@@ -37,6 +38,8 @@ fn list_on<F: Files, S: Sink>(
     ensures counts { TalliesOn F.counts S.faults result files.old out.old files.new out.new }
     ensures names { KeepsBut (IsSourceFile lines.now)
         (F.contents files.old) (F.contents files.new) }
+    ensures once { IsTrue F.tells → OnOk result (ReadsLines lines.now (F.contents files.old)
+        (F.contents files.new) (F.reads files.old) (F.reads files.new)) }
     ensures kept { OnOk result (KeepTables table.now scripts.new) }
     ensures listed { OnOk result (loaded_names scripts.new
         ≡ loaded_names scripts.old ++ line_names lines.now) }
@@ -73,6 +76,8 @@ pub fn list_scripts<F: Files, S: Sink>(
     // The files of the sources alone are written.
     ensures names { KeepsBut (IsSourceFile lines.now)
         (F.contents files.old) (F.contents files.new) }
+    ensures once { IsTrue F.tells → OnOk result (ReadsLines lines.now (F.contents files.old)
+        (F.contents files.new) (F.reads files.old) (F.reads files.new)) }
     // All are well stacked, by the tables that are kept.
     ensures kept { IfOk result (KeepTables table.now) }
     ensures listed { IfOk result (λ scripts. loaded_names scripts ≡ line_names lines.now) }

@@ -2,8 +2,9 @@ ghost use Rattle.std.specs.Prelude.{◌≡◌, ℕ, IsTrue, IfErr, IfOk};
 ghost use Rattle.nwq_outside.specs.Outside.{next};
 ghost use Rattle.command_work.specs.Counts.{Refusing, StopsArea};
 ghost use Rattle.command_work.specs.Calls.{DoesOn, TalliesOn, TalliesPuts, DoesPuts};
-ghost use Rattle.plan_text.specs.Plans.{IsPlan};
+ghost use Rattle.plan_text.specs.Plans.{HasPlan, IsPlan};
 ghost use Rattle.play_inputs.specs.Plans.{plan_in, plan_named};
+ghost use Rattle.play_inputs.specs.Reads.{HasPlanFile};
 
 use command_work::{AreaFlaw, Status, read_file, refuse_area};
 use nwq_outside::{Files, Sink};
@@ -22,6 +23,7 @@ fn plan_of_bytes<S: Sink>(
     ensures does { IsTrue S.tells → DoesPuts S.taken (plan_in name.now bytes.now)
         out.old result out.new }
     ensures counts { TalliesPuts S.faults result out.old out.new }
+    ensures has { IfOk result (HasPlan bytes.now) }
     // Every plan that is read keeps its limits.
     ensures keeps { IfOk result IsPlan }
     ensures only { IfErr result (Refusing Status.Area) }
@@ -47,6 +49,8 @@ pub fn read_plan_file<F: Files, S: Sink>(
     ensures counts { TalliesOn F.counts S.faults result files.old out.old files.new out.new }
     ensures same { F.contents files.new ≡ F.contents files.old }
     ensures once { F.reads files.new ≡ next (F.reads files.old) }
+    ensures has { IsTrue F.tells → IsTrue S.tells →
+        IfOk result (HasPlanFile (F.contents files.old) name.now) }
     // Every plan that is read keeps its limits.
     ensures keeps { IfOk result IsPlan }
     ensures only { IfErr result StopsArea }

@@ -26,8 +26,9 @@ use Rattle.state_format.specs.declared.parts.Script.{Script}
 use Rattle.state_format.specs.declared.parts.Parts.{Parts}
 use Rattle.state_parts.specs.World.{saved_of}
 use Rattle.play_save.specs.Rules.{IsHeaderOf, IsFileOf, IsSound, IsCapturedIn, ItemHolds, KindHolds, HasStates}
-use Rattle.play_save.specs.Breaking.{AreScriptsOf, IsScriptOf, IsFitting, IsPreparedFor}
+use Rattle.play_save.specs.Breaking.{AreScriptsOf, IsScriptOf, IsFitting}
 use Rattle.play_save.specs.declared.prepare.Prepared.{Prepared}
+use Rattle.play_save.proofs.Scripts.{HoldsScripts}
 
 -- ---- a header has one table, and a file is one list of instructions
 
@@ -94,7 +95,7 @@ pub record Laws : Type 0 where
   pub spellings : SpellingLaws
   pub fits : FitsToo
 
-pub captured_if : (s : Parts) (p : Prepared) (c : Captured) → Laws → IsPreparedFor s p → IsFitting p.scripts c → IsCapturedIn s c
+pub captured_if : (s : Parts) (p : Prepared) (c : Captured) → Laws → HoldsScripts s p → IsFitting p.scripts c → IsCapturedIn s c
 captured_if s p c laws prepared is =
     let pair = at_right p.table s.scripts p.scripts c.script is.loaded prepared.scripts is.listed in
     let same : pair.loaded ≡ is.loaded = (let held = pair.held in let listed = is.listed in cc) in
@@ -110,7 +111,7 @@ captured_if s p c laws prepared is =
           (subst (λ (l : Loaded). Fits (kept_table l.code) (saved_of c)) (sym same) is.fits);
     }
 
-pub fitting_if : (s : Parts) (p : Prepared) (c : Captured) → IsPreparedFor s p → IsCapturedIn s c → IsFitting p.scripts c
+pub fitting_if : (s : Parts) (p : Prepared) (c : Captured) → HoldsScripts s p → IsCapturedIn s c → IsFitting p.scripts c
 fitting_if s p c prepared is =
     let pair = at_left p.table s.scripts p.scripts c.script is.script prepared.scripts is.listed in
     let same : pair.part ≡ is.script = (let held = is.listed in let listed = pair.listed in cc) in
@@ -149,23 +150,18 @@ entries_map : {P Q : Captured → Type 0} (f : (c : Captured) → P c → Q c) (
 entries_map f [] all = tt
 entries_map f (e ∷ es) all = (kind_map f e.kind all.0, entries_map f es all.1)
 
-pub states_if : (s : Parts) (p : Prepared) → Laws → IsPreparedFor s p → AllByRecursion (λ (o : Object). AllByRecursion (ItemHolds (IsFitting p.scripts)) o.items) s.objects
+pub states_if : (s : Parts) (p : Prepared) → Laws → HoldsScripts s p → AllByRecursion (λ (o : Object). AllByRecursion (ItemHolds (IsFitting p.scripts)) o.items) s.objects
     → AllByRecursion (λ (e : Entry). KindHolds (IsFitting p.scripts) e.kind) s.agenda → HasStates s
 states_if s p laws prepared items entries = record {
   items = objects_map (λ c is. captured_if s p c laws prepared is) s.objects items;
   entries = entries_map (λ c is. captured_if s p c laws prepared is) s.agenda entries;
 }
 
-pub items_if : (s : Parts) (p : Prepared) → IsPreparedFor s p → HasStates s → AllByRecursion (λ (o : Object). AllByRecursion (ItemHolds (IsFitting p.scripts)) o.items) s.objects
+pub items_if : (s : Parts) (p : Prepared) → HoldsScripts s p → HasStates s → AllByRecursion (λ (o : Object). AllByRecursion (ItemHolds (IsFitting p.scripts)) o.items) s.objects
 items_if s p prepared has = objects_map (λ c is. fitting_if s p c prepared is) s.objects has.items
 
-pub entries_if : (s : Parts) (p : Prepared) → IsPreparedFor s p → HasStates s → AllByRecursion (λ (e : Entry). KindHolds (IsFitting p.scripts) e.kind) s.agenda
+pub entries_if : (s : Parts) (p : Prepared) → HoldsScripts s p → HasStates s → AllByRecursion (λ (e : Entry). KindHolds (IsFitting p.scripts) e.kind) s.agenda
 entries_if s p prepared has = entries_map (λ c is. fitting_if s p c prepared is) s.agenda has.entries
-
-pub states_by : (s : Parts) (p : Prepared) → OneHeader → SpellingLaws → FitsToo → IsPreparedFor s p
-    → AllByRecursion (λ (o : Object). AllByRecursion (ItemHolds (IsFitting p.scripts)) o.items) s.objects
-    → AllByRecursion (λ (e : Entry). KindHolds (IsFitting p.scripts) e.kind) s.agenda → HasStates s
-states_by s p one spelled fits prepared items entries = states_if s p (record { header = one; spellings = spelled; fits = fits }) prepared items entries
 
 -- ---- what the tests of all states say
 
@@ -175,13 +171,13 @@ ItemsFit p os = AllByRecursion (λ (o : Object). AllByRecursion (ItemHolds (IsFi
 abbrev pub EntriesFit : Prepared → List Entry → Type 0
 EntriesFit p es = AllByRecursion (λ (e : Entry). KindHolds (IsFitting p.scripts) e.kind) es
 
-pub states_tested : (s : Parts) (p : Prepared) (os : List Object) (es : List Entry) (a b : Bool) → Laws → IsPreparedFor s p → os ≡ s.objects → es ≡ s.agenda
+pub states_tested : (s : Parts) (p : Prepared) (os : List Object) (es : List Entry) (a b : Bool) → Laws → HoldsScripts s p → os ≡ s.objects → es ≡ s.agenda
     → (IsTrue a ↔ ItemsFit p os) → (IsTrue b ↔ EntriesFit p es) → a ≡ true → b ≡ true → HasStates s
 states_tested s p os es a b laws prepared objects agenda items entries first second =
     states_if s p laws prepared (subst (ItemsFit p) objects (items.0 first)) (subst (EntriesFit p) agenda (entries.0 second))
 
-pub items_untested : (s : Parts) (p : Prepared) (os : List Object) (a : Bool) → IsPreparedFor s p → os ≡ s.objects → (IsTrue a ↔ ItemsFit p os) → a ≡ false → HasStates s → ⊥
+pub items_untested : (s : Parts) (p : Prepared) (os : List Object) (a : Bool) → HoldsScripts s p → os ≡ s.objects → (IsTrue a ↔ ItemsFit p os) → a ≡ false → HasStates s → ⊥
 items_untested s p os a prepared objects items never has = iff_false items never (subst (ItemsFit p) (sym objects) (items_if s p prepared has))
 
-pub entries_untested : (s : Parts) (p : Prepared) (es : List Entry) (b : Bool) → IsPreparedFor s p → es ≡ s.agenda → (IsTrue b ↔ EntriesFit p es) → b ≡ false → HasStates s → ⊥
+pub entries_untested : (s : Parts) (p : Prepared) (es : List Entry) (b : Bool) → HoldsScripts s p → es ≡ s.agenda → (IsTrue b ↔ EntriesFit p es) → b ≡ false → HasStates s → ⊥
 entries_untested s p es b prepared agenda entries never has = iff_false entries never (subst (EntriesFit p) (sym agenda) (entries_if s p prepared has))

@@ -1,6 +1,6 @@
 -- The world that is put together of a state's parts.
 use Rattle.std.proofs.Common.{◌≡◌, ◌<◌, ◌≤◌, ℕ, zero, suc, ◌+◌, List, [], ◌∷◌, length, take, get_or, map, sym, ap, refl, ◌∙◌, subst, add-one, inl, inr, arith}
-use Rattle.std.specs.Prelude.{pos, Option, Some, None, MatchOption, slice_get}
+use Rattle.std.specs.Prelude.{pos, Option, Some, None, slice_get}
 use Rattle.std.specs.Option.{option_map}
 use Rattle.std.specs.List.{AllByRecursion, IsDistinct}
 use Rattle.std.proofs.lemmas.List.{take_all}
@@ -20,6 +20,7 @@ use Rattle.state_format.specs.declared.parts.Parts.{Parts}
 use Rattle.state_parts.specs.World.{variable_of, variables_of, with_variables, things_of, entry_of, area_from, world_of}
 use Rattle.play_save.specs.Rules.{HasAgenda, HasTurns}
 use Rattle.play_save.specs.Breaking.{IsReadFrom}
+use Rattle.play_save.proofs.Lists.{all_at}
 use Rattle.play_save.proofs.Turning.{none_placed}
 
 -- ---- variables in the place of others
@@ -121,17 +122,11 @@ pub given_whole : (first area : PlainArea) (ps : List Object) (i : ℕ) → area
     → area ≡ record first { objects = with_variables first.objects ps }
 given_whole first area ps i is h = is ∙ ap (λ (l : List Object). record first { objects = with_variables first.objects l }) (take_all i ps h)
 
--- what is found of an object's variables
-pub made_of : (found : Option (List Variable)) (lent : List VariablePart) (p : Object) (vs : List Variable) → lent ≡ p.variables → found ≡ Some vs
-    → MatchOption found (IsDistinct same_variable (map variable_of lent) → ⊥) (λ vars. (vars ≡ map variable_of lent) × IsDistinct same_variable (map variable_of lent)) → vs ≡ variables_of p
-made_of None lent p vs same is made = absurd cc
-made_of (Some vars) lent p vs same is made = let here : vars ≡ vs = cc in sym here ∙ made.0 ∙ ap (λ (l : List VariablePart). map variable_of l) same
-
-pub made_not : (found : Option (List Variable)) (lent : List VariablePart) (p : Object) → lent ≡ p.variables → found ≡ None
-    → MatchOption found (IsDistinct same_variable (map variable_of lent) → ⊥) (λ vars. (vars ≡ map variable_of lent) × IsDistinct same_variable (map variable_of lent))
-    → IsDistinct same_variable (variables_of p) → ⊥
-made_not None lent p same is made distinct = made (subst (λ (l : List VariablePart). IsDistinct same_variable (map variable_of l)) (sym same) distinct)
-made_not (Some vars) lent p same is made distinct = absurd cc
+-- what is asked of an object's variables, and what is made of them
+pub lent_distinct : (ps : List Object) (i : ℕ) (p : Object) (lent : List VariablePart) → AllByRecursion (λ (o : Object). IsDistinct same_variable (variables_of o)) ps → i < length ps → p ≡ get_or ps i p
+    → lent ≡ p.variables → IsDistinct same_variable (map variable_of lent)
+lent_distinct ps i p lent all h at same =
+    subst (λ (l : List VariablePart). IsDistinct same_variable (map variable_of l)) (sym same) (all_at (λ (o : Object). IsDistinct same_variable (variables_of o)) ps i p all h at)
 
 -- ---- the world of all these
 

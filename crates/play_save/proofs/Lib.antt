@@ -11,6 +11,7 @@ pub mod Keeping
 pub mod Telling
 pub mod Outcomes
 pub mod Short
+pub mod Sharing
 pub mod Opening
 pub mod Accepting
 pub mod Saving

@@ -1,10 +1,9 @@
 -- The parts of a world that has room in a state. They tell it and have short texts; and each can be
 -- written where it is no larger than a file may be.
 use Rattle.std.proofs.Common.{◌≡◌, ◌<◌, ◌≤◌, ℕ, List, [], ◌∷◌, length, map, ap, ap₂, refl, arith}
-use Rattle.std.specs.Prelude.{pos, Bool, true, false, ◌&&◌, IsTrue}
+use Rattle.std.specs.Prelude.{Bool, true, false, ◌&&◌, IsTrue}
 use Rattle.std.specs.List.{AllByRecursion, list_all}
 use Rattle.std.proofs.lemmas.Bool.Decides.{nat_tests}
-use Rattle.nwq_value.specs.Effect.{Effect}
 use Rattle.nwq_value.specs.Limits.{text_limit}
 use Rattle.nwq_value.specs.declared.value.Value.TheVariants as value
 use Rattle.saved_state.specs.declared.cell.Cell.{Cell}
@@ -21,18 +20,7 @@ use Rattle.delay_agenda.specs.declared.entry.Kind.TheVariants.{Event, Stored, Tu
 use Rattle.world_rules.specs.declared.data.Stood.{Stood}
 use Rattle.world_rules.specs.declared.data.Things.{Things}
 use Rattle.world_rules.specs.Kept.{IsPlaced}
-use Rattle.state_format.specs.declared.parts.Effect.{Effect as EffectPart}
-use Rattle.state_format.specs.declared.parts.Cell.{Cell as CellPart}
-use Rattle.state_format.specs.declared.parts.Cell.TheVariants as cell
-use Rattle.state_format.specs.declared.parts.Captured.{Captured}
-use Rattle.state_format.specs.declared.parts.Variable.{Variable as VariablePart}
-use Rattle.state_format.specs.declared.parts.Variable.TheVariants as variable
-use Rattle.state_format.specs.declared.parts.Standing.{Standing}
-use Rattle.state_format.specs.declared.parts.Item.{Item as ItemPart}
-use Rattle.state_format.specs.declared.parts.Item.TheVariants as item
 use Rattle.state_format.specs.declared.parts.Object.{Object}
-use Rattle.state_format.specs.declared.parts.KindPart.{KindPart}
-use Rattle.state_format.specs.declared.parts.KindPart.TheVariants as kind
 use Rattle.state_format.specs.declared.parts.Entry.{Entry as EntryPart}
 use Rattle.state_format.specs.Parts.{IsBlob, IsCaptured, IsCell, IsEntry, IsItem, IsKind, IsObject, IsStanding, IsVariable}
 use Rattle.state_format.specs.Fields.{number, tag, effect_fields, cell_fields, captured_fields, variable_fields, standing_fields, item_fields, object_fields, kind_fields, entry_fields}

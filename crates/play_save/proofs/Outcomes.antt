@@ -1,12 +1,11 @@
 -- A play that was put keeps all rules, and tells its world.
-use Rattle.std.proofs.Common.{◌≡◌, ◌<◌, ◌≤◌, ℕ, List, length, map, sym, ap, refl, ◌∙◌, subst, arith}
+use Rattle.std.proofs.Common.{◌≡◌, ◌<◌, ℕ, List, length, map, sym, ap, refl, ◌∙◌, subst, arith}
 use Rattle.std.specs.Prelude.{Option}
 use Rattle.std.specs.Option.{option_map}
 use Rattle.std.specs.List.{AllByRecursion}
 use Rattle.nwq_value.specs.Limits.{file_limit}
 use Rattle.ncs_code.specs.File.{IsCode}
 use Rattle.area_rules.specs.Area.{PlainArea, IsArea}
-use Rattle.delay_agenda.specs.declared.entry.Entry.{Entry}
 use Rattle.saved_state.specs.declared.saved.Saved.{Saved}
 use Rattle.world_rules.specs.World.{World}
 use Rattle.world_rules.specs.Kept.{IsWorld}

@@ -1,5 +1,5 @@
 -- Texts that are short, and variables of which no two have one type and name.
-use Rattle.std.proofs.Common.{◌≡◌, ◌<◌, ◌≤◌, ℕ, zero, suc, List, [], ◌∷◌, length, take, get_or, map, sym, ap, refl, ◌∙◌, arith}
+use Rattle.std.proofs.Common.{◌≡◌, ◌<◌, ◌≤◌, ℕ, zero, suc, List, [], ◌∷◌, length, take, get_or, map, ap, refl, ◌∙◌, arith}
 use Rattle.std.specs.Prelude.{Bool, true, false, ◌||◌, IsTrue, Result, Ok, Err, IfOk}
 use Rattle.std.specs.List.{AllByRecursion, list_any, IsDistinct}
 use Rattle.std.proofs.lemmas.Bool.Decides.{nat_tests}
@@ -28,11 +28,11 @@ apart_at x [] i part all h at = absurd (omega arith)
 apart_at x (p ∷ parts) zero part all h at = ap (λ (q : Part). same_variable x (variable_of q)) at ∙ all.0
 apart_at x (p ∷ parts) (suc i) part all h at = apart_at x parts i part all.1 (omega arith) at
 
-neither : (a b : Bool) → a ≡ false → b ≡ false → (a || b) ≡ false
+pub neither : (a b : Bool) → a ≡ false → b ≡ false → (a || b) ≡ false
 neither true b x y = absurd cc
 neither false b x y = y
 
-none_same : SameIsEquivalence → (parts : List Part) (i : ℕ) (part : Part) → IsDistinct same_variable (map variable_of parts) → i < length parts → part ≡ get_or parts i part
+pub none_same : SameIsEquivalence → (parts : List Part) (i : ℕ) (part : Part) → IsDistinct same_variable (map variable_of parts) → i < length parts → part ≡ get_or parts i part
     → list_any (same_variable (variable_of part)) (map variable_of (take i parts)) ≡ false
 unfolding IsDistinct
 none_same law [] i part distinct h at = absurd (omega arith)
@@ -41,12 +41,3 @@ none_same law (p ∷ parts) (suc i) part distinct h at =
     neither (same_variable (variable_of part) (variable_of p)) (list_any (same_variable (variable_of part)) (map variable_of (take i parts)))
     (law.symm (variable_of part) (variable_of p) ∙ apart_at (variable_of p) parts i part distinct.0 (omega arith) at)
     (none_same law parts i part distinct.1 (omega arith) at)
-
--- a variable that is there already
-pub twice : SameIsEquivalence → (parts : List Part) (i : ℕ) (part : Part) (vars : List Variable) (v : Variable) → vars ≡ map variable_of (take i parts) → v ≡ variable_of part
-    → list_any (same_variable v) vars ≡ true → i < length parts → part ≡ get_or parts i part → IsDistinct same_variable (map variable_of parts) → ⊥
-twice law parts i part vars v before is found h at distinct =
-    let none = none_same law parts i part distinct h at in
-    let any : list_any (same_variable (variable_of part)) (map variable_of (take i parts)) ≡ true =
-    ap (λ (l : List Variable). list_any (same_variable (variable_of part)) l) (sym before) ∙ ap (λ (w : Variable). list_any (same_variable w) vars) (sym is) ∙ found in
-    absurd cc

@@ -12,7 +12,7 @@ use Rattle.local_variables.specs.Variables.{Variable}
 use Rattle.world_rules.specs.declared.data.Things.{Things}
 use Rattle.saved_state.specs.declared.saved.Saved.{Saved}
 use Rattle.ncs_machine.specs.declared.scripts.Loaded.{Loaded}
-use Rattle.state_format.specs.Fields.{Fields, joined, number, magic, tag, blob, maybe_fields, blob_fields, script_fields, number_fields, object_fields, entry_fields, list_of, parts_fields}
+use Rattle.state_format.specs.Fields.{joined, magic, tag, blob, maybe_fields, blob_fields, script_fields, number_fields, object_fields, entry_fields, list_of, parts_fields}
 use Rattle.state_format.specs.Parts.{IsBlob, IsMaybe, IsScript, IsObject}
 use Rattle.state_format.specs.WritingLemmas.{fields_behind, put_one, put_then, parts_put}
 use Rattle.state_format.specs.declared.parts.Script.{Script}

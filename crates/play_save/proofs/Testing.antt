@@ -1,16 +1,14 @@
 -- Which rule is the first that is broken.
-use Rattle.std.proofs.Common.{◌≡◌, ℕ, zero, suc, List, [], ◌∷◌, length, refl, sym, ap, ◌∙◌, subst, inl, inr}
-use Rattle.std.specs.List.{AllByRecursion}
+use Rattle.std.proofs.Common.{◌≡◌, ◌≤◌, ℕ, List, length, refl, sym, ap, ◌∙◌, subst, inl, inr}
 use Rattle.nwq_value.specs.Engine.{EngineTable}
+use Rattle.nwq_value.specs.Limits.{script_limit}
 use Rattle.area_rules.specs.Area.{PlainArea, area_of}
-use Rattle.stack_check.specs.Checked.{kept_table}
-use Rattle.ncs_machine.specs.declared.scripts.Loaded.{Loaded}
 use Rattle.state_format.specs.declared.parts.Script.{Script}
 use Rattle.state_format.specs.declared.parts.Parts.{Parts}
 use Rattle.play_save.specs.declared.fault.StateFault.{StateFault}
 use Rattle.play_save.specs.declared.fault.StateFault.TheVariants as fault
-use Rattle.play_save.specs.Rules.{Rule, KeepsAll, IsFirstBroken, IsUnfit, IsAccepted, IsHeaderOf, IsSound, HasHeader, HasScripts, HasArea, KeepsLimits, HasAgenda, HasStates, HasTurns}
-use Rattle.play_save.specs.Breaking.{Breaks, BreaksFirst, BreaksLast, AreScriptsOf, IsReadFrom, IsPreparedFor}
+use Rattle.play_save.specs.Rules.{IsUnfit, IsAccepted, IsHeaderOf, HasHeader, HasScripts, HasArea, KeepsLimits, HasAgenda, HasStates, HasTurns}
+use Rattle.play_save.specs.Breaking.{Breaks, BreaksFirst, BreaksLast, AreSound, IsReadFrom, IsPreparedFor}
 use Rattle.engine_table.specs.Headers.{OneHeader}
 use Rattle.play_save.proofs.CapturedLemmas.{one_table}
 use Rattle.play_save.specs.declared.prepare.Prepared.{Prepared}
@@ -22,21 +20,17 @@ breaks_at n s fault.NoMemory Kept b f = tt
 
 -- ---- what is prepared keeps the first three rules
 
-scripts_sound : (table : EngineTable) (parts : List Script) (ls : List Loaded) → AreScriptsOf table parts ls → AllByRecursion (λ (x : Script). IsSound table x.code) parts
-scripts_sound table [] [] are = tt
-scripts_sound table [] (l ∷ ls) are = absurd are
-scripts_sound table (p ∷ parts) [] are = absurd are
-scripts_sound table (p ∷ parts) (l ∷ ls) are =
-    (record { ops = l.code.code; file = are.0.checked.file; stacked = (kept_table l.code, are.0.checked.meets) }, scripts_sound table parts ls are.1)
-
 pub prepared_header : (s : Parts) (p : Prepared) → IsPreparedFor s p → HasHeader s
 prepared_header s p is = (p.table, is.header)
 
 pub prepared_scripts : (s : Parts) (p : Prepared) → IsPreparedFor s p → HasScripts s
-prepared_scripts s p is = record { table = p.table; header = is.header; scripts = scripts_sound p.table s.scripts p.scripts is.scripts }
+prepared_scripts s p is = record { table = p.table; header = is.header; scripts = is.scripts.sound }
 
 pub prepared_area : (s : Parts) (p : Prepared) → IsPreparedFor s p → HasArea s
 prepared_area s p is = record { tree = is.area.tree; area = is.area.of; counted = is.area.counted ∙ ap (λ (a : PlainArea). length a.objects) is.area.area }
+
+pub few_of : (s : Parts) → KeepsLimits s → length s.scripts ≤ script_limit
+few_of s limits = limits.bounds.scripts
 
 -- ---- the rule that a test broke
 
@@ -72,23 +66,23 @@ pub breaks_header : (s : Parts) (e : StateFault) → Breaks 1 ((table : EngineTa
 breaks_header s e b = breaks_at 1 s e ((table : EngineTable) × IsHeaderOf s.header table) b (λ never. never)
 
 pub breaks_scripts : (s : Parts) (table : EngineTable) (e : StateFault) → OneHeader → IsHeaderOf s.header table
-    → Breaks 2 (AllByRecursion (λ (x : Script). IsSound table x.code) s.scripts) e → BreaksFirst s e
+    → Breaks 2 (AreSound table s.scripts) e → BreaksFirst s e
 breaks_scripts s table e one header b =
-    breaks_at 2 s e (AllByRecursion (λ (x : Script). IsSound table x.code) s.scripts) b
-    (λ never. ((table, header), λ has. never (subst (λ t. AllByRecursion (λ (x : Script). IsSound t x.code) s.scripts) (one_table s.header has.table table one has.header header) has.scripts)))
+    breaks_at 2 s e (AreSound table s.scripts) b
+    (λ never. ((table, header), λ has. never (subst (λ t. AreSound t s.scripts) (one_table s.header has.table table one has.header header) has.scripts)))
 
-pub breaks_area : (s : Parts) (table : EngineTable) (parts : List Script) (ls : List Loaded) (e : StateFault) (bytes : List ℕ) (objects : ℕ) → IsHeaderOf s.header table
-    → parts ≡ s.scripts → AreScriptsOf table parts ls → bytes ≡ s.area → objects ≡ length s.objects
+pub breaks_area : (s : Parts) (table : EngineTable) (parts : List Script) (e : StateFault) (bytes : List ℕ) (objects : ℕ) → IsHeaderOf s.header table
+    → parts ≡ s.scripts → AreSound table parts → bytes ≡ s.area → objects ≡ length s.objects
     → Breaks 3 ((area : PlainArea) × IsReadFrom bytes objects area) e → BreaksFirst s e
-breaks_area s table parts ls e bytes objects header listed are own count b =
-    let scripts : AreScriptsOf table s.scripts ls = subst (λ (l : List Script). AreScriptsOf table l ls) listed are in
+breaks_area s table parts e bytes objects header listed are own count b =
+    let scripts : AreSound table s.scripts = subst (λ (l : List Script). AreSound table l) listed are in
     let broken : Breaks 3 ((area : PlainArea) × IsReadFrom s.area (length s.objects) area) e =
     subst (λ n. Breaks 3 ((area : PlainArea) × IsReadFrom s.area n area) e) count (subst (λ l. Breaks 3 ((area : PlainArea) × IsReadFrom l objects area) e) own b) in
     breaks_at 3 s e ((area : PlainArea) × IsReadFrom s.area (length s.objects) area) broken
     (λ never. (
       (table, header),
       (
-        record { table = table; header = header; scripts = scripts_sound table s.scripts ls scripts },
+        record { table = table; header = header; scripts = scripts },
         λ has. never (area_of has.tree, record { tree = has.tree; of = has.area; area = refl; counted = has.counted }),
       ),
     ))

@@ -1,11 +1,11 @@
 -- What the tests of the rules find. No public clause speaks of it.
 use Rattle.std.specs.Prelude.{◌≡◌, ◌⊎◌, ◌<◌, ◌≤◌, ℕ, suc, Bool, nat_eq, ◌||◌, List, [], ◌∷◌, length, map, take, Some, slice_get, if◌then◌else◌}
-use Rattle.std.specs.List.{list_any}
+use Rattle.std.specs.List.{list_any, AllByRecursion}
 use Rattle.std.specs.Option.{option_map}
 use Rattle.std.specs.Ordering.{nat_cmp}
 use Rattle.std.specs.BTreeSet.{BTreeSet, contains}
 use Rattle.nwq_value.specs.Engine.{EngineTable}
-use Rattle.nwq_value.specs.Limits.{text_limit}
+use Rattle.nwq_value.specs.Limits.{script_limit, text_limit}
 use Rattle.gff_tree.specs.Whole.{PlainGff}
 use Rattle.area_rules.specs.Area.{PlainArea, area_of}
 use Rattle.stack_rules.specs.Tables.{ShapeTable}
@@ -23,7 +23,7 @@ use Rattle.state_format.specs.declared.parts.Parts.{Parts}
 use Rattle.play_save.specs.declared.fault.StateFault.{StateFault}
 use Rattle.play_save.specs.declared.fault.StateFault.TheVariants as fault
 use Rattle.state_parts.specs.World.{saved_of, kind_of, entry_of}
-use Rattle.play_save.specs.Rules.{IsHeaderOf, IsFileOf, IsAreaOf, HasStates, HasTurns, IsUnfit}
+use Rattle.play_save.specs.Rules.{IsHeaderOf, IsFileOf, IsAreaOf, IsSound, HasStates, HasTurns, IsUnfit}
 use Rattle.play_save.specs.declared.prepare.Prepared.{Prepared}
 
 -- a refusal by the rule of this number, which isn't kept; or memory ran out
@@ -64,6 +64,15 @@ AreScriptsOf table [] [] = Unit {0}
 AreScriptsOf table [] (l ∷ ls) = ⊥
 AreScriptsOf table (part ∷ parts) [] = ⊥
 AreScriptsOf table (part ∷ parts) (l ∷ ls) = IsScriptOf table part l × AreScriptsOf table parts ls
+
+-- each is well stacked under the header
+abbrev pub AreSound : EngineTable → List Script → Type 0
+AreSound table parts = AllByRecursion (λ (part : Script). IsSound table part.code) parts
+
+-- all are well stacked, and the first ones, as many as a play may have, are these
+pub record KeepsScripts (table : EngineTable) (parts : List Script) (ls : List Loaded) : Type 0 where
+  pub sound : AreSound table parts
+  pub kept : AreScriptsOf table (take script_limit parts) ls
 
 -- ---- the area
 
@@ -131,5 +140,5 @@ CountsOne before e after = (i : ℕ)
 
 pub record IsPreparedFor (s : Parts) (p : Prepared) : Type 0 where
   pub header : IsHeaderOf s.header p.table
-  pub scripts : AreScriptsOf p.table s.scripts p.scripts
+  pub scripts : KeepsScripts p.table s.scripts p.scripts
   pub area : IsReadFrom s.area (length s.objects) p.area

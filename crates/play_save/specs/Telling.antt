@@ -11,7 +11,7 @@ use Rattle.ncs_machine.specs.declared.scripts.Loaded.{Loaded}
 use Rattle.state_format.specs.declared.parts.Script.{Script}
 use Rattle.state_format.specs.declared.parts.Parts.{Parts}
 use Rattle.state_format.specs.Fields.{Fields, magic, number, maybe_fields, blob_fields, script_fields, number_fields, object_fields, entry_fields, list_of}
-use Rattle.state_format.specs.Parts.{HasForm, IsNumber, IsMaybe, IsBlob, IsList, IsScript, IsEntry}
+use Rattle.state_format.specs.Parts.{IsNumber, IsMaybe, IsBlob, IsList, IsScript, IsEntry}
 use Rattle.state_parts.specs.World.{entry_of}
 use Rattle.state_parts.specs.Told.{object_parts, entry_part}
 use Rattle.state_parts.specs.ShortTexts.{is_short_entry}

@@ -18,6 +18,7 @@ mod fault;
 mod fitting;
 mod laws;
 mod limits;
+mod places;
 mod play;
 mod prepare;
 mod put;

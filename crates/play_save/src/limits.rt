@@ -11,7 +11,7 @@ ghost use Rattle.play_save.specs.Rules.{count_limit, AreNamed, HasBounds, HasCou
 ghost use Rattle.play_save.specs.Breaking.{Breaks};
 
 use crate::fault::StateFault;
-use crate::things::variables;
+use crate::places::are_distinct;
 use nwq_text::is_script_name;
 use nwq_value::text::TEXT_BYTES;
 use nwq_value::{Items, NoMemory};
@@ -99,12 +99,12 @@ fn has_short_texts(parts: &Parts) -> bool
 }
 
 /// Whether no two variables of an object have one type and name.
-fn are_distinct(alloc: Global, objects: &[Object]) -> Result<bool, NoMemory>
+fn have_distinct(alloc: Global, objects: &[Object]) -> Result<bool, NoMemory>
     ensures test { IfOk result (λ all. IsTrue all
         ↔ AllByRecursion (λ o. IsDistinct same_variable (variables_of o)) objects.now) }
 {
     for object in objects {
-        if variables(alloc, object.variables.as_slice())?.is_none() {
+        if !are_distinct(alloc, object.variables.as_slice())? {
             return Ok(false);
         }
     }
@@ -182,7 +182,7 @@ pub(crate) fn test_limits(alloc: Global, parts: &Parts) -> Result<(), StateFault
     if !has_names(parts.scripts.as_slice()) || !has_short_texts(parts) {
         return Err(StateFault::Unfit(4));
     }
-    if !are_distinct(alloc, parts.objects.as_slice())? {
+    if !have_distinct(alloc, parts.objects.as_slice())? {
         return Err(StateFault::Unfit(4));
     }
     Ok(())

@@ -1,6 +1,5 @@
 //! What a state's bytes are of: its header's table, its checked scripts, and its area.
 ghost use Rattle.std.specs.Prelude.{◌≡◌, ◌≢◌, ◌≤◌, ◌<◌, List, length, IfOk, IfErr, Some};
-ghost use Rattle.std.specs.List.{AllByRecursion};
 ghost use Rattle.nwq_value.specs.Limits.{file_limit};
 ghost use Rattle.nwq_value.specs.Engine.{EngineTable};
 ghost use Rattle.engine_table.specs.declared.fault.HeaderFault.TheVariants as header;
@@ -11,7 +10,8 @@ ghost use Rattle.gff_read.specs.Stands.{Stands};
 ghost use Rattle.area_rules.specs.Area.{PlainArea};
 ghost use Rattle.play_save.specs.Rules.{IsAreaOf, IsFileOf, IsHeaderOf, IsSound};
 ghost use Rattle.play_save.specs.Breaking.{AreScriptsOf, Breaks, IsCheckedOf, IsReadFrom};
-ghost use Rattle.play_save.specs.Breaking.{BreaksFirst, IsPreparedFor, IsScriptOf};
+ghost use Rattle.play_save.specs.Breaking.{AreSound, BreaksFirst, IsPreparedFor, IsScriptOf};
+ghost use Rattle.play_save.specs.Breaking.{KeepsScripts};
 ghost use Rattle.play_save.specs.declared.fault.StateFault.TheVariants as refused;
 
 use crate::fault::StateFault;
@@ -29,6 +29,9 @@ use nwq_value::{FILE_BYTES, Items, Table, Text};
 use stack_check::{CheckFault, Checked, check};
 use state_format::{Parts, Script};
 use std::alloc::Global;
+
+/// How many scripts a play may have.
+const SCRIPTS: usize = 256;
 
 /// Why a header is refused as a state's.
 fn header_fault(fault: HeaderFault) -> StateFault
@@ -119,11 +122,38 @@ fn script(alloc: Global, table: &Table, part: &Script) -> Result<Loaded, StateFa
     }
 }
 
+/// Whether a script of a state is well stacked under a header.
+fn test_script(alloc: Global, table: &Table, part: &Script) -> Result<(), StateFault>
+    ensures sound { IfOk result (λ _. IsSound table.now part.now.code) }
+    ensures broken { IfErr result (Breaks 2 (IsSound table.now part.now.code)) }
+{
+    match check_code(alloc, table, &part.code) {
+        Ok(code) => {
+            drop(code);
+            Ok(())
+        }
+        Err(fault) => Err(fault),
+    }
+}
+
+/// Whether scripts of a state are well stacked under a header. None of them is kept.
+fn test_scripts(alloc: Global, table: &Table, parts: &[Script]) -> Result<(), StateFault>
+    ensures sound { IfOk result (λ _. AreSound table.now parts.now) }
+    ensures broken { IfErr result (Breaks 2 (AreSound table.now parts.now)) }
+{
+    for part in parts {
+        match test_script(alloc, table, part) {
+            Err(fault) => return Err(fault),
+            Ok(()) => {}
+        }
+    }
+    Ok(())
+}
+
 /// The scripts of a state, checked under a header.
-fn scripts(alloc: Global, table: &Table, parts: &[Script]) -> Result<Scripts, StateFault>
+fn kept_scripts(alloc: Global, table: &Table, parts: &[Script]) -> Result<Scripts, StateFault>
     ensures scripts { IfOk result (AreScriptsOf table.now parts.now) }
-    ensures broken { IfErr result
-        (Breaks 2 (AllByRecursion (λ part. IsSound table.now part.code) parts.now)) }
+    ensures broken { IfErr result (Breaks 2 (AreSound table.now parts.now)) }
 {
     let mut all = Items::new(alloc);
     for part in parts {
@@ -133,6 +163,25 @@ fn scripts(alloc: Global, table: &Table, parts: &[Script]) -> Result<Scripts, St
         }
     }
     Ok(all)
+}
+
+/// The scripts of a state, checked under a header. No more are kept than a play may have: a state
+/// of more breaks a later rule.
+fn scripts(alloc: Global, table: &Table, parts: &[Script]) -> Result<Scripts, StateFault>
+    ensures scripts { IfOk result (KeepsScripts table.now parts.now) }
+    ensures broken { IfErr result (Breaks 2 (AreSound table.now parts.now)) }
+{
+    let (first, others) = parts.split_at(parts.len().min(SCRIPTS));
+    match kept_scripts(alloc, table, first) {
+        Err(fault) => Err(fault),
+        Ok(kept) => match test_scripts(alloc, table, others) {
+            Err(fault) => {
+                drop(kept);
+                Err(fault)
+            }
+            Ok(()) => Ok(kept),
+        },
+    }
 }
 
 /// The tree of an area's file.

@@ -1,5 +1,6 @@
 //! The rules that a state keeps, in their order.
-ghost use Rattle.std.specs.Prelude.{◌≡◌, IfOk, IfErr, MatchResult};
+ghost use Rattle.std.specs.Prelude.{◌≡◌, ◌≤◌, length, IfOk, IfErr, MatchResult};
+ghost use Rattle.nwq_value.specs.Limits.{script_limit};
 ghost use Rattle.play_save.specs.Rules.{HasAgenda, HasStates, HasTexts, HasTurns, IsAccepted};
 ghost use Rattle.play_save.specs.Rules.{KeepsLimits};
 ghost use Rattle.play_save.specs.Breaking.{Breaks, BreaksFirst, BreaksLast, IsPreparedFor};
@@ -17,9 +18,9 @@ use state_format::Parts;
 use std::alloc::Global;
 
 /// Whether each captured state fits the code of its script.
-#[tactic(auto, using(crate::proofs::CapturedLemmas::states_by, crate::proofs::CapturedLemmas::items_if, crate::proofs::CapturedLemmas::entries_if))]
 fn test_states(alloc: Global, parts: &Parts, prepared: &Prepared) -> Result<(), StateFault>
     requires prepared { IsPreparedFor parts.now prepared.now }
+    requires few { length parts.now.scripts ≤ script_limit }
     requires texts { HasTexts parts.now }
     ensures kept { MatchResult result (λ _. HasStates parts.now)
         (Breaks 6 (HasStates parts.now)) }
@@ -54,6 +55,7 @@ fn test_turns(alloc: Global, parts: &Parts) -> Result<(), StateFault>
 #[tactic(auto, using(crate::proofs::Testing::last_states, crate::proofs::Testing::last_turns))]
 fn test_last(alloc: Global, parts: &Parts, prepared: &Prepared) -> Result<(), StateFault>
     requires prepared { IsPreparedFor parts.now prepared.now }
+    requires few { length parts.now.scripts ≤ script_limit }
     requires texts { HasTexts parts.now }
     requires agenda { HasAgenda parts.now }
     ensures states { IfOk result (λ _. HasStates parts.now) }
@@ -67,7 +69,7 @@ fn test_last(alloc: Global, parts: &Parts, prepared: &Prepared) -> Result<(), St
 }
 
 /// The rules behind the limits of a state that keeps those before.
-#[tactic(auto, using(crate::proofs::Testing::breaks_agenda, crate::proofs::Testing::breaks_last, crate::proofs::Testing::all_kept))]
+#[tactic(auto, using(crate::proofs::Testing::few_of, crate::proofs::Testing::breaks_agenda, crate::proofs::Testing::breaks_last, crate::proofs::Testing::all_kept))]
 fn test_within(alloc: Global, parts: &Parts, prepared: &Prepared) -> Result<(), StateFault>
     requires prepared { IsPreparedFor parts.now prepared.now }
     requires limits { KeepsLimits parts.now }

@@ -1,5 +1,5 @@
 //! The objects of a state's parts: what they are to do, what stands on them, and their variables.
-ghost use Rattle.std.specs.Prelude.{◌≡◌, map, IfOk, IsTrue, MatchOption};
+ghost use Rattle.std.specs.Prelude.{◌≡◌, map, IfOk, IsTrue};
 ghost use Rattle.std.specs.List.{list_all, IsDistinct};
 ghost use Rattle.local_variables.specs.Variables.{same_variable};
 ghost use Rattle.local_variables.specs.Variables.{variable_of as variable_seen};
@@ -80,7 +80,7 @@ pub(crate) fn objects(alloc: Global, parts: &[Object]) -> Result<Objects<Saved>,
 }
 
 /// A variable, borrowed.
-fn variable(part: &Variable) -> Var<'_>
+pub(crate) fn variable(part: &Variable) -> Var<'_>
     ensures tells { variable_seen result ≡ variable_of part.now }
 {
     match part {
@@ -89,22 +89,15 @@ fn variable(part: &Variable) -> Var<'_>
     }
 }
 
-/// The variables of an object; `None` exactly where two are of one type and name.
-pub(crate) fn variables(alloc: Global, parts: &[Variable]) -> Result<Option<Vars>, NoMemory>
-    ensures tells { IfOk result (λ found. MatchOption found
-        (IsDistinct same_variable (map variable_of parts.now) → ⊥)
-        (λ vars. (vars ≡ map variable_of parts.now)
-        × IsDistinct same_variable (map variable_of parts.now))) }
+/// The variables of an object.
+pub(crate) fn variables(alloc: Global, parts: &[Variable]) -> Result<Vars, NoMemory>
+    requires distinct { IsDistinct same_variable (map variable_of parts.now) }
+    ensures tells { IfOk result (λ vars. vars ≡ map variable_of parts.now) }
 {
     variables_tell();
     let mut vars = Vars::new(alloc);
     for part in parts {
-        let v = variable(part);
-        if vars.contains(v) {
-            return Ok(None);
-        }
-        vars.push(v)?;
+        vars.push(variable(part))?;
     }
-    vars.keeps();
-    Ok(Some(vars))
+    Ok(vars)
 }

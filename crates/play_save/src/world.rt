@@ -27,10 +27,8 @@ fn give(alloc: Global, area: Area, objects: &[Object]) -> Result<Area, NoMemory>
 {
     let mut area = area;
     for i in 0..objects.len() {
-        match variables(alloc, objects[i].variables.as_slice())? {
-            None => unreachable!(),
-            Some(vars) => area.put_vars(i as u32 + 1, vars),
-        }
+        let vars = variables(alloc, objects[i].variables.as_slice())?;
+        area.put_vars(i as u32 + 1, vars);
     }
     Ok(area)
 }

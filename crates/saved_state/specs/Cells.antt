@@ -1,5 +1,5 @@
 -- Stacks as plain data, and what a captured state holds.
-use Rattle.std.specs.Prelude.{ℕ, ◌-◌, List, [], ◌∷◌, ◌++◌, length, take, drop, reverse, Option, Some, None, ◌==◌, if◌then◌else◌}
+use Rattle.std.specs.Prelude.{ℕ, ◌+◌, ◌-◌, List, [], ◌∷◌, ◌++◌, length, take, drop, reverse, Option, Some, None, ◌==◌, if◌then◌else◌}
 use Rattle.saved_state.specs.declared.cell.Cell.{Cell}
 use Rattle.saved_state.specs.declared.cell.Cell.TheVariants.{Base}
 use Rattle.saved_state.specs.declared.saved.Saved.{Saved}
@@ -18,6 +18,10 @@ cell_at (cell ∷ others) place = if place == length others then Some cell else 
 abbrev pub with_cell : List Cell → ℕ → Cell → List Cell
 with_cell [] place new = []
 with_cell (cell ∷ others) place new = if place == length others then new ∷ others else cell ∷ with_cell others place new
+
+-- the cells with so many of those from one number on in place of as many from another number on
+abbrev pub run_written : ℕ → ℕ → ℕ → List Cell → List Cell
+run_written onto from count cells = take onto cells ++ (take count (drop from cells) ++ drop (onto + count) cells)
 
 -- the cells beneath a place
 abbrev pub cells_beneath : ℕ → List Cell → List Cell

@@ -1,6 +1,8 @@
 -- A list of cells, wherever it has them. No public clause speaks of it.
-use Rattle.std.specs.Prelude.{ℕ, List, ◌≤◌, length}
+use Rattle.std.specs.Prelude.{ℕ, ℤ, List, ◌≡◌, ◌≤◌, ◌-◌, Some, length, slice_get}
+use Rattle.nwq_value.specs.declared.value.Value.TheVariants.{Int}
 use Rattle.saved_state.specs.declared.cell.Cell.{Cell}
+use Rattle.saved_state.specs.declared.cell.Cell.TheVariants.{Value as Holds}
 use Rattle.saved_state.specs.declared.cells.Kept.{Kept}
 use Rattle.saved_state.specs.declared.cells.Kept.TheVariants.{Own, Shared}
 
@@ -15,3 +17,8 @@ few_limit = 16
 abbrev pub OwnsFew : Kept → Type 0
 OwnsFew (Own cells) = length cells.items ≤ few_limit
 OwnsFew (Shared cells) = Unit {0}
+
+-- the last cell holds an int
+pub record EndsWithInt (cells : List Cell) : Type 0 where
+  pub int : ℤ
+  pub is : slice_get cells (length cells - 1) ≡ Some (Holds (Int int))

@@ -2,8 +2,11 @@ ghost use Rattle.std.specs.Prelude.{◌≡◌, ◌<◌, ◌≤◌, ◌-◌, [], 
 ghost use Rattle.std.specs.Prelude.{slice_get};
 ghost use Rattle.std.specs.Prelude.{slice_set, Some, OnOk, OnErr, IfOk, IfSome, ◌+◌, ◌^◌};
 ghost use Rattle.std.specs.Vec.{vec_len, vec_capacity};
-ghost use Rattle.saved_state.specs.Kept.{OwnsFew, listed};
+ghost use Rattle.std.specs.Prelude.{if◌then◌else◌};
+ghost use Rattle.saved_state.specs.Cells.{run_written};
+ghost use Rattle.saved_state.specs.Kept.{EndsWithInt, OwnsFew, listed};
 ghost use Rattle.nwq_value.specs.declared.value.Value.TheVariants.{Int as IntValue};
+ghost use Rattle.nwq_value.specs.declared.value.Value.TheVariants.{Object as ObjectValue};
 ghost use Rattle.saved_state.specs.declared.cell.Cell.TheVariants.{Value as ValueCell};
 
 use crate::cell::Cell;
@@ -262,6 +265,31 @@ impl Pile {
         self.set(place, cell)
     }
 
+    /// Writes copies of so many cells, over which `from` lie, onto those over which `onto` lie, the
+    /// lowest first. `false` says that nothing was done, since not all of them are on top. After
+    /// `NoMemory` some of them may be written.
+    #[inline(always)]
+    #[tactic(auto, using(crate::proofs::Runs::written_on_top))]
+    pub fn copy_down(&mut self, from: usize, onto: usize, count: usize) -> Result<bool, NoMemory>
+        requires order { from ≤ onto }
+        requires inside { onto + count ≤ length self.old }
+        ensures ok { IfOk result (λ done. self.new ≡ (if done then run_written
+            (length self.old - (onto + count)) (length self.old - (from + count)) count self.old
+            else self.old)) }
+    {
+        let all = self.top.len();
+        if onto + count > all {
+            return Ok(false);
+        }
+        write_run(
+            &mut self.top,
+            all - (from + count),
+            all - (onto + count),
+            count,
+        )?;
+        Ok(true)
+    }
+
     /// Drops the topmost cell.
     #[inline(always)]
     #[tactic(auto, using(crate::proofs::Piles::less_lemmas))]
@@ -375,7 +403,7 @@ fn copy_up(top: &mut Vec<Cell>, first: usize, count: usize) -> Result<(), NoMemo
     Ok(())
 }
 
-/// Puts a copy of the cell at an index last. Most are ints, which are copied here.
+/// Puts a copy of the cell at an index last. Ints and objects are copied here.
 #[inline(always)]
 #[tactic(auto, using(crate::proofs::Piles::last_copy))]
 fn copy_last(alloc: Global, top: &mut Vec<Cell>, index: usize) -> Result<(), NoMemory>
@@ -390,6 +418,11 @@ fn copy_last(alloc: Global, top: &mut Vec<Cell>, index: usize) -> Result<(), NoM
         Cell::Value(Value::Int(n)) => {
             let copy = *n;
             top.push_reserved(Cell::Value(Value::Int(copy)));
+            Ok(())
+        }
+        Cell::Value(Value::Object(n)) => {
+            let copy = *n;
+            top.push_reserved(Cell::Value(Value::Object(copy)));
             Ok(())
         }
         _ => copy_last_apart(alloc, top, index),
@@ -409,6 +442,67 @@ fn copy_last_apart(alloc: Global, top: &mut Vec<Cell>, index: usize) -> Result<(
 {
     let copy = top[index].copy(alloc)?;
     top.push_reserved(copy);
+    Ok(())
+}
+
+/// Writes copies of so many cells, from an index on, onto those from another index on that is no
+/// greater, so that each is read before it is written.
+#[inline(always)]
+#[tactic(auto, using(crate::proofs::Runs::write_lemmas))]
+fn write_run(top: &mut Vec<Cell>, first: usize, to: usize, count: usize) -> Result<(), NoMemory>
+    requires order { to ≤ first }
+    requires inside { first + count ≤ length top.old.items }
+    ensures ok { OnOk result (top.new.items ≡ run_written to first count top.old.items) }
+{
+    let alloc = *top.allocator();
+    let len = top.len();
+    for index in 0..count {
+        copy_over(alloc, top, first + index, to + index)?;
+    }
+    Ok(())
+}
+
+/// Puts a copy of a cell in the place of another one, which is dropped. Ints and objects are
+/// copied here.
+#[inline(always)]
+#[tactic(auto, using(crate::proofs::Runs::one_put))]
+fn copy_over(alloc: Global, top: &mut Vec<Cell>, from: usize, onto: usize) -> Result<(), NoMemory>
+    requires from { from < length top.old.items }
+    requires onto { onto < length top.old.items }
+    ensures put { OnOk result (IfSome (slice_get top.old.items from)
+        (λ cell. top.new.items ≡ slice_set top.old.items onto cell)) }
+{
+    match &top[from] {
+        Cell::Value(Value::Int(n)) => {
+            let copy = *n;
+            put_int(top, onto, copy);
+            Ok(())
+        }
+        Cell::Value(Value::Object(n)) => {
+            let copy = *n;
+            put_object(top, onto, copy);
+            Ok(())
+        }
+        _ => copy_over_apart(alloc, top, from, onto),
+    }
+}
+
+/// The same by a call of its own.
+#[inline(never)]
+#[tactic(auto, using(crate::proofs::Runs::one_put))]
+fn copy_over_apart(
+    alloc: Global,
+    top: &mut Vec<Cell>,
+    from: usize,
+    onto: usize,
+) -> Result<(), NoMemory>
+    requires from { from < length top.old.items }
+    requires onto { onto < length top.old.items }
+    ensures put { OnOk result (IfSome (slice_get top.old.items from)
+        (λ cell. top.new.items ≡ slice_set top.old.items onto cell)) }
+{
+    let copy = top[from].copy(alloc)?;
+    put_over(top, onto, copy);
     Ok(())
 }
 
@@ -442,15 +536,60 @@ fn put_int(top: &mut Vec<Cell>, index: usize, n: i32)
     }
 }
 
-/// Drops the last cell. Nothing is to be done for an int.
+/// The same of an object.
 #[inline(always)]
+fn put_object(top: &mut Vec<Cell>, index: usize, n: u32)
+    requires inside { index < length top.old.items }
+    ensures put { top.new.items ≡ slice_set top.old.items index (ValueCell (ObjectValue n)) }
+{
+    match &mut top[index] {
+        Cell::Value(Value::Object(old)) => *old = n,
+        other => let_go(mem::replace(other, Cell::Value(Value::Object(n)))),
+    }
+}
+
+/// Drops the last cell. That it is an int is seen before the list changes, so that whoever has
+/// read it doesn't look twice.
+#[inline(always)]
+#[tactic(auto, using(crate::proofs::Lasts::end_lemmas))]
 fn drop_last(top: &mut Vec<Cell>)
     requires some { 0 < length top.old.items }
     ensures left { top.new.items ≡ take (length top.old.items - 1) top.old.items }
 {
+    match last_int(top.as_slice()) {
+        None => let_go(top.take_last()),
+        Some(_) => drop_int(top),
+    }
+}
+
+/// The int that the last cell holds.
+#[inline(always)]
+#[tactic(auto, using(crate::proofs::Lasts::read_lemmas))]
+fn last_int(top: &[Cell]) -> Option<i32>
+    requires some { 0 < length top.now }
+    ensures int { IfSome result (λ n. slice_get top.now (length top.now - 1)
+        ≡ Some (ValueCell (IntValue n))) }
+{
+    match &top[top.len() - 1] {
+        Cell::Value(Value::Int(n)) => Some(*n),
+        _ => None,
+    }
+}
+
+/// Drops the last cell, which holds an int.
+#[inline(always)]
+#[tactic(auto, using(crate::proofs::Lasts::taken_lemmas))]
+fn drop_int(top: &mut Vec<Cell>)
+    requires last { EndsWithInt top.old.items }
+    ensures left { top.new.items ≡ take (length top.old.items - 1) top.old.items }
+{
     match top.take_last() {
         Cell::Value(Value::Int(_)) => {}
-        cell => let_go(cell),
+        Cell::Value(Value::Text(_)) => unreachable!(),
+        Cell::Value(Value::Object(_)) => unreachable!(),
+        Cell::Value(Value::Effect(_)) => unreachable!(),
+        Cell::Value(Value::Event(_)) => unreachable!(),
+        Cell::Base(_) => unreachable!(),
     }
 }
 

@@ -1,6 +1,7 @@
 ghost use Rattle.std.specs.Prelude.{◌≡◌, ◌≢◌, ◌<◌, ◌≤◌, ℕ, Some, [], ◌∷◌, length, drop, OnOk};
 ghost use Rattle.std.specs.Prelude.{OnErr, IfOk, IfSome, slice_get, slice_set, take, ◌+◌, ◌++◌};
-ghost use Rattle.saved_state.specs.Cells.{cell_at, with_cell, captured, resumed};
+ghost use Rattle.saved_state.specs.Cells.{cell_at, with_cell, captured, resumed, run_written};
+ghost use Rattle.std.specs.Prelude.{if◌then◌else◌};
 ghost use Rattle.saved_state.specs.declared.cell.Cell.TheVariants.{Value as ValueCell};
 ghost use Rattle.saved_state.specs.declared.cell.Cell.TheVariants.{Base as BaseCell};
 ghost use Rattle.nwq_value.specs.declared.value.Value.TheVariants.{Int as IntValue};
@@ -153,6 +154,20 @@ impl Stack {
         ensures err { OnErr result (self.new ≡ self.old) }
     {
         self.cells.set_down(depth, Cell::Value(value))
+    }
+
+    /// Writes copies of `count` cells, over which `from` others lie, onto those over which `onto`
+    /// others lie, the lowest first. `false` says that nothing was done, since the cells don't all
+    /// lie where this takes no look-up for each. After `NoMemory` some of them may be written.
+    #[inline(always)]
+    pub fn copy_down(&mut self, from: usize, onto: usize, count: usize) -> Result<bool, NoMemory>
+        requires order { from ≤ onto }
+        requires inside { onto + count ≤ length self.old.cells }
+        ensures ok { IfOk result (λ done. self.new ≡ (if done then record self.old {
+          cells = run_written onto from count self.old.cells;
+        } else self.old)) }
+    {
+        self.cells.copy_down(from, onto, count)
     }
 
     /// Sets BP to a place, which may be the one over the top.

@@ -182,7 +182,13 @@ pub number_few : (rows : List ShapeRow) (firsts : List ℕ) (index : BTreeMap �
     → Some row ≡ slice_get rows number → number < 33554432
 number_few rows firsts index number row all h = let l = number_inside rows number row (sym h) in omega (arith, l, all.few)
 
-pub ruleset numbering = (number_few)
+-- the row with a number is the one that is found
+pub number_found : (rows : List ShapeRow) (firsts : List ℕ) (index : BTreeMap ℕ ℕ) (number : ℕ) (row : ShapeRow) → AreIndexed rows firsts index
+    → Some row ≡ slice_get rows number → row_in rows row.trial row.place ≡ Some row.held
+number_found rows firsts index number row all h =
+    sym (find_row rows firsts index number row row.trial row.place all (sym h) (record { trial = refl; place = refl }))
+
+pub ruleset numbering = (number_few, number_found)
 
 pub ruleset finding = (find_held, find_none, find_no_key, find_key)
 
@@ -232,7 +238,7 @@ row_added before after trial place held a new room =
 
 -- ---- the index
 
-key_is : (t p s q : ℕ) → t < 2 ^ 32 → s < 2 ^ 32 → row_key t p ≡ row_key s q → (t ≡ s) × (p ≡ q)
+key_is : (t p s q : ℕ) → p < 2 ^ 32 → q < 2 ^ 32 → row_key t p ≡ row_key s q → (t ≡ s) × (p ≡ q)
 key_is t p s q h i e = (omega (arith, h, i, e), omega (arith, h, i, e))
 
 other_cmp : (k q : ℕ) → q ≢ k → is_eq (nat_cmp k q) ≡ false
@@ -277,7 +283,7 @@ pub kept_key : (firsts : List ℕ) (index after : BTreeMap ℕ ℕ) (t p number 
     → Updates nat_cmp index after key (Some number) → IsKept firsts after number t p
 kept_key firsts index after t p number key first f z e u = inr ((λ n. z (f ∙ n)), ap (get nat_cmp after) (sym e) ∙ u.1)
 
-pub key_still : {E O : Type 0} (firsts : List ℕ) (index after : BTreeMap ℕ ℕ) (t p number key : ℕ) (r : Result O E) → t < 2 ^ 32 → key ≡ row_key t p
+pub key_still : {E O : Type 0} (firsts : List ℕ) (index after : BTreeMap ℕ ℕ) (t p number key : ℕ) (r : Result O E) → p < 2 ^ 32 → key ≡ row_key t p
     → OnOk r (Updates nat_cmp index after key (Some number)) → OnErr r (after.entries ≡ index.entries) → StillKept firsts index firsts after t p
 key_still firsts index after t p number key (Ok o) h e u f = record {
   by = λ n s q i ne k. elim k [
@@ -303,7 +309,7 @@ pub index_after : (rows : List ShapeRow) (firsts after : List ℕ) (index more :
     → StillKept firsts index after more t p → AreIndexed rows after more
 index_after rows firsts after index more t p all new still = record {
   by = λ n r e. let i = all.by n r e in record {
-    kept = still.by n r.trial r.place i.trial (λ k.
+    kept = still.by n r.trial r.place i.place (λ k.
         let s = here_some rows n r t p e (record { trial = k.0; place = k.1 }) in none_some s.0 (sym new ∙ s.1)) i.kept;
     trial = i.trial;
     place = i.place;

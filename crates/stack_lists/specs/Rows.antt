@@ -10,9 +10,9 @@ row_in [] trial place = None
 row_in (row ∷ rows) trial place = if (row.trial == trial)
     && (row.place == place) then Some row.held else row_in rows trial place
 
--- another number for each trial and place
+-- another number for each trial and place, the rows of one trial side by side
 abbrev pub row_key : ℕ → ℕ → ℕ
-row_key trial place = place * 4294967296 + trial
+row_key trial place = trial * 4294967296 + place
 
 -- what a row holds, if it is there and of this trial and place
 abbrev pub held_in : Option ShapeRow → ℕ → ℕ → Option Held
@@ -38,7 +38,7 @@ IsKept firsts index number trial place = (get_or firsts (place / 2) 0 ≡ suc nu
 -- What was found of other trials and places is found still.
 pub record StillKept (firsts : List ℕ) (index : BTreeMap ℕ ℕ) (firsts' : List ℕ)
     (index' : BTreeMap ℕ ℕ) (trial place : ℕ) : Type 0 where
-  pub by : (number t p : ℕ) → t < 2 ^ 32 → ((t ≡ trial) × (p ≡ place) → ⊥)
+  pub by : (number t p : ℕ) → p < 2 ^ 32 → ((t ≡ trial) × (p ≡ place) → ⊥)
       → IsKept firsts index number t p → IsKept firsts' index' number t p
 
 pub record IsIndexed (firsts : List ℕ) (index : BTreeMap ℕ ℕ) (number : ℕ)

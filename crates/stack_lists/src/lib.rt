@@ -13,6 +13,7 @@ mod held;
 mod laws;
 mod lists;
 mod places;
+mod row_list;
 mod rows;
 mod slots;
 mod stacks;

@@ -1,11 +1,13 @@
-ghost use Rattle.std.specs.Prelude.{◌≡◌, ◌≤◌, ◌^◌, [], None, OnOk, IfSome, ◌<◌, length, slice_get};
+ghost use Rattle.std.specs.Prelude.{◌≡◌, ◌≤◌, ◌^◌, [], None, Some, OnOk, IfSome, ◌<◌, length};
+ghost use Rattle.std.specs.Prelude.{slice_get};
 ghost use Rattle.stack_lists.specs.Budget.{most};
 ghost use Rattle.stack_lists.specs.Rows.{IsKept, RowAdded, StillKept, held_in, row_in, row_key};
 
 use crate::budget::room;
 use crate::held::Held;
 use crate::places::Places;
-use nwq_value::{Items, NoMemory};
+use crate::row_list::RowList;
+use nwq_value::NoMemory;
 use std::alloc::Global;
 use std::collections::BTreeMap;
 use std::marker::Model;
@@ -21,7 +23,7 @@ pub struct ShapeRow {
 /// The rows, each of a trial and a place of its own. The first row of a place is found by the place
 /// alone, so code that control enters at few places needs no index.
 pub struct Rows {
-    rows: Items<ShapeRow>,
+    rows: RowList,
     /// By half of the place, since an instruction takes two bytes at least: one more than the
     /// number of the first row there.
     firsts: Places,
@@ -58,7 +60,7 @@ impl Drop for Rows {
 fn key_of(trial: u32, place: u32) -> u64
     ensures { result ≡ row_key trial place }
 {
-    place as u64 * (1 << 32) + trial as u64
+    trial as u64 * (1 << 32) + place as u64
 }
 
 /// Has the row found that is added with this number.
@@ -89,7 +91,7 @@ impl Rows {
         ensures empty { result ≡ [] }
     {
         Rows {
-            rows: Items::new(alloc),
+            rows: RowList::new(alloc),
             firsts: Places::new(alloc),
             index: BTreeMap::new(alloc),
         }
@@ -108,10 +110,12 @@ impl Rows {
     pub fn get(&self, number: usize) -> Option<ShapeRow>
         ensures row { result ≡ slice_get self.now number }
         ensures inside { IfSome result (λ _. number < 2 ^ 25) }
+        ensures found { IfSome result (λ row.
+            row_in self.now row.trial row.place ≡ Some row.held) }
     {
         match self.rows.get(number) {
             None => None,
-            Some(row) => Some(*row),
+            Some(row) => Some(row),
         }
     }
 

@@ -14,7 +14,7 @@ const MOST_STEPS: u32 = 1_000_000;
 const FIRST_STEPS: u32 = 1_000;
 
 /// At most so many slots are copied, so that large stacks cost no more than many steps.
-const MOST_SLOTS: usize = 0x400_0000;
+const MOST_SLOTS: usize = 0x100_0000;
 
 /// What a search may still spend, and where a place was kept that was looked at.
 #[derive(Drop)]

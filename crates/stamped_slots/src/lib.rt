@@ -5,10 +5,15 @@
 //! search for its stamp. What is taken out leaves its slot empty, so that no other is moved; where
 //! half of the slots are empty they go, and their memory with them. The first slot never is empty.
 //!
-//! The variables of an object, its effects, and the entries of one due time are kept so.
+//! The entries of one due time, the places of Turns, and the effects of an object are kept so. A
+//! [`StampIndex`] leads from a key to the stamps under it.
 #![tactic(auto)]
 
 mod slots;
+mod stamp_index;
 mod stamped;
+mod walk;
 
+pub use stamp_index::StampIndex;
 pub use stamped::Stamped;
+pub use walk::Walk;

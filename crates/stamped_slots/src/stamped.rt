@@ -5,6 +5,7 @@ ghost use Rattle.std.specs.Option.{option_copied};
 ghost use Rattle.stamped_slots.specs.Stamps.{at, put, without, Rise};
 
 use crate::slots::{Slots, below, exchange, is_of, put_among, put_only, settle};
+use crate::walk::Walk;
 use std::alloc::{AllocFailed, Global};
 use std::collections::VecDeque;
 use std::marker::Model;
@@ -69,6 +70,13 @@ impl<T: Drop> Stamped<T> {
                 Some(item) => Some((slot.stamp, item)),
             },
         }
+    }
+
+    /// A walk over the items, which takes time for each slot once.
+    pub fn walk(&self) -> Walk<'_, T>
+        ensures all { result ≡ self.now.items }
+    {
+        Walk::over(&self.slots)
     }
 
     /// The item under a stamp.

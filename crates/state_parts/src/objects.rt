@@ -122,8 +122,9 @@ fn put_effects<W: Writer>(out: &mut W, effects: &Standing) -> Result<(), NoMemor
     ensures parts { OnOk result
         (ArePartsOf stood_of IsStanding any_text effects.now (map stood_part effects.now)) }
 {
-    for i in 0..effects.len() {
-        match effects.get(i) {
+    let mut walk = effects.walk();
+    for _done in 0..effects.len() {
+        match walk.next() {
             None => unreachable!(),
             Some(effect) => put_stood(out, effect)?,
         }

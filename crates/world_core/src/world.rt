@@ -3,7 +3,7 @@ ghost use Rattle.std.specs.Prelude.{◌≡◌, ◌<◌, ◌≤◌, ◌+◌, ◌^
 ghost use Rattle.std.specs.Prelude.{slice_get};
 ghost use Rattle.std.specs.Prelude.{IfOk, IfSome, OnOk, OnErr, IsTrue, Some, pos};
 ghost use Rattle.std.specs.List.{AllByRecursion};
-ghost use Rattle.std.specs.Option.{option_copied, option_map};
+ghost use Rattle.std.specs.Option.{option_copied};
 ghost use Rattle.delay_agenda.specs.Order.{first_due};
 ghost use Rattle.world_rules.specs.AlikeLaws.{call};
 ghost use Rattle.world_rules.specs.Engine.{engine, may_run, no_script, too_deep};
@@ -23,11 +23,11 @@ use action_queue::Item;
 use area_tree::Area;
 use delay_agenda::{Entry, calls_keep_order};
 use hook_table::Hooks;
-use nwq_value::{Args, Effect, NoMemory, Randoms, Table, Text, Value};
+use nwq_value::{Args, NoMemory, Randoms, Table, Text, Value};
 use std::alloc::Global;
 use std::marker::Model;
 use world_parts::{Parts, WorldParts};
-use world_rules::{Told, calls_keep_worlds, entries_keep_worlds};
+use world_rules::{StandingWalk, Told, calls_keep_worlds, entries_keep_worlds};
 
 /// The world in which scripts run.
 ///
@@ -310,17 +310,13 @@ impl<X: Drop> World<X> {
         self.parts.count()
     }
 
-    /// The effect that stands on an object at place `i`, counted from 0.
-    pub fn effect_at(&self, o: u32, i: usize) -> Option<&Effect>
+    /// A walk over the effects that stand on an object.
+    pub fn effects(&self, o: u32) -> StandingWalk<'_>
         requires first { 1 ≤ o }
         requires within { o ≤ count self.now.world }
-        ensures effect { option_copied result
-            ≡ option_map (λ s. s.effect) (slice_get (effects_of o self.now.world) i) }
+        ensures effects { result ≡ effects_of o self.now.world }
     {
-        match self.parts.effects(o).get(i) {
-            None => None,
-            Some(stood) => Some(&stood.effect),
-        }
+        self.parts.effects(o).walk()
     }
 
     /// The action of an object at place `i` of its queue, counted from 0.

@@ -1,6 +1,6 @@
 //! Effects that stand on objects.
-ghost use Rattle.std.specs.Prelude.{◌≡◌, ◌<◌, ◌≤◌, ◌+◌, ◌^◌, length, position, OnOk, OnErr, pos};
-ghost use Rattle.world_rules.specs.Changes.{is_effect, is_numbered, with_effect};
+ghost use Rattle.std.specs.Prelude.{◌≡◌, ◌<◌, ◌≤◌, ◌+◌, ◌^◌, length, OnOk, OnErr, pos};
+ghost use Rattle.world_rules.specs.Changes.{with_effect};
 ghost use Rattle.world_rules.specs.Kept.{IsWorld};
 ghost use Rattle.world_rules.specs.Rows.{applied, applied_to, removed};
 ghost use Rattle.world_rules.specs.Turns.{unapply};
@@ -9,34 +9,7 @@ use crate::parts::Parts;
 use crate::things::add_effect;
 use delay_agenda::Kind;
 use nwq_value::{Effect, NoMemory};
-use world_rules::{Standing, Stood, Told};
-
-/// Whether an effect that stands is equal to this one.
-fn is_effect(effect: &Effect, stood: &Stood) -> bool
-    ensures test { result ≡ is_effect effect.now stood.now }
-{
-    effect.same(&stood.effect)
-}
-
-/// The place of the first effect that is equal to this one.
-fn place_of_equal(standing: &Standing, effect: &Effect) -> Option<usize>
-    ensures place { result ≡ position (is_effect effect.now) standing.now }
-{
-    standing
-        .as_deque()
-        .iter()
-        .position(|stood| is_effect(effect, stood))
-}
-
-/// The place of the first effect of this number.
-fn place_of_number(standing: &Standing, number: u64) -> Option<usize>
-    ensures place { result ≡ position (is_numbered number) standing.now }
-{
-    standing
-        .as_deque()
-        .iter()
-        .position(|stood| stood.is_numbered(number))
-}
+use world_rules::{Stood, Told};
 
 impl<X: Drop> Parts<X> {
     /// One effect more on an object, a copy of this one.
@@ -149,10 +122,10 @@ impl<X: Drop> Parts<X> {
             drop(effect);
             return;
         }
-        match place_of_equal(self.effects(o), &effect) {
+        match self.take_equal(o, &effect) {
             None => drop(effect),
-            Some(at) => {
-                drop(self.take_effect(o, at));
+            Some(stood) => {
+                drop(stood);
                 self.tell(o, Told::Remove(effect));
             }
         }
@@ -167,12 +140,9 @@ impl<X: Drop> Parts<X> {
         ensures ended { self.new.world ≡ unapply o number self.old.world }
         ensures posts { self.new.posts ≡ self.old.posts }
     {
-        match place_of_number(self.effects(o), number) {
+        match self.take_numbered(o, number) {
             None => {}
-            Some(at) => {
-                let stood = self.take_effect(o, at);
-                self.tell(o, Told::Expire(stood.effect));
-            }
+            Some(stood) => self.tell(o, Told::Expire(stood.effect)),
         }
     }
 }

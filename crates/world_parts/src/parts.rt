@@ -1,21 +1,22 @@
 //! The parts of a world, and the small changes that everything else is made of.
 ghost use Rattle.std.specs.Prelude.{◌≡◌, ◌<◌, ◌≤◌, ◌+◌, ◌-◌, ◌^◌, ◌↔◌, [], drop, length, pos};
 ghost use Rattle.std.specs.Prelude.{slice_get, Some, IfOk, OnOk, IsTrue};
-ghost use Rattle.std.specs.List.{remove};
+ghost use Rattle.std.specs.List.{find};
 ghost use Rattle.delay_agenda.specs.Order.{first_due};
 ghost use Rattle.delay_agenda.specs.Waiting.{turn_count};
 ghost use Rattle.world_rules.specs.Changes.{told, post, with_actions, with_effects, without_turn};
+ghost use Rattle.world_rules.specs.Changes.{is_effect, is_numbered, without_first};
 ghost use Rattle.world_rules.specs.Turns.{drained, still, with_entries};
 ghost use Rattle.world_rules.specs.World.{count, effects_of, is_valid, queue_of};
 ghost use Rattle.world_parts.specs.Saved.{put_together};
 
 use crate::saved::WorldParts;
-use crate::things::{clear, of_object, take_effect, take_head};
+use crate::things::{clear, of_object, take_equal, take_head, take_numbered};
 use crate::turns::idle_objects;
 use action_queue::{Item, Queue};
 use area_tree::Area;
 use delay_agenda::{Agenda, Entry, Kind};
-use nwq_value::{Items, NoMemory, Randoms};
+use nwq_value::{Effect, Items, NoMemory, Randoms};
 use std::alloc::Global;
 use std::collections::VecDeque;
 use std::marker::Model;
@@ -254,17 +255,30 @@ impl<X: Drop> Parts<X> {
         take_head(&mut self.things, o)
     }
 
-    /// Takes the effect at a place off an object.
-    pub(crate) fn take_effect(&mut self, o: u32, at: usize) -> Stood
+    /// Takes the first effect of this number off an object, where there is one.
+    pub(crate) fn take_numbered(&mut self, o: u32, number: u64) -> Option<Stood>
         requires first { 1 ≤ o }
         requires within { o ≤ length self.old.world.things }
-        requires there { at < length (effects_of o self.old.world) }
-        ensures taken { slice_get (effects_of o self.old.world) at ≡ Some result }
+        ensures taken { result ≡ find (is_numbered number) (effects_of o self.old.world) }
         ensures left { self.new ≡ record self.old {
-          world = with_effects o (remove (effects_of o self.old.world) at) self.old.world;
+          world = with_effects o
+              (without_first (is_numbered number) (effects_of o self.old.world)) self.old.world;
         } }
     {
-        take_effect(&mut self.things, o, at)
+        take_numbered(&mut self.things, o, number)
+    }
+
+    /// Takes the first effect that is equal to this one off an object, where there is one.
+    pub(crate) fn take_equal(&mut self, o: u32, effect: &Effect) -> Option<Stood>
+        requires first { 1 ≤ o }
+        requires within { o ≤ length self.old.world.things }
+        ensures taken { result ≡ find (is_effect effect.now) (effects_of o self.old.world) }
+        ensures left { self.new ≡ record self.old {
+          world = with_effects o
+              (without_first (is_effect effect.now) (effects_of o self.old.world)) self.old.world;
+        } }
+    {
+        take_equal(&mut self.things, o, effect)
     }
 
     /// The effects that stand on an object.

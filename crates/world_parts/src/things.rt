@@ -1,12 +1,12 @@
 //! What is kept of objects beside the area, changed for one object at a time.
-ghost use Rattle.std.specs.Prelude.{◌≡◌, ◌<◌, ◌≤◌, ◌∷◌, ◌++◌, [], drop, length, slice_get, Some};
+ghost use Rattle.std.specs.Prelude.{◌≡◌, ◌≤◌, ◌∷◌, ◌++◌, [], drop, length, slice_get, Some};
 ghost use Rattle.std.specs.Prelude.{OnOk, OnErr};
-ghost use Rattle.std.specs.List.{remove};
-ghost use Rattle.world_rules.specs.Changes.{changed_object};
+ghost use Rattle.std.specs.List.{find};
+ghost use Rattle.world_rules.specs.Changes.{changed_object, is_effect, is_numbered, without_first};
 ghost use Rattle.world_rules.specs.World.{things_at, queue_in, effects_in};
 
 use action_queue::Item;
-use nwq_value::NoMemory;
+use nwq_value::{Effect, NoMemory};
 use world_rules::{Stood, Things};
 
 /// Sets an object's mark; its actions stay.
@@ -85,18 +85,39 @@ pub(crate) fn add_effect<X: Drop>(
     object.effects.push(stood)
 }
 
-/// Takes the effect at a place off an object.
-pub(crate) fn take_effect<X: Drop>(things: &mut Vec<Things<X>>, o: u32, at: usize) -> Stood
+/// Takes the first effect of this number off an object, where there is one.
+pub(crate) fn take_numbered<X: Drop>(
+    things: &mut Vec<Things<X>>,
+    o: u32,
+    number: u64,
+) -> Option<Stood>
     requires first { 1 ≤ o }
     requires within { o ≤ length things.old.items }
-    requires there { at < length (effects_in (things_at o things.old.items)) }
-    ensures taken { slice_get (effects_in (things_at o things.old.items)) at ≡ Some result }
+    ensures taken { result ≡ find (is_numbered number) (effects_in (things_at o things.old.items)) }
     ensures left { things.new.items ≡ changed_object o (λ t. record t {
-      effects = remove (effects_in (things_at o things.old.items)) at;
+      effects = without_first (is_numbered number) (effects_in (things_at o things.old.items));
     }) things.old.items }
 {
     let object = &mut things[o as usize - 1];
-    object.effects.take(at)
+    object.effects.take_numbered(number)
+}
+
+/// Takes the first effect that is equal to this one off an object, where there is one.
+pub(crate) fn take_equal<X: Drop>(
+    things: &mut Vec<Things<X>>,
+    o: u32,
+    effect: &Effect,
+) -> Option<Stood>
+    requires first { 1 ≤ o }
+    requires within { o ≤ length things.old.items }
+    ensures taken { result
+        ≡ find (is_effect effect.now) (effects_in (things_at o things.old.items)) }
+    ensures left { things.new.items ≡ changed_object o (λ t. record t {
+      effects = without_first (is_effect effect.now) (effects_in (things_at o things.old.items));
+    }) things.old.items }
+{
+    let object = &mut things[o as usize - 1];
+    object.effects.take_equal(effect)
 }
 
 /// What is kept of an object.

@@ -8,3 +8,4 @@ mod TurnsKept
 mod Settled
 mod PlayLemmas
 mod PlayExamples
+pub mod StandingLemmas

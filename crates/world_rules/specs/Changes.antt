@@ -1,6 +1,6 @@
 -- The small changes of a world that routines and entries are made of. Each leaves the rest of the
 -- world as it is.
-use Rattle.std.specs.Prelude.{ℕ, ℤ, ◌+◌, min, zero, suc, Bool, true, false, ◌&&◌, not, ◌==◌, if◌then◌else◌, List, [], ◌∷◌, ◌++◌, Option, None, Some}
+use Rattle.std.specs.Prelude.{ℕ, ℤ, ◌+◌, min, zero, suc, Bool, true, false, ◌&&◌, not, ◌==◌, if◌then◌else◌, List, [], ◌∷◌, ◌++◌, Option}
 use Rattle.std.specs.Ordering.{int_eq}
 use Rattle.action_queue.specs.Queued.{Queued}
 use Rattle.action_queue.specs.declared.queue.Item.{Item}
@@ -13,6 +13,7 @@ use Rattle.world_rules.specs.declared.data.Stood.{Stood}
 use Rattle.world_rules.specs.declared.data.Things.{Things}
 use Rattle.world_rules.specs.declared.data.Told.{Told}
 use Rattle.world_rules.specs.Arguments.{at_least_zero}
+use Rattle.world_rules.specs.Standing.{is_number}
 use Rattle.world_rules.specs.World.{World, queue_of, effects_of}
 
 -- one line more, at the clock's time
@@ -104,9 +105,5 @@ abbrev pub is_effect : Effect → Stood → Bool
 is_effect e s = same_effect e s.effect
 
 -- has the effect this number?
-abbrev pub is_number : ℕ → Option ℕ → Bool
-is_number number None = false
-is_number number (Some own) = own == number
-
 abbrev pub is_numbered : ℕ → Stood → Bool
 is_numbered number s = is_number number s.number

@@ -2,6 +2,7 @@ pub mod Arguments
 pub mod Pure
 pub mod Trace
 pub mod World
+pub mod Standing
 pub mod Changes
 pub mod Rows
 pub mod Engine

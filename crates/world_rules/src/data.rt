@@ -1,6 +1,6 @@
 ghost use Rattle.std.specs.Prelude.{◌≡◌, ◌≤◌};
 ghost use Rattle.world_rules.specs.Arguments.{at_least_zero};
-ghost use Rattle.world_rules.specs.Changes.{is_numbered, longest_delay};
+ghost use Rattle.world_rules.specs.Changes.{is_effect, longest_delay};
 
 use crate::standing::Standing;
 use action_queue::Queue;
@@ -15,14 +15,12 @@ pub struct Stood {
 }
 
 impl Stood {
-    /// Whether the agenda entry of this number ends the effect.
-    pub fn is_numbered(&self, number: u64) -> bool
-        ensures test { result ≡ is_numbered number self.now }
+    /// Whether the effect is equal to this one.
+    #[tactic(auto, using(crate::proofs::StandingLemmas::same_test))]
+    pub fn is_effect(&self, effect: &Effect) -> bool
+        ensures test { result ≡ is_effect effect.now self.now }
     {
-        match self.number {
-            Some(own) => own == number,
-            None => false,
-        }
+        effect.same(&self.effect)
     }
 }
 

@@ -20,6 +20,7 @@
 #![tactic(auto)]
 
 mod data;
+mod effects;
 mod laws;
 mod plays;
 mod standing;
@@ -27,4 +28,4 @@ mod standing;
 pub use data::{Line, Objects, Stood, Things, Told, Trace, at_least_zero};
 pub use laws::{calls_keep_worlds, entries_keep_worlds};
 pub use plays::{plays_go_on, plays_settle};
-pub use standing::Standing;
+pub use standing::{Standing, StandingWalk};

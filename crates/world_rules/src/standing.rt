@@ -1,35 +1,54 @@
-ghost use Rattle.std.specs.Prelude.{◌≡◌, ◌<◌, [], ◌∷◌, ◌++◌, length, slice_get, Some};
-ghost use Rattle.std.specs.Prelude.{OnOk, OnErr};
-ghost use Rattle.std.specs.List.{remove};
+ghost use Rattle.std.specs.Prelude.{◌≡◌, [], ◌∷◌, ◌++◌, drop, length, slice_get};
+ghost use Rattle.std.specs.Prelude.{IfOk, OnOk, OnErr};
+ghost use Rattle.std.specs.List.{find};
 ghost use Rattle.std.specs.Option.{option_copied};
+ghost use Rattle.world_rules.specs.Changes.{is_effect, is_numbered, without_first};
 
 use crate::data::Stood;
-use nwq_value::NoMemory;
+use crate::effects::Effects;
+use nwq_value::{Effect, NoMemory};
+use stamped_slots::Walk;
 use std::alloc::Global;
-use std::collections::VecDeque;
 use std::marker::Model;
 
 /// The effects of one object, in the order in which they came.
 ///
-/// Where one is taken off, the shorter side moves: those that end in the order in which they came
-/// cost the same, however many stand.
+/// One is found by its number or by what it is, and taken off without a look at the others. An
+/// object without effects keeps nothing of them.
 pub struct Standing {
-    all: VecDeque<Stood>,
+    alloc: Global,
+    /// The effects, where there are some.
+    kept: Option<Box<Effects>>,
 }
 
 impl Model for Standing {
     ghost use Rattle.std.specs.Prelude.{List};
     ghost use Rattle.world_rules.specs.declared.data.Stood.{Stood};
+    ghost use Rattle.world_rules.specs.Standing.{boxed};
 
     ghost Value = { List Stood };
 
-    ghost view = { λ s. s.all.items };
+    ghost view = { λ s. boxed s.kept };
 }
 
 impl Drop for Standing {
     fn drop(self) {
-        let Standing { all } = self;
-        drop(all);
+        let Standing { alloc: _, kept } = self;
+        drop(kept);
+    }
+}
+
+/// The list of one effect.
+fn only(alloc: Global, stood: Stood) -> Result<Box<Effects>, NoMemory>
+    ensures only { IfOk result (λ all. all.value ≡ stood ∷ []) }
+{
+    let mut all = Effects::new(alloc);
+    match all.push(stood) {
+        Err(NoMemory) => {
+            drop(all);
+            Err(NoMemory)
+        }
+        Ok(()) => Ok(Box::new(alloc, all)?),
     }
 }
 
@@ -38,29 +57,28 @@ impl Standing {
     pub fn new(alloc: Global) -> Standing
         ensures empty { result ≡ [] }
     {
-        Standing {
-            all: VecDeque::new(alloc),
-        }
+        Standing { alloc, kept: None }
     }
 
     pub fn len(&self) -> usize
         ensures len { result ≡ length self.now }
     {
-        self.all.len()
+        match &self.kept {
+            None => 0,
+            Some(all) => all.len(),
+        }
     }
 
-    /// The effect at place `i`, counted from 0.
-    pub fn get(&self, i: usize) -> Option<&Stood>
-        ensures stood { option_copied result ≡ slice_get self.now i }
+    /// A walk over all effects.
+    pub fn walk(&self) -> StandingWalk<'_>
+        ensures all { result ≡ self.now }
     {
-        self.all.get(i)
-    }
-
-    /// The effects, borrowed as a queue.
-    pub fn as_deque(&self) -> &VecDeque<Stood>
-        ensures effects { result.now.items ≡ self.now }
-    {
-        &self.all
+        match &self.kept {
+            None => StandingWalk { rest: None },
+            Some(all) => StandingWalk {
+                rest: Some(all.walk()),
+            },
+        }
     }
 
     /// Puts an effect last. After `NoMemory` it is dropped, and the others are as before.
@@ -68,19 +86,84 @@ impl Standing {
         ensures ok { OnOk result (self.new ≡ self.old ++ stood ∷ []) }
         ensures err { OnErr result (self.new ≡ self.old) }
     {
-        self.all.push_back(stood)?;
-        Ok(())
+        match &mut self.kept {
+            Some(all) => all.push(stood),
+            None => {
+                self.kept = Some(only(self.alloc, stood)?);
+                Ok(())
+            }
+        }
     }
 
-    /// Takes the effect at a place off.
-    pub fn take(&mut self, at: usize) -> Stood
-        requires inside { at < length self.old }
-        ensures taken { slice_get self.old at ≡ Some result }
-        ensures left { self.new ≡ remove self.old at }
+    /// Lets the memory go where no effect is left.
+    #[tactic(auto, using(crate::proofs::StandingLemmas::none_left_is))]
+    fn settle(&mut self)
+        ensures same { self.new ≡ self.old }
     {
-        match self.all.remove(at) {
-            Some(stood) => stood,
-            None => unreachable!(),
+        if self.len() == 0 {
+            self.kept = None;
+        }
+    }
+
+    /// Takes the first effect of this number off, where there is one.
+    pub fn take_numbered(&mut self, number: u64) -> Option<Stood>
+        ensures taken { result ≡ find (is_numbered number) self.old }
+        ensures left { self.new ≡ without_first (is_numbered number) self.old }
+    {
+        match &mut self.kept {
+            None => None,
+            Some(all) => {
+                let taken = all.take_numbered(number);
+                self.settle();
+                taken
+            }
+        }
+    }
+
+    /// Takes the first effect that is equal to this one off, where there is one.
+    pub fn take_equal(&mut self, effect: &Effect) -> Option<Stood>
+        ensures taken { result ≡ find (is_effect effect.now) self.old }
+        ensures left { self.new ≡ without_first (is_effect effect.now) self.old }
+    {
+        match &mut self.kept {
+            None => None,
+            Some(all) => {
+                let taken = all.take_equal(effect);
+                self.settle();
+                taken
+            }
+        }
+    }
+}
+
+/// A walk over the effects of an object in their order. Contracts see those that are left.
+#[derive(Drop)]
+pub struct StandingWalk<'a> {
+    rest: Option<Walk<'a, Stood>>,
+}
+
+impl<'a> Model for StandingWalk<'a> {
+    ghost use Rattle.std.specs.Prelude.{List};
+    ghost use Rattle.world_rules.specs.declared.data.Stood.{Stood};
+    ghost use Rattle.world_rules.specs.Standing.{walked};
+
+    ghost Value = { List Stood };
+
+    ghost view = { λ w. walked w.rest };
+}
+
+impl<'a> StandingWalk<'a> {
+    /// The next effect, if one is left.
+    pub fn next(&mut self) -> Option<&'a Stood>
+        ensures first { option_copied result ≡ slice_get self.old 0 }
+        ensures rest { self.new ≡ drop 1 self.old }
+    {
+        match &mut self.rest {
+            None => None,
+            Some(walk) => match walk.next() {
+                None => None,
+                Some((_stamp, stood)) => Some(stood),
+            },
         }
     }
 }

@@ -1,4 +1,5 @@
 use Rattle.std.proofs.Common.{ap, ◌∙◌}
+use Rattle.std.specs.Vec.Iter.{into_iter_items}
 use Rattle.gff_tree.specs.Tree.{plain_node, is_sound}
 use Rattle.area_back.proofs.SoundLemmas.{TreeLaws, back_sound}
 use Rattle.area_back.proofs.back.into_tree.Goals as goal
@@ -15,4 +16,4 @@ invariant_of-result c =
       found_sound = c.fields_tell.ensures.found;
       list_sound = c.fields_tell.ensures.list_sound;
     } in
-    record { sound = ap is_sound c.in-Ok.ensures ∙ back_sound laws c.deref.result.now (plain_node c.into_parts-tree.result.0.top) c.into_parts-tree.result.0.sound }
+    record { sound = ap is_sound c.in-Ok.ensures ∙ back_sound laws (into_iter_items c.into_iter-objects.result) (plain_node c.into_parts-tree.result.0.top) c.into_parts-tree.result.0.sound }

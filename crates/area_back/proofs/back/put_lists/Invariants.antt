@@ -1,4 +1,5 @@
 use Rattle.std.proofs.Common.{◌≡◌, drop}
+use Rattle.std.specs.Vec.Iter.{into_iter_items}
 use Rattle.gff_tree.specs.Tree.{plain_node}
 use Rattle.gff_tree.specs.Fields.{kind_of, fields_of, node_from}
 use Rattle.area_rules.specs.Objects.{list_labels}
@@ -7,5 +8,5 @@ use Rattle.area_back.proofs.back.put_lists.Given as goal
 
 abbrev pub invariant-loop-list : goal.invariant-loop-list
 invariant-loop-list l =
-    node_from (kind_of (plain_node l.top)) (lists_back (drop l.list list_labels) l.rest (fields_of (plain_node l.top)))
-    ≡ node_from (kind_of (plain_node l.fn.top)) (lists_back list_labels l.objects (fields_of (plain_node l.fn.top)))
+    node_from (kind_of (plain_node l.top)) (lists_back (drop l.list list_labels) (into_iter_items l.objects) (fields_of (plain_node l.top)))
+    ≡ node_from (kind_of (plain_node l.fn.top)) (lists_back list_labels (into_iter_items l.fn.objects) (fields_of (plain_node l.fn.top)))

@@ -1,5 +1,7 @@
 use Rattle.command_work.specs.KeepsLemmas.{keeps_all, keeps_after}
 use Rattle.command_play.specs.Tellings.{IsGameFile}
+use Rattle.command_sources.specs.Reads.{header_read}
+use Rattle.command_play.specs.Reads.{area_after}
 use Rattle.command_save.proofs.save.save_under.Goals as goal
 
 pub returns-in-Err-clause-names : goal.returns-in-Err-clause-names
@@ -10,3 +12,9 @@ returns-in-Ok-clause-names g c =
     keeps_after (IsGameFile c.args.words.state.now) (g.F.Files.contents c.args.files.now)
     (g.F.Files.contents c.read_header.new.files)
     (g.F.Files.contents c.save_scripts.new.files) c.in-Ok.ensures.same c.save_scripts.ensures.names
+
+pub returns-in-Ok-clause-once : goal.returns-in-Ok-clause-once
+returns-in-Ok-clause-once g c = λ tells.
+    area_after c.save_scripts.result c.args.plan.now.scripts (g.F.Files.contents c.args.files.now) (g.F.Files.contents c.read_header.new.files)
+    (header_read c.args.words.header.now (g.F.Files.reads c.args.files.now)) (g.F.Files.reads c.read_header.new.files) (g.F.Files.reads c.save_scripts.new.files)
+    c.in-Ok.ensures.same c.read_header.ensures.once (c.save_scripts.ensures.once tells)

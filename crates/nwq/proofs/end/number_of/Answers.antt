@@ -6,6 +6,7 @@ use Rattle.nwq_top.specs.Cuts.{IsFrontOf}
 use Rattle.telling_sink.specs.ToldLemmas.{told_nothing}
 use Rattle.nwq.specs.Ending.{form_in}
 use Rattle.nwq.proofs.EndLemmas.{whole_cut}
+use Rattle.nwq.proofs.ReadLemmas.{none_read}
 use Rattle.nwq.proofs.end.number_of.Goals as goal
 
 pub returns-in-NoMemory-clause-cut : goal.returns-in-NoMemory-clause-cut
@@ -24,3 +25,7 @@ pub returns-in-NoMemory-clause-changes : goal.returns-in-NoMemory-clause-changes
 returns-in-NoMemory-clause-changes g c = λ files_tell.
     let contents = g.F.Files.contents c.args.files.now in
     keeps_all _ contents contents refl
+
+pub returns-in-NoMemory-clause-once : goal.returns-in-NoMemory-clause-once
+returns-in-NoMemory-clause-once g c = λ files_tell.
+    none_read (Err Memory) (g.F.Files.contents c.args.files.now) (g.F.Files.reads c.args.files.now)

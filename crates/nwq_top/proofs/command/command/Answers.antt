@@ -1,7 +1,8 @@
-use Rattle.std.proofs.Common.{map, string_bytes, refl}
+use Rattle.std.proofs.Common.{map, string_bytes, Err, refl}
 use Rattle.world_core.specs.Calls.{cells_of}
-use Rattle.command_words.specs.Words.{Run, Compile, Tree, Check, Disassemble, Assemble, Generate, form_of}
+use Rattle.command_words.specs.Words.{Run, Compile, Tree, Check, Disassemble, Assemble, Generate, NoForm, form_of}
 use Rattle.nwq_top.proofs.WordLemmas.{form_does, form_keeps, form_same, form_stops, no_form_does}
+use Rattle.nwq_top.proofs.ReadLemmas.{form_reads}
 use Rattle.nwq_top.proofs.command.command.Goals as goal
 
 pub returns-in-Run-clause-does : goal.returns-in-Run-clause-does
@@ -204,3 +205,58 @@ returns-in-NoForm-clause-does g c = λ files_tell sink_tells.
 pub returns-in-NoForm-clause-names : goal.returns-in-NoForm-clause-names
 returns-in-NoForm-clause-names g c =
     form_same (form_of (map string_bytes c.args.words.now)) (g.F.Files.contents c.args.files.now) (g.F.Files.contents c.args.files.now) refl
+
+pub returns-in-Run-clause-once : goal.returns-in-Run-clause-once
+returns-in-Run-clause-once g c = λ files_tell sink_tells.
+    form_reads (form_of (map string_bytes c.args.words.now)) (Run c.in-Run.header.now c.in-Run.script.now) c.run.result (g.F.Files.contents c.args.files.now)
+    (g.F.Files.reads c.args.files.now) (g.F.Files.reads c.run.new.files) c.in-Run.ensures.command (c.run.ensures.once files_tell)
+
+pub returns-in-Compile-clause-once : goal.returns-in-Compile-clause-once
+returns-in-Compile-clause-once g c = λ files_tell sink_tells.
+    form_reads (form_of (map string_bytes c.args.words.now)) (Compile c.in-Compile.header.now c.in-Compile.script.now) c.compile_file.result (g.F.Files.contents c.args.files.now)
+    (g.F.Files.reads c.args.files.now) (g.F.Files.reads c.compile_file.new.files) c.in-Compile.ensures.command (c.compile_file.ensures.once files_tell)
+
+pub returns-in-Tree-clause-once : goal.returns-in-Tree-clause-once
+returns-in-Tree-clause-once g c = λ files_tell sink_tells.
+    form_reads (form_of (map string_bytes c.args.words.now)) (Tree c.in-Tree.file.now) c.show_tree.result (g.F.Files.contents c.args.files.now)
+    (g.F.Files.reads c.args.files.now) (g.F.Files.reads c.show_tree.new.files) c.in-Tree.ensures.command c.show_tree.ensures.once
+
+pub returns-in-Check-clause-once : goal.returns-in-Check-clause-once
+returns-in-Check-clause-once g c = λ files_tell sink_tells.
+    form_reads (form_of (map string_bytes c.args.words.now)) (Check c.in-Check.header.now c.in-Check.file.now) c.check_file.result (g.F.Files.contents c.args.files.now)
+    (g.F.Files.reads c.args.files.now) (g.F.Files.reads c.check_file.new.files) c.in-Check.ensures.command c.check_file.ensures.once
+
+pub returns-in-Disassemble-clause-once : goal.returns-in-Disassemble-clause-once
+returns-in-Disassemble-clause-once g c = λ files_tell sink_tells.
+    form_reads (form_of (map string_bytes c.args.words.now)) (Disassemble c.in-Disassemble.file.now c.in-Disassemble.to.now) c.disassemble_file.result (g.F.Files.contents c.args.files.now)
+    (g.F.Files.reads c.args.files.now) (g.F.Files.reads c.disassemble_file.new.files) c.in-Disassemble.ensures.command c.disassemble_file.ensures.once
+
+pub returns-in-Assemble-clause-once : goal.returns-in-Assemble-clause-once
+returns-in-Assemble-clause-once g c = λ files_tell sink_tells.
+    form_reads (form_of (map string_bytes c.args.words.now)) (Assemble c.in-Assemble.file.now c.in-Assemble.to.now) c.assemble_file.result (g.F.Files.contents c.args.files.now)
+    (g.F.Files.reads c.args.files.now) (g.F.Files.reads c.assemble_file.new.files) c.in-Assemble.ensures.command c.assemble_file.ensures.once
+
+pub returns-in-Play-clause-once : goal.returns-in-Play-clause-once
+returns-in-Play-clause-once g c = λ files_tell sink_tells.
+    form_reads (form_of (map string_bytes c.args.words.now)) _ c.play_files.result (g.F.Files.contents c.args.files.now)
+    (g.F.Files.reads c.args.files.now) (g.F.Files.reads c.play_files.new.files) c.in-Play.ensures.command (c.play_files.ensures.once files_tell sink_tells)
+
+pub returns-in-Generate-clause-once : goal.returns-in-Generate-clause-once
+returns-in-Generate-clause-once g c = λ files_tell sink_tells.
+    form_reads (form_of (map string_bytes c.args.words.now)) (Generate c.in-Generate.number) c.generate.result (g.F.Files.contents c.args.files.now)
+    (g.F.Files.reads c.args.files.now) (g.F.Files.reads c.args.files.now) c.in-Generate.ensures.command.0 refl
+
+pub returns-in-Save-clause-once : goal.returns-in-Save-clause-once
+returns-in-Save-clause-once g c = λ files_tell sink_tells.
+    form_reads (form_of (map string_bytes c.args.words.now)) _ c.save_play.result (g.F.Files.contents c.args.files.now)
+    (g.F.Files.reads c.args.files.now) (g.F.Files.reads c.save_play.new.files) c.in-Save.ensures.command.0 (c.save_play.ensures.once files_tell sink_tells)
+
+pub returns-in-Resume-clause-once : goal.returns-in-Resume-clause-once
+returns-in-Resume-clause-once g c = λ files_tell sink_tells.
+    form_reads (form_of (map string_bytes c.args.words.now)) _ c.resume_play.result (g.F.Files.contents c.args.files.now)
+    (g.F.Files.reads c.args.files.now) (g.F.Files.reads c.resume_play.new.files) c.in-Resume.ensures.command c.resume_play.ensures.once
+
+pub returns-in-NoForm-clause-once : goal.returns-in-NoForm-clause-once
+returns-in-NoForm-clause-once g c = λ files_tell sink_tells.
+    form_reads (form_of (map string_bytes c.args.words.now)) NoForm (Err c.refuse_form.result) (g.F.Files.contents c.args.files.now)
+    (g.F.Files.reads c.args.files.now) (g.F.Files.reads c.args.files.now) c.in-NoForm.ensures.command refl

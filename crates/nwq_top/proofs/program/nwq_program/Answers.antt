@@ -7,6 +7,7 @@ use Rattle.nwq_top.specs.Command.{MayWrite}
 use Rattle.nwq_top.specs.Program.{status_numbered}
 use Rattle.nwq_top.proofs.Meaning.{same_meaning}
 use Rattle.nwq_top.proofs.WordLemmas.{same_work}
+use Rattle.nwq_top.proofs.ReadLemmas.{same_reads}
 use Rattle.nwq_top.proofs.program.nwq_program.Goals as goal
 
 pub returns-clause-names : goal.returns-clause-names
@@ -30,3 +31,9 @@ returns-clause-means g c = λ files_tell sink_tells.
     (g.F.Files.contents c.args.files.now) (g.S.Sink.taken c.args.out.now) (ending c.status_of_words-status.result)
     (g.F.Files.contents c.status_of_words-status.new.files) (g.S.Sink.taken c.status_of_words-status.new.out)
     (c.contents_are_bytes.ensures.bytes files_tell) whole (c.status_of_words-status.ensures.does files_tell sink_tells))
+
+pub returns-clause-once : goal.returns-clause-once
+returns-clause-once g c = λ files_tell sink_tells.
+    same_reads c.after_name.result.now (drop 1 c.args.all.now) c.status_of_words-status.result (status_numbered c.number_of.result) (g.F.Files.contents c.args.files.now)
+    (g.F.Files.reads c.args.files.now) (g.F.Files.reads c.status_of_words-status.new.files) c.after_name.ensures (sym c.number_of.ensures.status)
+    (c.status_of_words-status.ensures.once files_tell sink_tells)

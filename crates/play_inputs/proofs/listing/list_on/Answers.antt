@@ -2,6 +2,8 @@ use Rattle.std.proofs.Common.{length, ◌∙◌, refl, sym, subst, ◌+◌}
 use Rattle.ncs_machine.specs.Host.{script_of, scripts_of}
 use Rattle.command_work.specs.KeepsLemmas.{keeps_all}
 use Rattle.play_inputs.specs.Listings.{IsSourceFile}
+use Rattle.play_inputs.specs.Reads.{none}
+use Rattle.play_inputs.proofs.ReadLemmas.{lines_on, lines_done}
 use Rattle.play_inputs.proofs.ListingLemmas.{SoFar, begins, names_begin, goes_on, stops, cut_on, is_done, named_at, keeps_on, meets_on, stands_on, names_on, scripts_on, count_on}
 use Rattle.std.proofs.Common.{arith}
 use Rattle.play_inputs.proofs.listing.list_on.Goals as goal
@@ -15,6 +17,7 @@ loop-line-init g c = (
   c.requires.stand,
   names_begin c.args.scripts.now c.args.lines.now,
   omega arith,
+  λ tells. none (g.F.Files.contents c.args.files.now) (g.F.Files.reads c.args.files.now),
 )
 
 pub loop-line-preserved : goal.loop-line-preserved
@@ -38,6 +41,9 @@ loop-line-preserved g c =
       names_on c.loop-line.scripts c.push.new.self c.in-Ok.script pushed c.args.scripts.now c.args.lines.now c.loop-line.line-index c.line-item.result _
           c.loop-line-test.true c.line-item.is c.in-Ok.ensures.name c.loop-line.invariant.5,
       count_on c.loop-line.scripts c.push.new.self c.in-Ok.script pushed (length c.args.scripts.now) c.loop-line.line-index c.loop-line.invariant.6,
+      λ tells. lines_on c.args.lines.now c.loop-line.line-index c.line-item.result _ c0 (g.F.Files.contents c.loop-line.files) c1 (g.F.Files.reads c.args.files.now)
+          (g.F.Files.reads c.loop-line.files) (g.F.Files.reads c.read_script.new.files) c.loop-line-test.true c.line-item.is (c.loop-line.invariant.7 tells)
+          (c.in-Ok.ensures.once tells) c.in-Ok.ensures.names,
     )
 
 pub read_script-requires : goal.read_script-requires
@@ -76,3 +82,8 @@ returns-clause-does g c = λ files_tell sink_tells.
     is_done g.F.Files.tells g.S.Sink.tells c.args.table.now c.args.lines.now (scripts_of c.args.scripts.now) (g.F.Files.contents c.args.files.now)
     (g.S.Sink.taken c.args.out.now) c.loop-line.line-index (scripts_of c.loop-line.scripts)
     (g.F.Files.contents c.loop-line.files) (g.S.Sink.taken c.loop-line.out) c.loop-line.invariant.0 c.loop-line-test.false files_tell sink_tells
+
+pub returns-clause-once : goal.returns-clause-once
+returns-clause-once g c = λ tells.
+    lines_done c.args.lines.now c.loop-line.line-index (g.F.Files.contents c.args.files.now) (g.F.Files.contents c.loop-line.files) (g.F.Files.reads c.args.files.now)
+    (g.F.Files.reads c.loop-line.files) c.loop-line-test.false (c.loop-line.invariant.7 tells)

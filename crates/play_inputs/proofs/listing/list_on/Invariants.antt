@@ -1,9 +1,10 @@
-use Rattle.std.proofs.Common.{◌≡◌, ◌+◌, ◌++◌, length, take}
+use Rattle.std.proofs.Common.{◌≡◌, ◌+◌, ◌++◌, length, take, IsTrue}
 use Rattle.stack_rules.specs.Laws.{AllMeet}
 use Rattle.stack_check.specs.Checked.{AllStand}
 use Rattle.ncs_machine.specs.Host.{scripts_of, tables_of}
 use Rattle.command_work.specs.Counts.{Counted, KeepsBut}
 use Rattle.play_inputs.specs.Listings.{IsSourceFile, line_names, loaded_names}
+use Rattle.play_inputs.specs.Reads.{ReadsLines}
 use Rattle.play_inputs.proofs.ListingLemmas.{SoFar}
 use Rattle.play_inputs.proofs.listing.list_on.Given as goal
 
@@ -18,3 +19,5 @@ invariant-loop-line g l =
     × AllStand l.table (scripts_of l.scripts) (tables_of l.scripts)
     × (loaded_names l.scripts ≡ loaded_names l.fn.scripts ++ line_names (take l.line-index l.lines))
     × (length l.scripts ≡ length l.fn.scripts + l.line-index)
+    × (IsTrue g.F.Files.tells → ReadsLines (take l.line-index l.lines) (g.F.Files.contents l.fn.files) (g.F.Files.contents l.files)
+    (g.F.Files.reads l.fn.files) (g.F.Files.reads l.files))

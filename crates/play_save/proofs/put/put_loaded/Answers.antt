@@ -1,4 +1,4 @@
-use Rattle.std.proofs.Common.{List, ◌++◌, ap, refl, ◌∙◌, subst}
+use Rattle.std.proofs.Common.{◌++◌, ap, refl, ◌∙◌, subst}
 use Rattle.std.specs.List.{AllByRecursion}
 use Rattle.ncs_machine.specs.declared.scripts.Loaded.{Loaded}
 use Rattle.state_format.specs.Fields.{Fields, joined, script_fields}

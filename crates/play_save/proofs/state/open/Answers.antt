@@ -6,6 +6,7 @@ use Rattle.ncs_machine.specs.Host.{scripts_of, tables_of}
 use Rattle.ncs_machine.specs.Stored.{StatesFit}
 use Rattle.play_save.specs.Rules.{IsAreaOf}
 use Rattle.play_save.proofs.CapturedLemmas.{items_if, entries_if}
+use Rattle.play_save.proofs.Scripts.{holds_scripts}
 use Rattle.play_save.proofs.Opening.{all_code, all_meet, all_stand, same_parts, small_names, few_scripts, states_fit}
 use Rattle.play_save.proofs.state.open.Goals as goal
 
@@ -15,12 +16,13 @@ returns-in-Ok c =
     let p = c.args.prepared in
     let is = c.requires.prepared in
     let limits = c.requires.accepted.1.1.1.0 in
+    let held = holds_scripts s p is limits.bounds.scripts in
     let states = c.requires.accepted.1.1.1.1.1.0 in
     record {
       header = is.header;
       play = record {
         header = refl;
-        scripts = sym (same_parts p.table s.scripts p.scripts (small_names s.scripts limits.names.names) is.scripts);
+        scripts = sym (same_parts p.table s.scripts p.scripts (small_names s.scripts limits.names.names) held.scripts);
         area = refl;
         limit = refl;
         entries = refl;
@@ -32,10 +34,10 @@ returns-in-Ok c =
         area = subst (λ (a : PlainArea). IsAreaOf a.tree s.area) (sym is.area.area) is.area.of;
         world = c.in-Ok.ensures.world;
       };
-      few = few_scripts p.table s.scripts p.scripts limits.bounds.scripts is.scripts;
-      code = all_code p.table s.scripts p.scripts is.scripts;
-      meets = all_meet p.table s.scripts p.scripts is.scripts;
-      stand = all_stand p.table s.scripts p.scripts is.scripts;
+      few = few_scripts p.table s.scripts p.scripts limits.bounds.scripts held.scripts;
+      code = all_code p.table s.scripts p.scripts held.scripts;
+      meets = all_meet p.table s.scripts p.scripts held.scripts;
+      stand = all_stand p.table s.scripts p.scripts held.scripts;
       fit = subst (λ (w : World Saved). StatesFit (scripts_of p.scripts) (tables_of p.scripts) w) (sym c.in-Ok.ensures.world)
-          (states_fit p.scripts p.area.tree s (items_if s p is states) (entries_if s p is states));
+          (states_fit p.scripts p.area.tree s (items_if s p held states) (entries_if s p held states));
     }

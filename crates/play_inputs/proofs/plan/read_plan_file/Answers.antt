@@ -1,0 +1,8 @@
+use Rattle.play_inputs.proofs.ReadLemmas.{plan_read}
+use Rattle.play_inputs.proofs.plan.read_plan_file.Goals as goal
+
+pub returns-in-Ok-clause-has : goal.returns-in-Ok-clause-has
+returns-in-Ok-clause-has g c = λ files_tell sink_tells.
+    plan_read c.plan_of_bytes.result (g.F.Files.contents c.args.files.now) c.args.name.now c.in-Ok.bytes c.as_slice.result.now (g.S.Sink.taken c.args.out.now)
+    (g.F.Files.contents c.read_file.new.files) (g.S.Sink.taken c.read_file.new.out) c.as_slice.ensures.items (c.in-Ok.ensures.does files_tell sink_tells)
+    c.plan_of_bytes.ensures.has
