@@ -153,6 +153,7 @@ impl Trial for Disks {
 }
 
 /// The hook of this number, below 10, finds no memory.
+#[derive(Drop)]
 struct Refusing {
     hook: u8,
 }
