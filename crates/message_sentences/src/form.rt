@@ -1,7 +1,9 @@
 //! The parts of a message.
 
 ghost use Rattle.std.specs.Prelude.{◌≡◌, ◌++◌, ◌≤◌, ◌↔◌, length, IsTrue, OnOk};
+ghost use Rattle.std.specs.Fmt.{decimal};
 ghost use Rattle.std.specs.List.{list_all};
+ghost use Rattle.nwq_text.specs.Line.{line_number};
 ghost use Rattle.nwq_value.specs.Limits.{file_limit};
 ghost use Rattle.message_text.specs.Shown.{Appends};
 ghost use Rattle.message_sentences.specs.Form as spec;
@@ -86,8 +88,16 @@ pub fn put_name(out: &mut Vec<u8>, name: &[u8]) -> Result<(), NoMemory>
     }
 }
 
+/// Appends the number of the line of a place.
+fn put_line_number(out: &mut Vec<u8>, bytes: &[u8], at: u32) -> Result<(), NoMemory>
+    requires size { length bytes.now ≤ file_limit }
+    requires place { at ≤ length bytes.now }
+    ensures { OnOk result (out.new.items ≡ out.old.items ++ decimal (line_number bytes.now at)) }
+{
+    put_count(out, u64::from(line_of(bytes, at)))
+}
+
 /// Appends the name of a file, and the line and column of a place of it.
-#[tactic(auto, using(crate::proofs::FormLemmas::spot_shown))]
 fn put_spot(out: &mut Vec<u8>, name: &[u8], bytes: &[u8], at: u32) -> Result<(), NoMemory>
     requires size { length bytes.now ≤ file_limit }
     requires place { at ≤ length bytes.now }
@@ -96,13 +106,12 @@ fn put_spot(out: &mut Vec<u8>, name: &[u8], bytes: &[u8], at: u32) -> Result<(),
 {
     put_name(out, name)?;
     put_words(out, ":")?;
-    put_count(out, u64::from(line_of(bytes, at)))?;
+    put_line_number(out, bytes, at)?;
     put_words(out, ":")?;
     put_count(out, column(bytes, at as usize))
 }
 
 /// Begins a message on a place of a file.
-#[tactic(auto, using(crate::proofs::FormLemmas::head_shown))]
 pub fn put_head(out: &mut Vec<u8>, name: &[u8], bytes: &[u8], at: u32) -> Result<(), NoMemory>
     requires size { length bytes.now ≤ file_limit }
     requires place { at ≤ length bytes.now }
@@ -125,7 +134,6 @@ fn put_note_text(out: &mut Vec<u8>, sentence: &str, piece: &[u8]) -> Result<(), 
 
 /// Appends a note on a place of a file: a sentence with the escaped piece for each `%`, and the
 /// line of the place with a caret.
-#[tactic(auto, using(crate::proofs::FormLemmas::note_at_shown))]
 pub fn put_note_at(
     out: &mut Vec<u8>,
     name: &[u8],
@@ -145,7 +153,6 @@ pub fn put_note_at(
 }
 
 /// Appends a note on a whole file.
-#[tactic(auto, using(crate::proofs::FormLemmas::note_shown))]
 pub fn put_note(
     out: &mut Vec<u8>,
     name: &[u8],
@@ -169,7 +176,6 @@ pub fn put_kind(out: &mut Vec<u8>, kind: &[u8]) -> Result<(), NoMemory>
 }
 
 /// Ends a message on a place of a file.
-#[tactic(auto, using(crate::proofs::FormLemmas::end_shown))]
 pub fn put_end(out: &mut Vec<u8>, kind: &[u8], bytes: &[u8], at: u32) -> Result<(), NoMemory>
     requires place { at ≤ length bytes.now }
     ensures shows { OnOk result (Appends (ShowsEnd kind.now bytes.now at)
