@@ -13,7 +13,7 @@ use Rattle.stack_check.specs.declared.leads.Lead.TheVariants.{One, Two}
 use Rattle.stack_lists.specs.Held.{IsIn, shape_of}
 use Rattle.stack_lists.specs.Rows.{row_in}
 use Rattle.stack_lists.specs.declared.todo.Spot.{Spot}
-use Rattle.stack_lists.specs.Worklist.{CallKept, Worklist, calls_of, waiting}
+use Rattle.stack_lists.specs.Worklist.{CallKept, Worklist, waiting}
 use Rattle.stack_check.specs.Inference.{IsKept, IsNext, Keeps, NothingNew, Visited, WhereQuiet, Owed, RowIs, Reached, RowsKept, Takes, AllLed, after_change}
 use Rattle.stack_check.specs.Facts.{FindsMore}
 use Rattle.stack_check.proofs.Left.{more_row}
@@ -151,11 +151,8 @@ waits_after a b c Bad k h = tt
 pub next_of : (a b : Worklist) (spot : Spot) → waiting b ≡ waiting a ++ spot ∷ [] → IsNext b spot
 next_of a b spot h = record { others = waiting a; is = h }
 
-pub kept_of : (a b : Worklist) (target : ℕ) (spot : Spot) → CallKept a b target spot → IsKept b target spot
-kept_of a b target spot k = elim k.here [
-  | inl e ↦ record { others = calls_of a target; is = e }
-  | inr e ↦ record { others = e.1.0; is = e.0 ∙ e.1.1 }
-]
+pub kept_of : (a b : Worklist) (target : ℕ) (spot : Spot) → CallKept a b (record { spot = spot; target = target }) → IsKept b target spot
+kept_of a b target spot k = k.here
 
 pub ruleset nexting = (next_of)
 

@@ -54,7 +54,12 @@ look_sees header code heap heap' facts facts' number place held seen r s = recor
     quiet Changed q = tt
     quiet Bad q = tt
 
-pub ruleset looking = (look_none, look_sees)
+pub row_sees : (header : EngineTable) (code : List PlainOp) (heap heap' : Heap) (facts facts' : Facts) (number place : ℕ) (held : Held) (seen : Seen)
+    → row_in facts.rows number place ≡ Some held → Sees header code heap heap' facts facts' number place held seen
+    → SeesRow header code heap heap' facts facts' number place seen
+row_sees header code heap heap' facts facts' number place held seen r s = look_sees header code heap heap' facts facts' number place held seen (sym r) s
+
+pub ruleset looking = (look_none, look_sees, row_sees)
 
 -- ---- the rows
 

@@ -30,7 +30,7 @@ use Rattle.stack_lists.specs.Shared.{read}
 use Rattle.stack_lists.specs.Held.{HeapGrows, IsIn, shape_of}
 use Rattle.stack_lists.specs.Rows.{RowAdded, row_in}
 use Rattle.stack_lists.specs.declared.todo.Spot.{Spot}
-use Rattle.stack_lists.specs.Worklist.{CallersAdded, Worklist, calls_of, waiting}
+use Rattle.stack_lists.specs.Worklist.{CallersAdded, IsAmong, Worklist, calls_of, waiting}
 use Rattle.stack_check.specs.Facts.{FindsMore, current, first_place, first_held, callee_of, trial_table, unseen_cells, unseen_under}
 
 -- ---- the facts hang together
@@ -186,9 +186,8 @@ pub record IsNext (w : Worklist) (spot : Spot) : Type 0 where
   pub is : waiting w ≡ others ++ spot ∷ []
 
 -- the call is kept of the routine that begins there, so it is looked at when more is known of that
-pub record IsKept (w : Worklist) (target : ℕ) (spot : Spot) : Type 0 where
-  pub others : List Spot
-  pub is : calls_of w target ≡ spot ∷ others
+abbrev pub IsKept : Worklist → ℕ → Spot → Type 0
+IsKept w target spot = IsAmong (calls_of w target) (record { spot = spot; target = target })
 
 -- ---- one shape
 

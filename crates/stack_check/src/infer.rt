@@ -1,5 +1,6 @@
 ghost use Rattle.std.specs.Prelude.{◌≡◌, ◌<◌, ◌≤◌, ◌+◌, ◌^◌, [], false, true, IfOk, IfSome};
-ghost use Rattle.std.specs.Prelude.{MatchOption};
+ghost use Rattle.std.specs.Prelude.{MatchOption, Some};
+ghost use Rattle.stack_lists.specs.Rows.{row_in};
 ghost use Rattle.stack_rules.specs.Rules.{WellStacked};
 ghost use Rattle.stack_lists.specs.Worklist.{waiting};
 ghost use Rattle.stack_check.specs.Facts.{found, left};
@@ -13,7 +14,9 @@ use crate::seen::Seen;
 use crate::visit::visit;
 use ncs_file::Code;
 use nwq_value::{Items, NoMemory, Table};
-use stack_lists::{Heap, Held, Lists, Places, Rows, Spot, Stacks, Todo, rows_are_numbered};
+use stack_lists::{
+    Heap, Held, Lists, Places, Rows, ShapeRow, Spot, Stacks, Todo, rows_are_numbered,
+};
 use stack_shape::Entry;
 use std::alloc::Global;
 
@@ -69,6 +72,30 @@ fn drain(
     Ok(Seen::Quiet)
 }
 
+/// Looks at the shape of a row.
+#[tactic(auto, using(crate::proofs::Passing::looking))]
+fn look_row(
+    alloc: Global,
+    judged: &Judged<'_>,
+    heap: &mut Heap,
+    facts: &mut Facts,
+    todo: &mut Todo,
+    row: ShapeRow,
+) -> Result<Seen, NoMemory>
+    requires keeps { Keeps judged.now.table.now judged.now.code.now heap.old facts.old }
+    requires found { row_in facts.old.rows row.trial row.place ≡ Some row.held }
+    ensures sees { IfOk result (λ seen. SeesRow judged.now.table.now judged.now.code.now heap.old
+        heap.new facts.old facts.new row.trial row.place seen) }
+{
+    let from = Found {
+        trial: row.trial,
+        place: row.place,
+        held: row.held,
+    };
+    let seen = visit(alloc, judged, heap, facts, todo, from)?;
+    Ok(seen)
+}
+
 /// Looks at all shapes, up to the first that is not quiet. If all are, the table that was found
 /// meets the rules.
 #[tactic(auto, using(crate::proofs::Passing::passing))]
@@ -92,7 +119,7 @@ fn pass(
             }
             Some(row) => row,
         };
-        let seen = look(alloc, judged, heap, facts, todo, row.trial, row.place)?;
+        let seen = look_row(alloc, judged, heap, facts, todo, row)?;
         match seen {
             Seen::Quiet => {}
             Seen::Changed => return Ok(Seen::Changed),

@@ -5,3 +5,4 @@ pub mod Numbers
 pub mod RowLemmas
 pub mod Links
 mod Worklists
+pub mod RowListLemmas

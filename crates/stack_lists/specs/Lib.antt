@@ -4,4 +4,5 @@ pub mod Held
 pub mod Growth
 pub mod Stacks
 pub mod Rows
+pub mod RowLists
 pub mod Worklist

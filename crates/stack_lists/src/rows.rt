@@ -6,7 +6,8 @@ ghost use Rattle.stack_lists.specs.Rows.{IsKept, RowAdded, StillKept, held_in, r
 use crate::budget::room;
 use crate::held::Held;
 use crate::places::Places;
-use nwq_value::{Items, NoMemory};
+use crate::row_list::RowList;
+use nwq_value::NoMemory;
 use std::alloc::Global;
 use std::collections::BTreeMap;
 use std::marker::Model;
@@ -22,7 +23,7 @@ pub struct ShapeRow {
 /// The rows, each of a trial and a place of its own. The first row of a place is found by the place
 /// alone, so code that control enters at few places needs no index.
 pub struct Rows {
-    rows: Items<ShapeRow>,
+    rows: RowList,
     /// By half of the place, since an instruction takes two bytes at least: one more than the
     /// number of the first row there.
     firsts: Places,
@@ -90,7 +91,7 @@ impl Rows {
         ensures empty { result ≡ [] }
     {
         Rows {
-            rows: Items::new(alloc),
+            rows: RowList::new(alloc),
             firsts: Places::new(alloc),
             index: BTreeMap::new(alloc),
         }
@@ -114,7 +115,7 @@ impl Rows {
     {
         match self.rows.get(number) {
             None => None,
-            Some(row) => Some(*row),
+            Some(row) => Some(row),
         }
     }
 

@@ -1,8 +1,9 @@
 ghost use Rattle.std.specs.Prelude.{◌≡◌, ◌++◌, ◌∷◌, ◌↔◌, [], ℕ, MatchOption, OnOk, IsTrue, get_or};
+ghost use Rattle.std.specs.Prelude.{map, true, false};
 ghost use Rattle.stack_lists.specs.Rows.{PutAt};
 ghost use Rattle.stack_lists.specs.Shared.{read};
 ghost use Rattle.stack_lists.specs.Worklist.{CallKept, CallersAdded, SameCalls, calls_of, growths};
-ghost use Rattle.stack_lists.specs.Worklist.{waiting};
+ghost use Rattle.stack_lists.specs.Worklist.{IsMarked, spot_of, waiting};
 
 use crate::budget::room;
 use crate::lists::Lists;
@@ -16,6 +17,13 @@ use std::marker::Model;
 pub struct Spot {
     pub trial: u32,
     pub place: u32,
+}
+
+/// A call: where it stands, and the place at which the routine begins that it calls.
+#[derive(Clone, Copy, PartialEq, Eq)]
+pub struct Call {
+    pub spot: Spot,
+    pub target: u32,
 }
 
 /// The two lists of a trial.
@@ -33,9 +41,13 @@ pub struct Todo {
     /// Calls that are looked at again once there is nothing else.
     later: Vec<Spot>,
     /// The calls of each routine, as lists; they are looked at again when more is known of it.
-    calls: Lists<Spot>,
+    calls: Lists<Call>,
     /// By the place at which a routine begins: the number of the list of its calls.
     called: Places,
+    /// By half of a call's place: the number of the list whose top it is, as it was kept last.
+    marks: Places,
+    /// By half of the place at which a routine begins: a mark up to this number counts no more.
+    past: Places,
     /// By trial: the place of the call that made its window of the cells grow last, 0 where no call
     /// did.
     cells: Places,
@@ -46,7 +58,7 @@ pub struct Todo {
 }
 
 impl Model for Todo {
-    ghost use Rattle.stack_lists.specs.Worklist.{AreThere, Worklist};
+    ghost use Rattle.stack_lists.specs.Worklist.{AreMarked, AreThere, Worklist};
 
     ghost Value = { Worklist };
 
@@ -55,6 +67,8 @@ impl Model for Todo {
       later = t.later.items;
       calls = t.calls;
       called = t.called;
+      marks = t.marks;
+      past = t.past;
       cells = t.cells;
       under = t.under;
     } };
@@ -62,24 +76,26 @@ impl Model for Todo {
     ghost use Rattle.std.specs.Prelude.{◌≤◌, length};
     ghost use Rattle.stack_lists.specs.Budget.{most};
 
-    ghost invariant = { λ t. AreThere t.calls t.called × (length t.calls ≤ most) };
+    ghost invariant = { λ t. AreThere t.calls t.called
+        × AreMarked t.calls t.called t.marks t.past × (length t.calls ≤ most) };
 }
 
 /// Whether both are the same.
-fn is_same(a: Spot, b: Spot) -> bool
+fn is_same(a: Call, b: Call) -> bool
     ensures { IsTrue result ↔ (a ≡ b) }
 {
     a == b
 }
 
-/// Puts a list of spots last, its top first.
+/// Puts where a list of calls stand last, its top first.
 #[tactic(auto, using(crate::proofs::Worklists::adding))]
-fn put_all(spots: &mut Vec<Spot>, calls: &Lists<Spot>, number: u32) -> Result<(), NoMemory>
-    ensures put { OnOk result (spots.new.items ≡ spots.old.items ++ read calls.now number) }
+fn put_all(spots: &mut Vec<Spot>, calls: &Lists<Call>, number: u32) -> Result<(), NoMemory>
+    ensures put { OnOk result (spots.new.items ≡ spots.old.items
+        ++ map spot_of (read calls.now number)) }
 {
     let mut at = number;
-    while let Some((spot, below)) = calls.pop(at) {
-        spots.push(spot)?;
+    while let Some((call, below)) = calls.pop(at) {
+        spots.push(call.spot)?;
         at = below;
     }
     Ok(())
@@ -96,6 +112,8 @@ impl Todo {
             later: Vec::new(alloc),
             calls: Lists::new(alloc),
             called: Places::new(alloc),
+            marks: Places::new(alloc),
+            past: Places::new(alloc),
             cells: Places::new(alloc),
             under: Places::new(alloc),
             grown: 0,
@@ -125,22 +143,40 @@ impl Todo {
         Ok(())
     }
 
-    /// Keeps a call of the routine that begins at `target`. What is to be looked at stays.
-    /// `NoMemory` comes where memory is refused, and past 2^25 calls that were kept.
-    #[tactic(auto, using(crate::proofs::Worklists::keeping))]
-    pub fn add_call(&mut self, target: u32, spot: Spot) -> Result<(), NoMemory>
-        ensures same { waiting self.new ≡ waiting self.old }
-        ensures kept { OnOk result (CallKept self.old self.new target spot) }
+    /// Whether a call is kept now, by the mark at its place.
+    #[tactic(auto, using(crate::proofs::Worklists::marking))]
+    fn is_marked(&self, call: Call) -> bool
+        ensures marked { result ≡ true → IsMarked self.now call }
+        ensures none { result ≡ false → IsMarked self.now call → ⊥ }
     {
-        let below = self.called.get(target);
-        if let Some((newest, _)) = self.calls.pop(below) {
-            if is_same(newest, spot) {
-                return Ok(());
+        let number = self.marks.get(call.spot.place / 2);
+        match self.calls.pop(number) {
+            None => false,
+            Some((kept, _)) => {
+                if number <= self.past.get(call.target / 2) {
+                    return false;
+                }
+                is_same(kept, call)
             }
         }
+    }
+
+    /// Keeps a call of a routine, once for its spot. What is to be looked at stays. `NoMemory`
+    /// comes where memory is refused, and past 2^25 calls that were kept.
+    #[tactic(auto, using(crate::proofs::Worklists::keeping))]
+    pub fn add_call(&mut self, call: Call) -> Result<(), NoMemory>
+        ensures same { waiting self.new ≡ waiting self.old }
+        ensures kept { OnOk result (CallKept self.old self.new call) }
+    {
+        if self.is_marked(call) {
+            return Ok(());
+        }
         room(self.calls.len())?;
-        let number = self.calls.push(below, spot)?;
-        self.called.put(target, number)
+        let below = self.called.get(call.target);
+        let number = self.calls.push(below, call)?;
+        self.called.put(call.target, number)?;
+        self.marks.put(call.spot.place / 2, number)?;
+        Ok(())
     }
 
     /// Has the calls of a routine looked at again, after the spots that are looked at first.
@@ -149,6 +185,7 @@ impl Todo {
         ensures added { OnOk result (CallersAdded self.old self.new target) }
     {
         let number = self.called.get(target);
+        self.past.put(target / 2, self.calls.len() as u32)?;
         self.called.put(target, 0)?;
         put_all(&mut self.later, &self.calls, number)
     }

@@ -8,7 +8,7 @@ rows-smaller c =
 
 pub rows-preserved : goal.rows-preserved
 rows-preserved c =
-    all_step c.args.judged.now.table.now c.args.judged.now.code.now c.args.heap.now c.rows.heap c.look.new.heap c.args.facts.now c.rows.facts c.look.new.facts c.rows.number _ c.in-Some.row
+    all_step c.args.judged.now.table.now c.args.judged.now.code.now c.args.heap.now c.rows.heap c.look_row.new.heap c.args.facts.now c.rows.facts c.look_row.new.facts c.rows.number _ c.in-Some.row
     c.in_ok-seen.seen c.rows.invariant (sym c.in-Some.ensures.row) c.in_ok-seen.ensures.sees c.in-Quiet.is refl
 
 pub returns-in-None : goal.returns-in-None

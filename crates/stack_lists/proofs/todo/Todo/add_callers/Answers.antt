@@ -10,7 +10,9 @@ returns c = record {
     first = c.self.inside.first.items;
     later = c.put_all.new.spots.items;
     calls = c.self.inside.calls;
-    called = c.put.new.self;
+    called = c.put-2.new.self;
+    marks = c.self.inside.marks;
+    past = c.put.new.self;
     cells = c.self.inside.cells;
     under = c.self.inside.under;
   }) c.args.target)) c.self.view_is
@@ -19,8 +21,10 @@ returns c = record {
         later = c.self.inside.later.items;
         calls = c.self.inside.calls;
         called = c.self.inside.called;
+        marks = c.self.inside.marks;
+        past = c.self.inside.past;
         cells = c.self.inside.cells;
         under = c.self.inside.under;
       })
-      _ c.args.target c.get-number.result c.put_all.result refl refl c.get-number.ensures.number c.put_all.ensures.put c.in_ok-put.ensures.put);
+      _ c.args.target c.get-number.result c.put_all.result refl refl c.get-number.ensures.number c.put_all.ensures.put c.in_ok-put-2.ensures.put);
 }
