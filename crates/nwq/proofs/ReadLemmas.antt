@@ -35,7 +35,7 @@ whole_reads form (Err status) c d before mid now same tables (inr h) =
 -- the tables are refused
 pub refused_reads : (form : Form) (status : Status) (c : Contents) (before now : ℕ) → StopsArea status → ReadsSomeTables (list_of form) c before now
     → ReadsWhole form (ending status) c before now
-refused_reads form status c before now no h = stops status (refusal_ends status no) h
+refused_reads form status c before now stays h = stops status (refusal_ends status stays) h
 
 -- words that are no form lead to no file
 pub none_read : (r : Result Finished Status) (c : Contents) (count : ℕ) → ReadsWhole NoForm r c count count
