@@ -1,5 +1,5 @@
 //! How the program ends.
-ghost use Rattle.std.specs.Prelude.{◌≡◌, IsTrue};
+ghost use Rattle.std.specs.Prelude.{◌≡◌, true, IsTrue};
 ghost use Rattle.std.specs.Process.{exit_status};
 ghost use Rattle.command_work.specs.Work.{IsCut, Does, ending};
 ghost use Rattle.command_work.specs.Counts.{Counted, Tallies, KeepsBut};
@@ -10,11 +10,13 @@ ghost use Rattle.nwq_top.specs.Cuts.{IsFrontOf};
 ghost use Rattle.nwq_top.specs.Endings.{ComesOf};
 ghost use Rattle.nwq_top.specs.Meaning.{MeansWhole};
 ghost use Rattle.nwq_top.specs.Program.{status_number, status_numbered, words_of};
+ghost use Rattle.nwq_top.specs.Reads.{ReadsWhole};
 ghost use Rattle.telling_sink.specs.Told.{Told};
 ghost use Rattle.nwq.specs.Ending.{EndsWanting, form_in};
 
+use crate::messages::Messages;
 use crate::whole::run_all;
-use command_messages::{End, LastLine, tell_end};
+use command_messages::{End, LastLine};
 use kept_files::{Again, KeptFiles};
 use nwq_outside::{Files, MemFiles, Sink};
 use nwq_top::Remarks;
@@ -82,9 +84,10 @@ fn told<F: Watched, S: Sink, E: Sink>(
     remarks: Remarks,
     files: &F,
     out: &LastLine<S>,
-    err: &mut E,
+    err: &mut Messages<E>,
 ) -> ExitCode
     ensures number { exit_status result ≡ number }
+    ensures said { err.new.told ≡ true }
 {
     let end = End {
         number,
@@ -94,7 +97,7 @@ fn told<F: Watched, S: Sink, E: Sink>(
         no_text: words.no_text(),
     };
     let mut again = Again::of(files.kept());
-    tell_end(alloc, words.as_slice(), end, &mut again, err);
+    err.tell(alloc, words.as_slice(), end, &mut again);
     ExitCode::from(number)
 }
 
@@ -127,6 +130,9 @@ fn run_words<F: Files, S: Sink>(
     ensures changes { IsTrue F.tells →
         KeepsBut (MayChange (form_in words.now) (F.contents files.old)
         (ending (status_numbered result))) (F.contents files.old) (F.contents files.new) }
+    ensures once { IsTrue F.tells →
+        ReadsWhole (form_in words.now) (ending (status_numbered result))
+        (F.contents files.old) (F.reads files.old) (F.reads files.new) }
     ensures only { ComesOf (form_in words.now) (status_numbered result) }
 {
     run_all(alloc, words.as_slice(), files, out, remarks)
@@ -162,6 +168,9 @@ fn number_of<F: Files, S: Sink>(
     ensures changes { IsTrue F.tells →
         KeepsBut (MayChange (form_in words.now) (F.contents files.old)
         (ending (status_numbered result))) (F.contents files.old) (F.contents files.new) }
+    ensures once { IsTrue F.tells →
+        ReadsWhole (form_in words.now) (ending (status_numbered result))
+        (F.contents files.old) (F.reads files.old) (F.reads files.new) }
     ensures only { ComesOf (form_in words.now) (status_numbered result) }
     ensures memory { EndsWanting words.now result }
 {
@@ -180,7 +189,7 @@ pub(crate) fn end_of<F: Files + Watched, S: Sink, E: Sink>(
     words: Words,
     files: &mut F,
     out: &mut LastLine<S>,
-    err: &mut E,
+    err: &mut Messages<E>,
 ) -> ExitCode
     // It ends with the number of a status, by which these say what it did.
     ensures number { status_number (status_numbered (exit_status result)) ≡ exit_status result }
@@ -206,9 +215,15 @@ pub(crate) fn end_of<F: Files + Watched, S: Sink, E: Sink>(
         KeepsBut (MayChange (form_in words) (F.contents files.old)
         (ending (status_numbered (exit_status result))))
         (F.contents files.old) (F.contents files.new) }
+    // What the words lead to is read once: the tables, and then what the command reads.
+    ensures once { IsTrue F.tells →
+        ReadsWhole (form_in words) (ending (status_numbered (exit_status result)))
+        (F.contents files.old) (F.reads files.old) (F.reads files.new) }
     ensures only { ComesOf (form_in words) (status_numbered (exit_status result)) }
     // Where there was no memory for the words, it ends as where a command wants it.
     ensures memory { EndsWanting words (exit_status result) }
+    // And the end is told to standard error, whichever it is.
+    ensures said { err.new.told ≡ true }
 {
     let mut remarks = Remarks::none();
     let number = number_of(alloc, &words, files, out, &mut remarks);

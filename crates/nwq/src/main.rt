@@ -4,29 +4,35 @@
 #![tactic(auto)]
 
 mod end;
+mod messages;
 #[cfg(test)]
 mod tests;
 mod whole;
 
+ghost use Rattle.nwq.specs.Ending.{AreHandedIn};
+
 use crate::end::{Words, end_of};
+use crate::messages::Messages;
 use command_messages::LastLine;
 use kept_files::KeptFiles;
 use nwq_outside::RealSink;
 use nwq_value::NoMemory;
 use real_files::{HostDisk, RealFiles};
-use std::env;
-use std::env::{Env, FillError};
+use std::env::{Args, Env, FillError};
 use std::io::ErrorKind;
 use std::process::ExitCode;
+use std::{env, io};
 
 /// How many words are searched at most for the one that is no text, and how long it is.
 const MOST_WORDS: usize = 64;
 
 const MOST_OF_A_WORD: usize = 4_096;
 
-/// The program's name and the words after it.
-fn all_words(rt: &HostRuntime) -> Words {
-    match env::args(rt) {
+/// The program's name and the words after it, by what the host answers.
+fn words_by(rt: &HostRuntime, answer: io::Result<Args>) -> Words
+    ensures handed { AreHandedIn answer result }
+{
+    match answer {
         Ok(all) => match all.collect(rt.alloc()) {
             Ok(all) => Words::All(all),
             Err(_) => Words::NoMemory,
@@ -71,12 +77,12 @@ fn host_files(rt: &HostRuntime) -> Option<RealFiles<HostDisk<HostRuntime>>> {
 }
 
 fn main(rt: HostRuntime) -> ExitCode {
-    let words = all_words(&rt);
+    let words = words_by(&rt, env::args(&rt));
     let mut files = match host_files(&rt) {
         Some(files) => KeptFiles::new(rt.alloc(), files),
         None => return ExitCode::from(8),
     };
     let mut out = LastLine::new(rt.alloc(), RealSink::new(rt.stdout()));
-    let mut err = RealSink::new(rt.stderr());
+    let mut err = Messages::new(RealSink::new(rt.stderr()));
     end_of(rt.alloc(), words, &mut files, &mut out, &mut err)
 }

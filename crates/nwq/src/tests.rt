@@ -2,6 +2,7 @@
 //! it has ended. No crate stands on it, so these tests stand here.
 
 use crate::end::{Watched, Words, end_of};
+use crate::messages::Messages;
 use command_messages::LastLine;
 use kept_files::KeptFiles;
 use nwq_outside::{MemFiles, MemSink};
@@ -115,7 +116,7 @@ struct Left {
     code: ExitCode,
     files: KeptFiles<MemFiles>,
     out: LastLine<MemSink>,
-    err: MemSink,
+    err: Messages<MemSink>,
 }
 
 /// Before anything is done.
@@ -124,7 +125,7 @@ fn begun(alloc: Global) -> Left {
         code: ExitCode::SUCCESS,
         files: KeptFiles::new(alloc, MemFiles::new(alloc)),
         out: LastLine::new(alloc, MemSink::new(alloc)),
-        err: MemSink::new(alloc),
+        err: Messages::new(MemSink::new(alloc)),
     }
 }
 
@@ -148,7 +149,7 @@ fn is_as(left: &Left, row: &Row) -> bool {
     let (_line, code, text, told, (name, held)) = row;
     left.code == ExitCode::from(*code)
         && left.out.inner().bytes() == *text
-        && is_told(left.err.bytes(), told)
+        && is_told(left.err.inner.bytes(), told)
         && left.files.inner.get(name) == *held
 }
 
@@ -192,5 +193,30 @@ fn words_that_are_not_read(rt: HostRuntime) -> Result<(), Fail> {
     let word = Vec::from_slice(rt.alloc(), b"caf\xe9")?;
     assert!(rt; comes(rt.alloc(), Words::NoText(word), &NO_TEXT)?);
     assert!(rt; comes(rt.alloc(), Words::NoMemory, &NO_MEMORY)?);
+    Ok(())
+}
+
+/// Where standard output takes nothing: the file is written, and the message says why there is no
+/// line.
+const CLOSED: Row = (
+    "nwq compile - p",
+    7,
+    b"",
+    b"standard output: error: ",
+    ("p.ncs", Some(NOTHING)),
+);
+
+#[test]
+fn a_put_that_fails(rt: HostRuntime) -> Result<(), Fail> {
+    let mut sink = MemSink::new(rt.alloc());
+    sink.fail_at(0)?;
+    let mut left = begun(rt.alloc());
+    left.out = LastLine::new(rt.alloc(), sink);
+    run(
+        rt.alloc(),
+        Words::All(words_of(rt.alloc(), CLOSED.0)?),
+        &mut left,
+    )?;
+    assert!(rt; is_as(&left, &CLOSED));
     Ok(())
 }

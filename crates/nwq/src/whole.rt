@@ -9,7 +9,9 @@ ghost use Rattle.nwq_top.specs.Cuts.{IsFrontOf};
 ghost use Rattle.nwq_top.specs.Endings.{ComesOf};
 ghost use Rattle.nwq_top.specs.Meaning.{MeansWhole};
 ghost use Rattle.nwq_top.specs.Program.{status_number, status_numbered, words_of};
+ghost use Rattle.nwq_top.specs.Reads.{ReadsOnce, ReadsWhole};
 ghost use Rattle.telling_sink.specs.Told.{Told};
+ghost use Rattle.nwq.specs.Reads.{ReadsOrNone};
 
 use hook_table::{Call, Hooks, cell_call};
 use nwq_hooks::{all_are_put, call_function, put_cell_hook, put_hook};
@@ -47,6 +49,9 @@ fn run_hooked<F: Files, S: Sink>(
         (Counted (F.counts files.new) (S.faults out.new))) }
     ensures names { IfOk result (λ _. KeepsBut (MayWrite (form_of (words_of all.now)))
         (F.contents files.old) (F.contents files.new)) }
+    ensures once { IfOk result (λ number. IsTrue F.tells → IsTrue S.tells →
+        ReadsOnce (form_of (words_of all.now)) (ending (status_numbered number))
+        (F.contents files.old) (F.reads files.old) (F.reads files.new)) }
     ensures only { IfOk result (λ number.
         ComesOf (form_of (words_of all.now)) (status_numbered number)) }
     ensures files { OnErr result (files.new ≡ files.old) }
@@ -79,7 +84,7 @@ fn run_hooked<F: Files, S: Sink>(
 
 /// Does what the words say with hooks that look cells up in these tables: the number with which the
 /// program ends.
-#[tactic(auto, using(crate::proofs::EndLemmas::command_cut, crate::proofs::EndLemmas::memory_comes, command_work::specs::KeepsLemmas::keeps_all))]
+#[tactic(auto, using(crate::proofs::ReadLemmas::or_none, crate::proofs::EndLemmas::command_cut, crate::proofs::EndLemmas::memory_comes, command_work::specs::KeepsLemmas::keeps_all))]
 fn run_with<F: Files, S: Sink>(
     alloc: Global,
     all: &[String],
@@ -98,6 +103,9 @@ fn run_with<F: Files, S: Sink>(
         (Counted (F.counts files.new) (S.faults out.new)) }
     ensures names { KeepsBut (MayWrite (form_of (words_of all.now)))
         (F.contents files.old) (F.contents files.new) }
+    ensures once { IsTrue F.tells → IsTrue S.tells →
+        ReadsOrNone (form_of (words_of all.now)) (ending (status_numbered result))
+        (F.contents files.old) (F.reads files.old) (F.reads files.new) }
     ensures only { ComesOf (form_of (words_of all.now)) (status_numbered result) }
 {
     match run_hooked(alloc, all, tables, files, out, remarks) {
@@ -125,6 +133,9 @@ fn run_in_order<F: Files, S: Sink>(
         (Counted (F.counts files.new) (S.faults out.new)) }
     ensures names { KeepsBut (MayWrite (form_of (words_of all.now)))
         (F.contents files.old) (F.contents files.new) }
+    ensures once { IsTrue F.tells → IsTrue S.tells →
+        ReadsWhole (form_of (words_of all.now)) (ending (status_numbered result))
+        (F.contents files.old) (F.reads files.old) (F.reads files.new) }
     ensures only { ComesOf (form_of (words_of all.now)) (status_numbered result) }
 {
     match program_tables(alloc, all, files, out) {
@@ -153,6 +164,9 @@ fn run_told<'a, F: Files, S: Sink, L: Loan>(
         (Counted (F.counts files.new) (S.faults result.1.now)) }
     ensures names { KeepsBut (MayWrite (form_of (words_of all.now)))
         (F.contents files.old) (F.contents files.new) }
+    ensures once { IsTrue F.tells →
+        ReadsWhole (form_of (words_of all.now)) (ending (status_numbered result.0))
+        (F.contents files.old) (F.reads files.old) (F.reads files.new) }
     ensures only { ComesOf (form_of (words_of all.now)) (status_numbered result.0) }
 {
     let mut telling: Telling<'a, S, L> = Telling::new(out);
@@ -195,6 +209,10 @@ pub(crate) fn run_all<F: Files, S: Sink>(
     ensures changes { IsTrue F.tells →
         KeepsBut (MayChange (form_of (words_of all.now)) (F.contents files.old)
         (ending (status_numbered result))) (F.contents files.old) (F.contents files.new) }
+    // The tables' list and each table are read once, and then what the words lead to.
+    ensures once { IsTrue F.tells →
+        ReadsWhole (form_of (words_of all.now)) (ending (status_numbered result))
+        (F.contents files.old) (F.reads files.old) (F.reads files.new) }
     ensures only { ComesOf (form_of (words_of all.now)) (status_numbered result) }
 {
     whole_means();

@@ -9,6 +9,7 @@ use Rattle.nwq_top.specs.Meaning.{MeansWhole}
 use Rattle.nwq_top.specs.Program.{status_number, status_numbered}
 use Rattle.telling_sink.specs.Told.{Told}
 use Rattle.nwq.specs.Ending.{EndsWanting, form_in}
+use Rattle.nwq_top.specs.Reads.{ReadsWhole}
 use Rattle.nwq.proofs.end.end_of.Goals as goal
 
 pub returns-clause-number : goal.returns-clause-number
@@ -68,3 +69,10 @@ returns-clause-only g c =
 pub returns-clause-memory : goal.returns-clause-memory
 returns-clause-memory g c =
     subst (λ number. EndsWanting c.args.words number) (sym c.told.ensures.number) c.number_of-number.ensures.memory
+
+pub returns-clause-once : goal.returns-clause-once
+returns-clause-once g c =
+    subst
+    (λ number. IsTrue g.F.Files.tells → ReadsWhole (form_in c.args.words) (ending (status_numbered number)) (g.F.Files.contents c.args.files.now) (g.F.Files.reads c.args.files.now)
+    (g.F.Files.reads c.number_of-number.new.files))
+    (sym c.told.ensures.number) c.number_of-number.ensures.once

@@ -8,6 +8,7 @@ use Rattle.nwq_top.specs.Endings.{ComesOf}
 use Rattle.nwq_top.specs.Meaning.{MeansWhole}
 use Rattle.nwq_top.specs.Program.{status_numbered}
 use Rattle.telling_sink.specs.Told.{Told}
+use Rattle.nwq_top.specs.Reads.{ReadsWhole}
 use Rattle.nwq.proofs.end.run_words.Goals as goal
 
 pub returns-clause-does : goal.returns-clause-does
@@ -54,3 +55,10 @@ returns-clause-changes g c =
 pub returns-clause-only : goal.returns-clause-only
 returns-clause-only g c =
     subst (λ form. ComesOf form (status_numbered c.run_all.result)) c.as_slice.ensures.form c.run_all.ensures.only
+
+pub returns-clause-once : goal.returns-clause-once
+returns-clause-once g c =
+    subst
+    (λ form. IsTrue g.F.Files.tells → ReadsWhole form (ending (status_numbered c.run_all.result)) (g.F.Files.contents c.args.files.now) (g.F.Files.reads c.args.files.now)
+    (g.F.Files.reads c.run_all.new.files))
+    c.as_slice.ensures.form c.run_all.ensures.once
