@@ -2,7 +2,6 @@ ghost use Rattle.std.specs.Prelude.{◌≡◌, ◌≤◌, ◌<◌, ◌+◌, ◌^
 ghost use Rattle.nwq_value.specs.Limits.{file_limit};
 ghost use Rattle.ncs_code.specs.Plain.{Const, plain, plain_lit, Text as TextLit};
 ghost use Rattle.ncs_code.specs.Plain.{CpDownSp, CpTopSp, DecISp, IncISp, MovSp};
-ghost use Rattle.ncs_code.specs.Plain.{Add, Equal, Nequal, RsAdd};
 ghost use Rattle.ncs_code.specs.Spelling.{op_size};
 ghost use Rattle.stack_shape.specs.Laws.{offset_to};
 ghost use Rattle.decoded_code.specs.Steps.{kept, op_of, whole};
@@ -17,8 +16,7 @@ const TEXT_BYTES: u32 = 8192;
 
 /// A decoded instruction. One variant stands for each name, with its arguments as they are spelled;
 /// further ones, which are asked for first, for those that name one cell, or cells that are
-/// dropped, by numbers of cells, and for type bytes that are common. What CONST pushes is decoded
-/// too.
+/// dropped, by numbers of cells. What CONST pushes is decoded too.
 ///
 /// The variants that do more than change the cells stand last, so that one comparison tells them.
 #[derive(Drop)]
@@ -26,8 +24,6 @@ pub enum Step {
     /// CPDOWNSP of one cell, over which so many others lie.
     DownCell { above: u32 },
     CpDownSp { offset: i32, size: u16 },
-    /// RSADD of an int.
-    RsAddInt,
     RsAdd { kind: u8 },
     /// CPTOPSP of one cell, over which so many others lie.
     TopCell { above: u32 },
@@ -44,11 +40,7 @@ pub enum Step {
     IncOr,
     ExcOr,
     BoolAnd,
-    /// EQUAL of two ints.
-    EqualInts,
     Equal { kind: u8, size: u16 },
-    /// NEQUAL of two ints.
-    NequalInts,
     Nequal { kind: u8, size: u16 },
     Geq { kind: u8 },
     Gt { kind: u8 },
@@ -57,10 +49,6 @@ pub enum Step {
     ShLeft,
     ShRight,
     UshRight,
-    /// ADD of two ints.
-    AddInts,
-    /// ADD of two texts.
-    AddTexts,
     Add { kind: u8 },
     Sub { kind: u8 },
     Mul { kind: u8 },
@@ -164,52 +152,6 @@ fn more_step(offset: i32) -> Step
     }
 }
 
-/// RSADD.
-fn start_step(kind: u8) -> Step
-    ensures step { op_of result ≡ RsAdd kind }
-{
-    if kind == 0x03 {
-        Step::RsAddInt
-    } else {
-        Step::RsAdd { kind }
-    }
-}
-
-/// EQUAL.
-fn equal_step(kind: u8, size: u16) -> Step
-    ensures step { op_of result ≡ Equal kind size }
-{
-    if kind == 0x20 && size == 0 {
-        Step::EqualInts
-    } else {
-        Step::Equal { kind, size }
-    }
-}
-
-/// NEQUAL.
-fn nequal_step(kind: u8, size: u16) -> Step
-    ensures step { op_of result ≡ Nequal kind size }
-{
-    if kind == 0x20 && size == 0 {
-        Step::NequalInts
-    } else {
-        Step::Nequal { kind, size }
-    }
-}
-
-/// ADD.
-fn sum_step(kind: u8) -> Step
-    ensures step { op_of result ≡ Add kind }
-{
-    if kind == 0x20 {
-        Step::AddInts
-    } else if kind == 0x23 {
-        Step::AddTexts
-    } else {
-        Step::Add { kind }
-    }
-}
-
 /// CONST, of this size.
 #[tactic(auto, using(crate::proofs::Texts::text_lemmas))]
 fn const_step(alloc: Global, lit: &Lit<'_>, size: u32) -> Result<Step, NoMemory>
@@ -234,7 +176,7 @@ pub(crate) fn step_of(alloc: Global, op: &Op<'_>, size: u32) -> Result<Step, NoM
 {
     match op {
         Op::CpDownSp { offset, size } => Ok(down_step(*offset, *size)),
-        Op::RsAdd { kind } => Ok(start_step(*kind)),
+        Op::RsAdd { kind } => Ok(Step::RsAdd { kind: *kind }),
         Op::CpTopSp { offset, size } => Ok(top_step(*offset, *size)),
         Op::Const(lit) => const_step(alloc, lit, size),
         Op::Action { routine, count } => Ok(Step::Action {
@@ -246,8 +188,14 @@ pub(crate) fn step_of(alloc: Global, op: &Op<'_>, size: u32) -> Result<Step, NoM
         Op::IncOr => Ok(Step::IncOr),
         Op::ExcOr => Ok(Step::ExcOr),
         Op::BoolAnd => Ok(Step::BoolAnd),
-        Op::Equal { kind, size } => Ok(equal_step(*kind, *size)),
-        Op::Nequal { kind, size } => Ok(nequal_step(*kind, *size)),
+        Op::Equal { kind, size } => Ok(Step::Equal {
+            kind: *kind,
+            size: *size,
+        }),
+        Op::Nequal { kind, size } => Ok(Step::Nequal {
+            kind: *kind,
+            size: *size,
+        }),
         Op::Geq { kind } => Ok(Step::Geq { kind: *kind }),
         Op::Gt { kind } => Ok(Step::Gt { kind: *kind }),
         Op::Lt { kind } => Ok(Step::Lt { kind: *kind }),
@@ -255,7 +203,7 @@ pub(crate) fn step_of(alloc: Global, op: &Op<'_>, size: u32) -> Result<Step, NoM
         Op::ShLeft => Ok(Step::ShLeft),
         Op::ShRight => Ok(Step::ShRight),
         Op::UshRight => Ok(Step::UshRight),
-        Op::Add { kind } => Ok(sum_step(*kind)),
+        Op::Add { kind } => Ok(Step::Add { kind: *kind }),
         Op::Sub { kind } => Ok(Step::Sub { kind: *kind }),
         Op::Mul { kind } => Ok(Step::Mul { kind: *kind }),
         Op::Div { kind } => Ok(Step::Div { kind: *kind }),
@@ -349,8 +297,6 @@ impl Step {
             Step::DecIBp { .. } => 6,
             Step::IncIBp { .. } => 6,
             Step::StoreState { .. } => 10,
-            Step::RsAddInt | Step::EqualInts | Step::NequalInts | Step::AddInts => 2,
-            Step::AddTexts => 2,
             Step::RsAdd { .. } | Step::LogAnd | Step::LogOr | Step::IncOr | Step::ExcOr => 2,
             Step::BoolAnd | Step::Geq { .. } | Step::Gt { .. } | Step::Lt { .. } => 2,
             Step::Leq { .. } | Step::ShLeft | Step::ShRight | Step::UshRight => 2,

@@ -56,11 +56,11 @@ differs_is negated cells e = ap (λ (b : Bool). pair_compared (answer_of b) (Som
 pub ruleset pair_lemmas = (ints_compared, ints_case, same_is, differs_is)
 
 -- an instruction whose type byte says that it is of ints
-pub kind_is : (answer : Bool → Bool) (cells : List Cell) → compared answer 0x20 0 cells ≡ pair_compared answer (Some IntTy) cells
+pub kind_is : (answer : Bool → Bool) (kind size : ℕ) (cells : List Cell) → kind ≡ 0x20 → compared answer kind size cells ≡ pair_compared answer (Some IntTy) cells
 unfolding type_of_both
-kind_is answer cells = refl
+kind_is answer kind size cells e = ap (λ (k : ℕ). compared answer k size cells) e
 
-pub kind_case : (answer : Bool → Bool) (cells : List Cell) → compared answer 0x20 0 cells ≢ None → pair_compared answer (Some IntTy) cells ≢ None
-kind_case answer cells h none = h (kind_is answer cells ∙ none)
+pub kind_case : (answer : Bool → Bool) (kind size : ℕ) (cells : List Cell) → kind ≡ 0x20 → compared answer kind size cells ≢ None → pair_compared answer (Some IntTy) cells ≢ None
+kind_case answer kind size cells e h none = h (kind_is answer kind size cells e ∙ none)
 
 pub ruleset kind_lemmas = (kind_is, kind_case)

@@ -121,9 +121,9 @@ pub ruleset drop_lemmas = (dropped_has, dropped_lies, dropped_is, zero_is)
 
 -- ---- a starting value
 
-pub zero_started : (cells : List Cell) → value_pushed (starting_value 0x03) cells ≡ Some (Holds (Int (pos 0)) ∷ cells)
+pub int_started : (kind : ℕ) (cells : List Cell) → kind ≡ 3 → value_pushed (starting_value kind) cells ≡ Some (Holds (Int (pos 0)) ∷ cells)
 unfolding type_of_one
-zero_started cells = refl
+int_started kind cells is = ap (λ (k : ℕ). value_pushed (starting_value k) cells) is
 
 -- ---- two texts
 

@@ -11,13 +11,12 @@ ghost use Rattle.machine_frames.specs.Operations.{binary_of, divides};
 
 use crate::operation::{Binary, Unary};
 use crate::ranges::{
-    cells, change_bp, change_int, change_sp, compare, compare_ints, drop_sp, drop_values,
-    keep_range, one_cell, push_bp, push_range, push_sp, write_bp, write_range, write_sp,
+    cells, change_bp, change_int, change_sp, compare, drop_sp, drop_values, keep_range, one_cell,
+    push_bp, push_range, push_sp, write_bp, write_range, write_sp,
 };
 use crate::top::cell;
 use crate::values::{
-    add, complement, kind_ints, negate, one_int, push_object, push_start, push_text, push_zero,
-    take_zero, two_texts,
+    add, complement, kind_ints, negate, one_int, push_object, push_start, push_text, take_zero,
 };
 use decoded_code::Step;
 use nwq_value::{NoMemory, Value};
@@ -145,10 +144,6 @@ pub fn change(
             write_sp(alloc, stack, *offset, *size)?;
             Ok(at + 8)
         }
-        Step::RsAddInt => {
-            push_zero(stack)?;
-            Ok(at + 2)
-        }
         Step::RsAdd { kind } => {
             push_start(alloc, stack, *kind)?;
             Ok(at + 2)
@@ -169,26 +164,13 @@ pub fn change(
             push_object(stack, own, *n)?;
             Ok(at + 6)
         }
-        Step::EqualInts => {
-            compare_ints(stack, false)?;
-            Ok(at + 2)
-        }
         Step::Equal { kind, size } => {
             compare(stack, *kind, *size, false)?;
             Ok(at + step.size())
         }
-        Step::NequalInts => {
-            compare_ints(stack, true)?;
-            Ok(at + 2)
-        }
         Step::Nequal { kind, size } => {
             compare(stack, *kind, *size, true)?;
             Ok(at + step.size())
-        }
-        Step::AddInts => operate(stack, 0x20, Binary::Add, at),
-        Step::AddTexts => {
-            two_texts(alloc, stack)?;
-            Ok(at + 2)
         }
         Step::Add { kind } => {
             add(alloc, stack, *kind)?;

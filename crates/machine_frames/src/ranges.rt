@@ -339,10 +339,10 @@ fn compare_runs(stack: &mut Stack, count: usize, negated: bool) -> Result<(), No
     stack.push(Cell::Value(Value::Int(as_int(same != negated))))
 }
 
-/// Whether the two ints on top are equal, or differ.
+/// EQUAL and NEQUAL of ints.
 #[inline(always)]
 #[tactic(auto, using(crate::proofs::IntPairs::pair_lemmas))]
-fn compare_pair(stack: &mut Stack, negated: bool) -> Result<(), NoMemory>
+fn compare_ints(stack: &mut Stack, negated: bool) -> Result<(), NoMemory>
     requires case { pair_compared (answer_of negated) (Some IntTy) stack.old.cells ≢ None }
     ensures cells { OnOk result (pair_compared (answer_of negated) (Some IntTy) stack.old.cells
         ≡ Some stack.new.cells) }
@@ -355,22 +355,26 @@ fn compare_pair(stack: &mut Stack, negated: bool) -> Result<(), NoMemory>
     }
 }
 
-/// EQUAL and NEQUAL whose type byte says that they are of ints.
+/// EQUAL and NEQUAL. Ints are compared here.
 #[inline(always)]
 #[tactic(auto, using(crate::proofs::IntPairs::kind_lemmas))]
-pub fn compare_ints(stack: &mut Stack, negated: bool) -> Result<(), NoMemory>
-    requires case { compared (answer_of negated) 0x20 0 stack.old.cells ≢ None }
+pub fn compare(stack: &mut Stack, kind: u8, size: u16, negated: bool) -> Result<(), NoMemory>
+    requires case { compared (answer_of negated) kind size stack.old.cells ≢ None }
     ensures cells { OnOk result
-        (compared (answer_of negated) 0x20 0 stack.old.cells ≡ Some stack.new.cells) }
+        (compared (answer_of negated) kind size stack.old.cells ≡ Some stack.new.cells) }
     ensures bp { OnOk result (stack.new.bp ≡ stack.old.bp) }
 {
-    compare_pair(stack, negated)
+    if kind == 0x20 {
+        compare_ints(stack, negated)
+    } else {
+        compare_apart(stack, kind, size, negated)
+    }
 }
 
-/// EQUAL and NEQUAL by their type byte.
+/// EQUAL and NEQUAL of any values.
 #[inline(never)]
 #[tactic(auto, using(crate::proofs::RangeLemmas::pair_lemmas))]
-pub fn compare(stack: &mut Stack, kind: u8, size: u16, negated: bool) -> Result<(), NoMemory>
+fn compare_apart(stack: &mut Stack, kind: u8, size: u16, negated: bool) -> Result<(), NoMemory>
     requires case { compared (answer_of negated) kind size stack.old.cells ≢ None }
     ensures cells { OnOk result
         (compared (answer_of negated) kind size stack.old.cells ≡ Some stack.new.cells) }

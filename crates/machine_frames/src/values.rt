@@ -118,7 +118,7 @@ pub fn complement(stack: &mut Stack) -> Result<(), NoMemory>
 /// The two texts on top become one.
 #[inline(never)]
 #[tactic(auto, using(crate::proofs::Popped::text_lemmas))]
-pub fn two_texts(alloc: Global, stack: &mut Stack) -> Result<(), NoMemory>
+fn two_texts(alloc: Global, stack: &mut Stack) -> Result<(), NoMemory>
     requires case { of_texts joined_texts stack.old.cells ≢ None }
     ensures cells { OnOk result (of_texts joined_texts stack.old.cells ≡ Some stack.new.cells) }
     ensures bp { OnOk result (stack.new.bp ≡ stack.old.bp) }
@@ -128,8 +128,8 @@ pub fn two_texts(alloc: Global, stack: &mut Stack) -> Result<(), NoMemory>
     put(stack, 0, Value::Text(joined))
 }
 
-/// ADD by its type byte.
-#[inline(never)]
+/// ADD, of ints or of texts.
+#[inline(always)]
 pub fn add(alloc: Global, stack: &mut Stack, kind: u8) -> Result<(), NoMemory>
     requires case { added kind stack.old.cells ≢ None }
     ensures cells { OnOk result (added kind stack.old.cells ≡ Some stack.new.cells) }
@@ -176,20 +176,25 @@ fn take_zero_apart(stack: &mut Stack) -> bool
     n == 0
 }
 
-/// RSADD of an int.
+/// RSADD. An int is pushed here.
 #[inline(always)]
-#[tactic(auto, using(crate::proofs::Popped::zero_started))]
-pub fn push_zero(stack: &mut Stack) -> Result<(), NoMemory>
+#[tactic(auto, using(crate::proofs::Popped::int_started))]
+pub fn push_start(alloc: Global, stack: &mut Stack, kind: u8) -> Result<(), NoMemory>
+    requires case { value_pushed (starting_value kind) stack.old.cells ≢ None }
     ensures cells { OnOk result
-        (value_pushed (starting_value 0x03) stack.old.cells ≡ Some stack.new.cells) }
+        (value_pushed (starting_value kind) stack.old.cells ≡ Some stack.new.cells) }
     ensures bp { OnOk result (stack.new.bp ≡ stack.old.bp) }
 {
-    stack.push(Cell::Value(Value::Int(0)))
+    if kind == 0x03 {
+        stack.push(Cell::Value(Value::Int(0)))
+    } else {
+        push_start_apart(alloc, stack, kind)
+    }
 }
 
-/// RSADD by its type byte.
+/// RSADD of any value.
 #[inline(never)]
-pub fn push_start(alloc: Global, stack: &mut Stack, kind: u8) -> Result<(), NoMemory>
+fn push_start_apart(alloc: Global, stack: &mut Stack, kind: u8) -> Result<(), NoMemory>
     requires case { value_pushed (starting_value kind) stack.old.cells ≢ None }
     ensures cells { OnOk result
         (value_pushed (starting_value kind) stack.old.cells ≡ Some stack.new.cells) }
