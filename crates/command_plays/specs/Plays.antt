@@ -10,9 +10,7 @@ use Rattle.world_rules.specs.World.{World}
 use Rattle.machine_rules.specs.Machine.{Script, Host}
 use Rattle.world_rules.specs.Plays as plays
 use Rattle.world_rules.specs.Plays.{PlayEnd, Played}
-use Rattle.ncs_machine.specs.Host.{host, scripts_of, tables_of}
-use Rattle.ncs_machine.specs.Stored.{StatesFit}
-use Rattle.ncs_machine.specs.declared.scripts.Loaded.{Loaded}
+use Rattle.ncs_machine.specs.Host.{host}
 use Rattle.module_player.specs.CodePlays.{code_play, code_play_on}
 use Rattle.command_work.specs.declared.status.Status.TheVariants.{Limit}
 use Rattle.command_work.specs.Work.{Work, Gives, Ends, Finished}
@@ -39,10 +37,6 @@ abbrev pub played_first : CellLookup → EngineTable → Plan → List Script �
     → Played Saved
 played_first cell header plan scripts n w = played_on cell header (limits_of plan) scripts
     (min n plan.entries) 0 0 w
-
--- the states that a world keeps fit the listed scripts
-abbrev pub FitListed : List Loaded → World Saved → Type 0
-FitListed scripts w = StatesFit (scripts_of scripts) (tables_of scripts) w
 
 -- a play that a limit ended is told whole, and its command ends with the status of limits
 abbrev pub ends_by : PlayEnd → Work Finished

@@ -1,13 +1,12 @@
 //! The play of a compiled file.
-ghost use Rattle.std.specs.Prelude.{◌≡◌, ◌≤◌, ◌<◌, ◌^◌, ℕ, List, [], length, map, IsTrue, IfErr};
+ghost use Rattle.std.specs.Prelude.{◌≡◌, ◌≤◌, ◌<◌, ◌^◌, List, [], length, map, IsTrue, IfErr};
 ghost use Rattle.nwq_value.specs.Limits.{file_limit};
 ghost use Rattle.ncs_code.specs.Plain.{PlainOp};
 ghost use Rattle.stack_rules.specs.Rules.{MeetsRules};
-ghost use Rattle.stack_rules.specs.Laws.{AllMeet};
 ghost use Rattle.stack_check.specs.Checked.{kept_table};
 ghost use Rattle.world_core.specs.Calls.{AreServing, cells_of};
-ghost use Rattle.ncs_machine.specs.Host.{scripts_of, tables_of};
-ghost use Rattle.ncs_machine.specs.Stored.{StatesFit};
+ghost use Rattle.ncs_machine.specs.InSetting.{seen};
+ghost use Rattle.ncs_machine.specs.Settings.{FitIn, scripts_in};
 ghost use Rattle.command_work.specs.Counts.{Refusing};
 ghost use Rattle.command_work.specs.Calls.{TalliesPuts, DoesPuts};
 ghost use Rattle.command_files.specs.Checks.{IsStackedFile};
@@ -20,7 +19,7 @@ use command_plays::{list_one, told_whole};
 use command_work::Status;
 use hook_table::Hooks;
 use module_player::{PlayLimits, play};
-use ncs_machine::{PlaySetting, Scripts};
+use ncs_machine::PlaySetting;
 use nwq_outside::Sink;
 use nwq_value::{NoMemory, Table};
 use play_worlds::first_world;
@@ -42,42 +41,32 @@ const UNTIL: u64 = 60_000;
 #[tactic(auto, using(crate::proofs::TellLemmas::cut_refuses))]
 fn play_world<S: Sink>(
     alloc: Global,
-    table: &Table,
-    scripts: &Scripts,
+    setting: &PlaySetting<'_, '_>,
     world: World<Saved>,
-    hooks: &Hooks,
     out: &mut S,
 ) -> Result<(), Status>
-    requires few { length scripts.now < 2 ^ 32 }
-    requires meets { AllMeet table.now (scripts_of scripts.now) (tables_of scripts.now) }
-    requires hooks { AreServing (map (λ h. h.known) hooks.now.all.items) }
-    requires fit { StatesFit (scripts_of scripts.now) (tables_of scripts.now) world.world }
+    requires fit { FitIn (seen setting.now) world.world }
     requires quiet { world.world.trace ≡ [] }
     requires next { world.world.agenda.next < 2 ^ 61 }
-    ensures does { IsTrue S.tells → DoesPuts S.taken (tells (scripts_of scripts.now) (run_played
-        (cells_of (map (λ h. h.known) hooks.now.all.items)) table.now (scripts_of scripts.now)
-        world.world)) out.old result out.new }
+    ensures does { IsTrue S.tells → DoesPuts S.taken (tells (scripts_in (seen setting.now))
+        (run_played (cells_of (seen setting.now).hooks) setting.now.code.table
+        (scripts_in (seen setting.now)) world.world)) out.old result out.new }
     ensures counts { TalliesPuts S.faults result out.old out.new }
     ensures only { IfErr result (Refusing Status.Limit) }
 {
     let mut world = world;
-    let setting = PlaySetting {
-        scripts,
-        table,
-        hooks,
-    };
     let limits = PlayLimits {
         instructions: INSTRUCTIONS,
         entries: ENTRIES,
         until: UNTIL,
     };
-    let played = play(alloc, &setting, &mut world, limits, out);
+    let played = play(alloc, setting, &mut world, limits, out);
     match told_whole(played) {
         Err(status) => {
             drop(world);
             Err(status)
         }
-        Ok(played) => tell_end(alloc, world, scripts, &played, out),
+        Ok(played) => tell_end(alloc, world, setting.code.scripts(), &played, out),
     }
 }
 
@@ -85,25 +74,19 @@ fn play_world<S: Sink>(
 #[tactic(auto, using(crate::proofs::PlayLemmas::starts))]
 fn play_listed<S: Sink>(
     alloc: Global,
-    table: &Table,
+    setting: &PlaySetting<'_, '_>,
     name: &[u8],
-    scripts: &Scripts,
-    hooks: &Hooks,
     out: &mut S,
 ) -> Result<(), Status>
-    requires few { length scripts.now < 2 ^ 32 }
-    requires meets { AllMeet table.now (scripts_of scripts.now) (tables_of scripts.now) }
-    requires hooks { AreServing (map (λ h. h.known) hooks.now.all.items) }
-    ensures does { IsTrue S.tells → (ops : List PlainOp) → scripts_of scripts.now ≡ listed name.now
-        ops → DoesPuts S.taken
-        (plays_code (cells_of (map (λ h. h.known) hooks.now.all.items)) table.now name.now ops)
-        out.old result out.new }
+    ensures does { IsTrue S.tells → (ops : List PlainOp) → scripts_in (seen setting.now) ≡ listed
+        name.now ops → DoesPuts S.taken (plays_code (cells_of (seen setting.now).hooks)
+        setting.now.code.table name.now ops) out.old result out.new }
     ensures counts { TalliesPuts S.faults result out.old out.new }
     ensures only { IfErr result (Refusing Status.Limit) }
 {
     match first_world(alloc, name) {
         Err(NoMemory) => Err(Status::Memory),
-        Ok(world) => play_world(alloc, table, scripts, world, hooks, out),
+        Ok(world) => play_world(alloc, setting, world, out),
     }
 }
 
@@ -127,7 +110,10 @@ fn play_code<S: Sink>(
 {
     match list_one(alloc, name, code) {
         Err(NoMemory) => Err(Status::Memory),
-        Ok(scripts) => play_listed(alloc, table, name, &scripts, hooks, out),
+        Ok(scripts) => {
+            let setting = PlaySetting::of(&scripts, table, hooks);
+            play_listed(alloc, &setting, name, out)
+        }
     }
 }
 

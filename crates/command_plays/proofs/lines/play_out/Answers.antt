@@ -1,19 +1,19 @@
-use Rattle.std.proofs.Common.{map}
 use Rattle.world_rules.specs.Trace.{trace_text}
 use Rattle.world_core.specs.Calls.{cells_of}
-use Rattle.ncs_machine.specs.Host.{scripts_of}
+use Rattle.ncs_machine.specs.InSetting.{seen}
+use Rattle.ncs_machine.specs.Settings.{scripts_in}
 use Rattle.command_plays.specs.Plays.{plan_played}
 use Rattle.command_plays.proofs.lines.play_out.Goals as goal
 
 pub returns-clause-ending : goal.returns-clause-ending
 returns-clause-ending g c =
     c.told_whole.ensures.ending
-    (plan_played (cells_of (map (λ h. h.known) c.args.hooks.now.all.items)) c.args.table.now c.args.plan.now (scripts_of c.args.scripts.now) c.args.world.now.world)
+    (plan_played (cells_of (seen c.args.setting.now).hooks) c.args.setting.now.code.table c.args.plan.now (scripts_in (seen c.args.setting.now)) c.args.world.now.world)
     c.play-played.new.world.world c.play-played.ensures.ending c.play-played.ensures.entries c.play-played.ensures.instructions c.play-played.ensures.world
 
 pub returns-clause-trace : goal.returns-clause-trace
 returns-clause-trace g c = λ tells.
-    let p = plan_played (cells_of (map (λ h. h.known) c.args.hooks.now.all.items)) c.args.table.now c.args.plan.now (scripts_of c.args.scripts.now) c.args.world.now.world
+    let p = plan_played (cells_of (seen c.args.setting.now).hooks) c.args.setting.now.code.table c.args.plan.now (scripts_in (seen c.args.setting.now)) c.args.world.now.world
     in c.told_whole.ensures.trace (trace_text p.last.trace) (g.S.Sink.taken c.args.out.now) (g.S.Sink.taken c.play-played.new.out) (c.play-played.ensures.trace tells)
 
 pub returns-clause-counts : goal.returns-clause-counts
