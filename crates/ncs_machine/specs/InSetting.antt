@@ -1,7 +1,7 @@
--- A play's setting, without what its hooks call. Closures are no part of what a clause says.
-use Rattle.std.specs.Prelude.{map}
+-- A play's setting, without what its hooks call.
+pub use Rattle.ncs_machine.specs.InHooks.{known_by}
 use Rattle.ncs_machine.specs.Settings.{CodeSetting, code_setting}
 use Rattle.ncs_machine.specs.declared.setting.PlaySetting.{PlaySetting}
 
-abbrev pub seen : {X : Type 0} {P : X → Type 0} → PlaySetting X P → CodeSetting
-seen s = code_setting s.code (map (λ h. h.known) s.hooks.now.all.items)
+abbrev pub seen : {X : Type 0} {P : X → Type 0} {C : _} → PlaySetting X P C → CodeSetting
+seen s = code_setting s.code (known_by s.hooks.now)

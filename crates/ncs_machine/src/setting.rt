@@ -1,8 +1,9 @@
-ghost use Rattle.std.specs.Prelude.{◌≡◌, ◌<◌, ◌^◌, length, map};
+ghost use Rattle.std.specs.Prelude.{◌≡◌, ◌<◌, ◌^◌, length};
 ghost use Rattle.stack_rules.specs.Laws.{AllMeet};
 ghost use Rattle.machine_rules.specs.Machine.{script_named};
 ghost use Rattle.world_core.specs.Calls.{AreServing};
 ghost use Rattle.ncs_machine.specs.Host.{scripts_of, tables_of};
+ghost use Rattle.ncs_machine.specs.InHooks.{known_by};
 ghost use Rattle.ncs_machine.specs.ServingOnce.{serving_once};
 ghost use Rattle.ncs_machine.specs.Settings.{IsChecked, checked_listing};
 
@@ -73,7 +74,7 @@ impl<'a> CheckedScripts<'a> {
 pub struct PlaySetting<'a, 'b> {
     pub code: CheckedScripts<'a>,
     pub hooks: &'b Hooks,
-    pub ghost serving: { AreServing (map (λ h. h.known) hooks.now.all.items) } by { serving_once (map (λ h. h.known) hooks.now.all.items) },
+    pub ghost serving: { AreServing (known_by hooks.now) } by { serving_once (known_by hooks.now) },
 }
 
 impl<'a, 'b> PlaySetting<'a, 'b> {
@@ -84,9 +85,9 @@ impl<'a, 'b> PlaySetting<'a, 'b> {
     pub fn of(scripts: &'a Scripts, table: &'a Table, hooks: &'b Hooks) -> PlaySetting<'a, 'b>
         requires few { length scripts.now < 2 ^ 32 }
         requires meets { AllMeet table.now (scripts_of scripts.now) (tables_of scripts.now) }
-        requires hooks { AreServing (map (λ h. h.known) hooks.now.all.items) }
+        requires hooks { AreServing (known_by hooks.now) }
         ensures setting { seen result ≡ code_setting (checked_listing scripts.now table.now)
-            (map (λ h. h.known) hooks.now.all.items) }
+            (known_by hooks.now) }
     {
         PlaySetting {
             code: CheckedScripts::of(scripts, table),
