@@ -79,8 +79,8 @@ pub record MayGo (entries stop taken done : ℕ) : Type 0 where
   pub within : taken ≤ entries
   pub few : done < 2 ^ 61
 
--- What a part of a play keeps, so that its world can be saved: captured states fit still, and at most
--- so many entries were posted, and instructions executed, beyond these.
+-- What a part of a play keeps, so that its world can be saved: captured states fit still, and at
+-- most so many entries were posted, and instructions executed, beyond these.
 pub record KeepsPart (s : CodeSetting) (next done : ℕ) (answer : Answer) (w : World Saved)
     : Type 0 where
   pub fit : FitIn s w

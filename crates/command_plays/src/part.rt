@@ -57,9 +57,7 @@ pub fn play_part<S: Sink>(
         entries,
         until,
     };
-    let played = play_on(
-        alloc, setting, &mut world, limits, stop, taken, done, out,
-    );
+    let played = play_on(alloc, setting, &mut world, limits, stop, taken, done, out);
     match cut_of(played.how) {
         Some(status) => {
             drop(world);
