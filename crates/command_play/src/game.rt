@@ -1,10 +1,10 @@
 //! The command: what a play needs is read, in order, and the plan is played.
-ghost use Rattle.std.specs.Prelude.{◌≡◌, ◌<◌, ◌^◌, length, map, IsTrue, IfErr, OnOk};
+ghost use Rattle.std.specs.Prelude.{◌≡◌, map, IsTrue, IfErr};
 ghost use Rattle.nwq_outside.specs.Outside.{next};
 ghost use Rattle.plan_text.specs.Plans.{IsPlan};
-ghost use Rattle.stack_rules.specs.Laws.{AllMeet};
 ghost use Rattle.world_core.specs.Calls.{AreServing, cells_of};
-ghost use Rattle.ncs_machine.specs.Host.{scripts_of, tables_of};
+ghost use Rattle.ncs_machine.specs.InSetting.{seen};
+ghost use Rattle.ncs_machine.specs.Settings.{scripts_in};
 ghost use Rattle.command_work.specs.Counts.{KeepsBut};
 ghost use Rattle.command_work.specs.Calls.{DoesOn, TalliesOn, IsName};
 ghost use Rattle.command_play.specs.Games.{plays_area, plays_scripts, plays_under, plays};
@@ -37,7 +37,7 @@ pub struct GameNames<'a> {
 #[tactic(auto, using(crate::proofs::Steps::steps, crate::proofs::StopLemmas::stops), unfolding(crate::specs::Games::plays_area))]
 fn play_area<F: Files, S: Sink>(
     alloc: Global,
-    setting: PlaySetting<'_>,
+    setting: &PlaySetting<'_, '_>,
     area: &str,
     plan: &Plan,
     to: &str,
@@ -45,15 +45,10 @@ fn play_area<F: Files, S: Sink>(
     out: &mut S,
     remarks: &mut Remarks,
 ) -> Result<(), Status>
-    requires few { length setting.scripts.now < 2 ^ 32 }
-    requires meets { AllMeet setting.table.now
-        (scripts_of setting.scripts.now) (tables_of setting.scripts.now) }
-    requires hooks { AreServing (map (λ h. h.known) setting.hooks.now.all.items) }
     requires plan { IsPlan plan.now }
     ensures does { IsTrue F.tells → IsTrue S.tells → DoesOn F.contents S.taken (plays_area
-        (cells_of (map (λ h. h.known) setting.entry.hooks.now.all.items))
-        setting.entry.table.now area.now plan.now to.now (scripts_of setting.entry.scripts.now))
-        files.old out.old result files.new out.new }
+        (cells_of (seen setting.now).hooks) setting.now.code.table area.now plan.now to.now
+        (scripts_in (seen setting.now))) files.old out.old result files.new out.new }
     ensures counts { TalliesOn F.counts S.faults result files.old out.old files.new out.new }
     ensures names { KeepsBut (IsName to.now) (F.contents files.old) (F.contents files.new) }
     ensures once { F.reads files.new ≡ next (F.reads files.old) }
@@ -92,13 +87,9 @@ fn play_scripts<F: Files, S: Sink>(
     match list_scripts(alloc, table, plan.scripts.as_slice(), files, out) {
         Err(status) => Err(status),
         Ok(scripts) => {
-            let setting = PlaySetting {
-                scripts: &scripts,
-                table,
-                hooks,
-            };
+            let setting = PlaySetting::of(&scripts, table, hooks);
             play_area(
-                alloc, setting, game.area, plan, game.to, files, out, remarks,
+                alloc, &setting, game.area, plan, game.to, files, out, remarks,
             )
         }
     }

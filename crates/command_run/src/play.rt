@@ -1,26 +1,27 @@
 //! The play of a compiled file.
-ghost use Rattle.std.specs.Prelude.{◌≡◌, ◌≤◌, ◌<◌, ◌^◌, ℕ, List, [], length, map, IsTrue, IfErr};
+ghost use Rattle.std.specs.Prelude.{◌≡◌, ◌≤◌, List, length, IsTrue, IfErr};
 ghost use Rattle.nwq_value.specs.Limits.{file_limit};
 ghost use Rattle.ncs_code.specs.Plain.{PlainOp};
 ghost use Rattle.stack_rules.specs.Rules.{MeetsRules};
-ghost use Rattle.stack_rules.specs.Laws.{AllMeet};
 ghost use Rattle.stack_check.specs.Checked.{kept_table};
 ghost use Rattle.world_core.specs.Calls.{AreServing, cells_of};
-ghost use Rattle.ncs_machine.specs.Host.{scripts_of, tables_of};
-ghost use Rattle.ncs_machine.specs.Stored.{StatesFit};
+ghost use Rattle.ncs_machine.specs.InHooks.{known_by};
+ghost use Rattle.ncs_machine.specs.InSetting.{seen};
+ghost use Rattle.ncs_machine.specs.Settings.{scripts_in};
 ghost use Rattle.command_work.specs.Counts.{Refusing};
 ghost use Rattle.command_work.specs.Calls.{TalliesPuts, DoesPuts};
 ghost use Rattle.command_files.specs.Checks.{IsStackedFile};
-ghost use Rattle.command_plays.specs.Scripts.{listed, run_played, tells, plays_code, plays_file};
+ghost use Rattle.command_plays.specs.Plays.{MayPlay};
+ghost use Rattle.command_plays.specs.Scripts.{listed, plays_code, plays_file, tells_in};
 ghost use Rattle.command_run.specs.Tellings.{StopsPlay};
 
 use crate::telling::tell_end;
 use command_files::load_checked;
-use command_plays::{list_one, told_whole};
+use command_plays::{list_one, play_world};
 use command_work::Status;
 use hook_table::Hooks;
-use module_player::{PlayLimits, play};
-use ncs_machine::{PlaySetting, Scripts};
+use module_player::PlayLimits;
+use ncs_machine::PlaySetting;
 use nwq_outside::Sink;
 use nwq_value::{NoMemory, Table};
 use play_worlds::first_world;
@@ -40,44 +41,26 @@ const UNTIL: u64 = 60_000;
 
 /// Plays listed scripts in a world, and tells the play.
 #[tactic(auto, using(crate::proofs::TellLemmas::cut_refuses))]
-fn play_world<S: Sink>(
+fn tell_world<S: Sink>(
     alloc: Global,
-    table: &Table,
-    scripts: &Scripts,
+    setting: &PlaySetting<'_, '_>,
     world: World<Saved>,
-    hooks: &Hooks,
     out: &mut S,
 ) -> Result<(), Status>
-    requires few { length scripts.now < 2 ^ 32 }
-    requires meets { AllMeet table.now (scripts_of scripts.now) (tables_of scripts.now) }
-    requires hooks { AreServing (map (λ h. h.known) hooks.now.all.items) }
-    requires fit { StatesFit (scripts_of scripts.now) (tables_of scripts.now) world.world }
-    requires quiet { world.world.trace ≡ [] }
-    requires next { world.world.agenda.next < 2 ^ 61 }
-    ensures does { IsTrue S.tells → DoesPuts S.taken (tells (scripts_of scripts.now) (run_played
-        (cells_of (map (λ h. h.known) hooks.now.all.items)) table.now (scripts_of scripts.now)
-        world.world)) out.old result out.new }
+    requires world { MayPlay (seen setting.now) world.world }
+    ensures does { IsTrue S.tells → DoesPuts S.taken (tells_in (seen setting.now) world.world)
+        out.old result out.new }
     ensures counts { TalliesPuts S.faults result out.old out.new }
     ensures only { IfErr result (Refusing Status.Limit) }
 {
-    let mut world = world;
-    let setting = PlaySetting {
-        scripts,
-        table,
-        hooks,
-    };
     let limits = PlayLimits {
         instructions: INSTRUCTIONS,
         entries: ENTRIES,
         until: UNTIL,
     };
-    let played = play(alloc, &setting, &mut world, limits, out);
-    match told_whole(played) {
-        Err(status) => {
-            drop(world);
-            Err(status)
-        }
-        Ok(played) => tell_end(alloc, world, scripts, &played, out),
+    match play_world(alloc, setting, world, limits, out) {
+        Err(status) => Err(status),
+        Ok((world, played)) => tell_end(alloc, world, setting.code.scripts(), &played, out),
     }
 }
 
@@ -85,25 +68,19 @@ fn play_world<S: Sink>(
 #[tactic(auto, using(crate::proofs::PlayLemmas::starts))]
 fn play_listed<S: Sink>(
     alloc: Global,
-    table: &Table,
+    setting: &PlaySetting<'_, '_>,
     name: &[u8],
-    scripts: &Scripts,
-    hooks: &Hooks,
     out: &mut S,
 ) -> Result<(), Status>
-    requires few { length scripts.now < 2 ^ 32 }
-    requires meets { AllMeet table.now (scripts_of scripts.now) (tables_of scripts.now) }
-    requires hooks { AreServing (map (λ h. h.known) hooks.now.all.items) }
-    ensures does { IsTrue S.tells → (ops : List PlainOp) → scripts_of scripts.now ≡ listed name.now
-        ops → DoesPuts S.taken
-        (plays_code (cells_of (map (λ h. h.known) hooks.now.all.items)) table.now name.now ops)
-        out.old result out.new }
+    ensures does { IsTrue S.tells → (ops : List PlainOp) → scripts_in (seen setting.now) ≡ listed
+        name.now ops → DoesPuts S.taken (plays_code (cells_of (seen setting.now).hooks)
+        setting.now.code.table name.now ops) out.old result out.new }
     ensures counts { TalliesPuts S.faults result out.old out.new }
     ensures only { IfErr result (Refusing Status.Limit) }
 {
     match first_world(alloc, name) {
         Err(NoMemory) => Err(Status::Memory),
-        Ok(world) => play_world(alloc, table, scripts, world, hooks, out),
+        Ok(world) => tell_world(alloc, setting, world, out),
     }
 }
 
@@ -118,16 +95,18 @@ fn play_code<S: Sink>(
     out: &mut S,
 ) -> Result<(), Status>
     requires meets { MeetsRules table.now code.code (kept_table code) }
-    requires hooks { AreServing (map (λ h. h.known) hooks.now.all.items) }
-    ensures does { IsTrue S.tells → DoesPuts S.taken (plays_code
-        (cells_of (map (λ h. h.known) hooks.now.all.items)) table.now name.now code.code)
-        out.old result out.new }
+    requires hooks { AreServing (known_by hooks.now) }
+    ensures does { IsTrue S.tells → DoesPuts S.taken (plays_code (cells_of (known_by hooks.now))
+        table.now name.now code.code) out.old result out.new }
     ensures counts { TalliesPuts S.faults result out.old out.new }
     ensures only { IfErr result (Refusing Status.Limit) }
 {
     match list_one(alloc, name, code) {
         Err(NoMemory) => Err(Status::Memory),
-        Ok(scripts) => play_listed(alloc, table, name, &scripts, hooks, out),
+        Ok(scripts) => {
+            let setting = PlaySetting::of(&scripts, table, hooks);
+            play_listed(alloc, &setting, name, out)
+        }
     }
 }
 
@@ -143,10 +122,9 @@ pub fn play_file<S: Sink>(
     out: &mut S,
 ) -> Result<(), Status>
     requires small { length bytes.items ≤ file_limit }
-    requires hooks { AreServing (map (λ h. h.known) hooks.now.all.items) }
-    ensures does { IsTrue S.tells → DoesPuts S.taken (plays_file
-        (cells_of (map (λ h. h.known) hooks.now.all.items)) table.now name.now file.now bytes.items)
-        out.old result out.new }
+    requires hooks { AreServing (known_by hooks.now) }
+    ensures does { IsTrue S.tells → DoesPuts S.taken (plays_file (cells_of (known_by hooks.now))
+        table.now name.now file.now bytes.items) out.old result out.new }
     ensures counts { TalliesPuts S.faults result out.old out.new }
     ensures only { IfErr result StopsPlay }
     // A file of well stacked instructions is never refused.

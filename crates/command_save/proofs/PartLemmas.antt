@@ -1,5 +1,5 @@
 -- The first part of a play ends in a world that can be saved.
-use Rattle.std.proofs.Common.{arith, ◌≡◌, ◌≢◌, ◌<◌, ◌≤◌, ◌^◌, ◌+◌, ℕ, inl, inr, List, ◌++◌, min, Result, Err, sym, ◌∙◌, subst}
+use Rattle.std.proofs.Common.{arith, ◌≡◌, ◌≢◌, ◌<◌, ◌≤◌, ◌^◌, ℕ, inl, inr, List, ◌++◌, min, Result, Err, sym, ◌∙◌, subst}
 use Rattle.nwq_value.specs.Engine.{EngineTable}
 use Rattle.nwq_outside.specs.Outside.{Contents, TookPrefix}
 use Rattle.gff_tree.specs.Whole.{PlainGff}
@@ -17,6 +17,7 @@ use Rattle.machine_rules.specs.Machine.{Script}
 use Rattle.world_core.specs.Calls.{cells_of}
 use Rattle.ncs_machine.specs.declared.scripts.Loaded.{Loaded}
 use Rattle.ncs_machine.specs.Host.{scripts_of, tables_of}
+use Rattle.ncs_machine.specs.Settings.{CodeSetting, checked_listing, code_setting, scripts_in}
 use Rattle.ncs_machine.specs.Stored.{StatesFit}
 use Rattle.module_player.specs.Answers.{EndsAs}
 use Rattle.module_player.specs.EndTexts.{IsEnding}
@@ -35,6 +36,11 @@ use Rattle.command_save.specs.declared.inputs.HeaderFile.{HeaderFile}
 use Rattle.command_save.specs.declared.inputs.AreaFile.{AreaFile}
 use Rattle.command_save.specs.Saves.{saves_by, saves_plan}
 use Rattle.command_save.specs.Tellings.{MaySave, WhereBroken}
+
+-- the play in the setting that is made
+pub first_in : (s : CodeSetting) (scripts : List Loaded) (table : EngineTable) (hooks : List Known) → s ≡ code_setting (checked_listing scripts table) hooks → (plan : Plan) (n : ℕ) (w : World Saved)
+    (P : Played Saved → Type 0) → P (played_first (cells_of s.hooks) s.table plan (scripts_in s) n w) → P (played_first (cells_of hooks) table plan (scripts_of scripts) n w)
+first_in s scripts table hooks same plan n w P h = subst (λ (t : CodeSetting). P (played_first (cells_of t.hooks) t.table plan (scripts_in t) n w)) same h
 
 where_broken : (how : How) (fact : Type 0) (ending : PlayEnd) → EndsAs how ending → (ending ≢ plays.StoppedInside → fact) → WhereBroken how fact
 where_broken Done fact ending is so = so (λ e. absurd (let a = is in let b = e in cc))

@@ -5,14 +5,17 @@ use Rattle.nwq_outside.specs.Outside.{Contents, TookPrefix}
 use Rattle.ncs_code.specs.File.{IsCode}
 use Rattle.saved_state.specs.declared.saved.Saved.{Saved}
 use Rattle.stack_rules.specs.Laws.{AllMeet}
+use Rattle.hook_table.specs.declared.hook.Known.{Known}
 use Rattle.world_rules.specs.World.{World}
 use Rattle.world_rules.specs.Pure.{CellLookup}
 use Rattle.world_rules.specs.Trace.{trace_text}
 use Rattle.world_rules.specs.Plays as plays
 use Rattle.world_rules.specs.Plays.{PlayEnd, Played}
 use Rattle.machine_rules.specs.Machine.{Script}
+use Rattle.world_core.specs.Calls.{cells_of}
 use Rattle.ncs_machine.specs.declared.scripts.Loaded.{Loaded}
 use Rattle.ncs_machine.specs.Host.{scripts_of, tables_of}
+use Rattle.ncs_machine.specs.Settings.{CodeSetting, checked_listing, code_setting, scripts_in}
 use Rattle.ncs_machine.specs.Stored.{StatesFit}
 use Rattle.module_player.specs.Answers.{EndsAs}
 use Rattle.module_player.specs.CodePlays.{code_runner, played_before}
@@ -36,6 +39,13 @@ use Rattle.command_save.specs.Resumes.{Going, GoesFrom, played_rest, resumes_fro
 use Rattle.command_save.specs.Tellings.{MayGoOn, rest_of}
 use Rattle.command_save.proofs.GoingLemmas.{on_ends}
 use Rattle.command_save.proofs.StateLemmas.{parts_are, are_spelled}
+
+-- ---- the play in the setting that is made of what is opened
+
+pub rest_in : (s : CodeSetting) (o : Opened) (hooks : List Known) → s ≡ code_setting (checked_listing o.scripts o.table) hooks → (P : Played Saved → Type 0)
+    → P (played_on (cells_of s.hooks) s.table o.limits (scripts_in s) (o.limits.1 + 1) o.taken o.done o.world.world) → P (rest_of (cells_of hooks) o)
+rest_in s o hooks same P h =
+    subst (λ (t : CodeSetting). P (played_on (cells_of t.hooks) t.table o.limits (scripts_in t) (o.limits.1 + 1) o.taken o.done o.world.world)) same h
 
 -- ---- the end is told
 

@@ -100,11 +100,7 @@ fn play_rest<F: Files, S: Sink>(
         done,
     } = opened;
     let stop = limits.1 + 1;
-    let setting = PlaySetting {
-        scripts: &scripts,
-        table: &table,
-        hooks,
-    };
+    let setting = PlaySetting::of(&scripts, &table, hooks);
     match play_part(alloc, &setting, world, limits, stop, taken, done, out) {
         Err(status) => {
             drop(table);

@@ -22,6 +22,7 @@ use command_plays::play_first;
 use command_work::Status;
 use hook_table::Hooks;
 use module_player::plays_can_rest;
+use ncs_machine::PlaySetting;
 use nwq_outside::{Files, Sink};
 use plan_text::Plan;
 use play_inputs::{list_scripts, read_plan_file};
@@ -72,16 +73,8 @@ fn save_plan<F: Files, S: Sink>(
     plays_can_rest();
     plan_worlds_are_fresh();
     let AreaFile { bytes, area } = area;
-    match play_first(
-        alloc,
-        &header.table,
-        area,
-        listed.plan,
-        listed.scripts,
-        hooks,
-        words.entries,
-        out,
-    ) {
+    let setting = PlaySetting::of(listed.scripts, &header.table, hooks);
+    match play_first(alloc, &setting, area, listed.plan, words.entries, out) {
         Err(status) => {
             drop(header);
             drop(bytes);

@@ -10,6 +10,7 @@ use Rattle.world_rules.specs.Plays.{Ending, Over, Divided, Stopped, Run, Runner,
 use Rattle.world_rules.specs.EndText.{end_text}
 use Rattle.ncs_machine.specs.declared.scripts.Loaded.{Loaded}
 use Rattle.ncs_machine.specs.Host.{engine_view, host, scripts_of}
+use Rattle.ncs_machine.specs.Settings.{CodeSetting, host_in}
 
 -- what listed scripts run in under a header
 abbrev pub host_of : List Loaded → EngineTable → List Known → Host (World Saved)
@@ -38,6 +39,9 @@ code_runner host limit = record {
   script = λ script self w. run_of (runs.run_script host limit script self w);
   stored = λ saved self w. run_of (runs.run_stored host limit saved self w);
 }
+
+abbrev pub runner_in : CodeSetting → ℕ → Runner Saved
+runner_in s limit = code_runner (host_in s) limit
 
 -- the play of files from a world on: at most so many instructions in an entry, so many entries, and
 -- those that are due by this time

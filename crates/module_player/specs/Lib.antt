@@ -1,5 +1,4 @@
 pub mod CodePlays
-pub mod Scenes
 pub mod Entries
 pub mod Turns
 pub mod Answers

@@ -1,6 +1,6 @@
 //! One agenda entry.
 ghost use Rattle.std.specs.Prelude.{◌≡◌, ◌≤◌, ◌<◌, ◌+◌, ◌^◌, ℕ, IfOk, OnErr, OnOk, false};
-ghost use Rattle.std.specs.Prelude.{length, map};
+ghost use Rattle.std.specs.Prelude.{length};
 ghost use Rattle.delay_agenda.specs.declared.entry.Kind.TheVariants as kind;
 ghost use Rattle.nwq_value.specs.Limits.{instruction_limit};
 ghost use Rattle.stack_rules.specs.Fits.{FitsOne};
@@ -11,18 +11,18 @@ ghost use Rattle.machine_rules.specs.Runs.{run_stored};
 ghost use Rattle.world_rules.specs.Plays.{entered_as, event_entry, finished, turn_entry};
 ghost use Rattle.ncs_machine.specs.Endings.{FitsBegin};
 ghost use Rattle.ncs_machine.specs.Host.{run_from};
+ghost use Rattle.ncs_machine.specs.InSetting.{seen};
+ghost use Rattle.ncs_machine.specs.Settings.{FitIn, host_in, scripts_in, tables_in};
 ghost use Rattle.ncs_machine.specs.Stored.{KindFits};
-ghost use Rattle.module_player.specs.CodePlays.{run_of};
+ghost use Rattle.module_player.specs.CodePlays.{run_of, runner_in};
 ghost use Rattle.module_player.specs.Cuts.{IsCutIn, IsDivided};
 ghost use Rattle.module_player.specs.Entries.{HasActed, HasEntered, CanRunEntry, KeepsFits};
 ghost use Rattle.module_player.specs.Entries.{run_with_ending};
 ghost use Rattle.module_player.specs.Entries.{turn_taken};
-ghost use Rattle.module_player.specs.Scenes.{FitIn, IsSet, host_in, runner_in};
-ghost use Rattle.module_player.specs.Scenes.{scene, scripts_in, tables_in};
 
 use crate::scripts::{Ended, run_scripts};
 use delay_agenda::{Entry, Kind};
-use ncs_machine::{Begin, PlaySetting, entries_keep_fits, script_named};
+use ncs_machine::{Begin, PlaySetting, entries_keep_fits};
 use nwq_value::{NoMemory, Text};
 use saved_state::Saved;
 use std::alloc::Global;
@@ -100,35 +100,27 @@ fn finish_turn(world: &mut World<Saved>, object: u32, ended: Ended) -> Result<bo
 #[tactic(auto, using(crate::proofs::Entering::script_entered))]
 fn script_entry(
     alloc: Global,
-    setting: &PlaySetting<'_>,
+    setting: &PlaySetting<'_, '_>,
     world: &mut World<Saved>,
     script: u32,
     begin: Begin,
     object: u32,
     limit: u64,
 ) -> Result<Entered, NoMemory>
-    requires set { IsSet (scene setting.now.scripts.now setting.now.table.now (map (λ h. h.known)
-        setting.now.hooks.now.all.items)) }
-    requires listed { script < length setting.now.scripts.now }
-    requires stored { FitsBegin (scripts_in (scene setting.now.scripts.now setting.now.table.now
-        (map (λ h. h.known) setting.now.hooks.now.all.items))) (tables_in (scene
-        setting.now.scripts.now setting.now.table.now (map (λ h. h.known)
-        setting.now.hooks.now.all.items))) begin }
+    requires listed { script < length setting.now.code.scripts }
+    requires stored { FitsBegin (scripts_in (seen setting.now)) (tables_in (seen setting.now))
+        begin }
     requires limit { limit ≤ instruction_limit }
     requires ready { CanRunEntry world.old.world }
-    requires fit { FitIn (scene setting.now.scripts.now setting.now.table.now (map (λ h. h.known)
-        setting.now.hooks.now.all.items)) world.old.world }
+    requires fit { FitIn (seen setting.now) world.old.world }
     requires object { object ≤ object_count world.old.world }
     requires room { 1 ≤ world.old.room }
-    ensures entered { IfOk result (λ e. HasEntered (scene setting.now.scripts.now
-        setting.now.table.now (map (λ h. h.known) setting.now.hooks.now.all.items)) limit e
-        (finished (λ v. v) (run_of (run_from (host_in (scene setting.now.scripts.now
-        setting.now.table.now (map (λ h. h.known) setting.now.hooks.now.all.items))) limit script
-        begin object world.old.world))) world.old.world world.new.world) }
-    ensures cut { OnErr result (IsCutIn (λ n. finished (λ v. v) (run_of (run_from (host_in (scene
-        setting.now.scripts.now setting.now.table.now (map (λ h. h.known)
-        setting.now.hooks.now.all.items))) n script begin object world.old.world))) limit
+    ensures entered { IfOk result (λ e. HasEntered (seen setting.now) limit e (finished (λ v. v)
+        (run_of (run_from (host_in (seen setting.now)) limit script begin object world.old.world)))
         world.old.world world.new.world) }
+    ensures cut { OnErr result (IsCutIn (λ n. finished (λ v. v) (run_of (run_from
+        (host_in (seen setting.now)) n script begin object world.old.world))) limit world.old.world
+        world.new.world) }
 {
     let (ended, count) = run_scripts(alloc, setting, world, script, begin, object, limit)?;
     let stopped = finish(world, ended)?;
@@ -139,34 +131,28 @@ fn script_entry(
 #[tactic(auto, using(crate::proofs::Entering::event_lemmas))]
 fn event_entry(
     alloc: Global,
-    setting: &PlaySetting<'_>,
+    setting: &PlaySetting<'_, '_>,
     world: &mut World<Saved>,
     object: u32,
     name: &Text,
     limit: u64,
 ) -> Result<Entered, NoMemory>
-    requires set { IsSet (scene setting.now.scripts.now setting.now.table.now (map (λ h. h.known)
-        setting.now.hooks.now.all.items)) }
     requires limit { limit ≤ instruction_limit }
     requires ready { CanRunEntry world.old.world }
-    requires fit { FitIn (scene setting.now.scripts.now setting.now.table.now (map (λ h. h.known)
-        setting.now.hooks.now.all.items)) world.old.world }
+    requires fit { FitIn (seen setting.now) world.old.world }
     requires object { object ≤ object_count world.old.world }
     requires room { 1 ≤ world.old.room }
-    ensures entered { IfOk result (λ e. HasEntered (scene setting.now.scripts.now
-        setting.now.table.now (map (λ h. h.known) setting.now.hooks.now.all.items)) limit e
-        (event_entry (runner_in (scene setting.now.scripts.now setting.now.table.now (map (λ h.
-        h.known) setting.now.hooks.now.all.items)) limit) object name.now world.old.world)
-        world.old.world world.new.world) }
-    ensures cut { OnErr result (IsCutIn (λ n. event_entry (runner_in (scene
-        setting.now.scripts.now setting.now.table.now (map (λ h. h.known)
-        setting.now.hooks.now.all.items)) n) object name.now world.old.world) limit
-        world.old.world world.new.world) }
+    ensures entered { IfOk result (λ e. HasEntered (seen setting.now) limit e (event_entry
+        (runner_in (seen setting.now) limit) object name.now world.old.world) world.old.world
+        world.new.world) }
+    ensures cut { OnErr result (IsCutIn (λ n. event_entry (runner_in (seen setting.now) n) object
+        name.now world.old.world) limit world.old.world world.new.world) }
 {
     if name.bytes().is_empty() {
         return Ok(QUIET);
     }
-    match script_named(setting.scripts, name) {
+    setting.code.keeps();
+    match setting.code.named(name) {
         None => {
             world.no_script(object, name)?;
             Ok(QUIET)
@@ -187,36 +173,27 @@ fn event_entry(
 #[tactic(auto, using(crate::proofs::Entering::action_lemmas))]
 fn action_entry(
     alloc: Global,
-    setting: &PlaySetting<'_>,
+    setting: &PlaySetting<'_, '_>,
     world: &mut World<Saved>,
     object: u32,
     saved: Saved,
     limit: u64,
 ) -> Result<Entered, NoMemory>
-    requires set { IsSet (scene setting.now.scripts.now setting.now.table.now (map (λ h. h.known)
-        setting.now.hooks.now.all.items)) }
-    requires stored { FitsOne (scripts_in (scene setting.now.scripts.now setting.now.table.now
-        (map (λ h. h.known) setting.now.hooks.now.all.items))) (tables_in (scene
-        setting.now.scripts.now setting.now.table.now (map (λ h. h.known)
-        setting.now.hooks.now.all.items))) saved }
+    requires stored { FitsOne (scripts_in (seen setting.now)) (tables_in (seen setting.now)) saved }
     requires limit { limit ≤ instruction_limit }
     requires clock { world.old.world.clock < 2 ^ 62 }
     requires next { world.old.world.agenda.next < 2 ^ 62 }
-    requires fit { FitIn (scene setting.now.scripts.now setting.now.table.now (map (λ h. h.known)
-        setting.now.hooks.now.all.items)) world.old.world }
+    requires fit { FitIn (seen setting.now) world.old.world }
     requires first { 1 ≤ object }
     requires within { object ≤ object_count world.old.world }
     requires acting { IsActing object world.old.world }
     requires room { 1 ≤ world.old.room }
-    ensures entered { IfOk result (λ e. HasActed (scene setting.now.scripts.now
-        setting.now.table.now (map (λ h. h.known) setting.now.hooks.now.all.items)) limit e
-        (finished (turn_done object) (run_of (run_stored (host_in (scene setting.now.scripts.now
-        setting.now.table.now (map (λ h. h.known) setting.now.hooks.now.all.items))) limit saved
-        object world.old.world))) world.old.world world.new.world) }
+    ensures entered { IfOk result (λ e. HasActed (seen setting.now) limit e (finished
+        (turn_done object) (run_of (run_stored (host_in (seen setting.now)) limit saved object
+        world.old.world))) world.old.world world.new.world) }
     ensures cut { OnErr result (IsCutIn (λ n. finished (turn_done object) (run_of (run_stored
-        (host_in (scene setting.now.scripts.now setting.now.table.now (map (λ h. h.known)
-        setting.now.hooks.now.all.items))) n saved object world.old.world))) limit
-        world.old.world world.new.world) }
+        (host_in (seen setting.now)) n saved object world.old.world))) limit world.old.world
+        world.new.world) }
 {
     let script = saved.script;
     let begin = Begin::Stored(saved);
@@ -229,28 +206,22 @@ fn action_entry(
 #[tactic(auto, using(crate::proofs::Entering::turn_entry_lemmas))]
 fn turn_entry(
     alloc: Global,
-    setting: &PlaySetting<'_>,
+    setting: &PlaySetting<'_, '_>,
     world: &mut World<Saved>,
     object: u32,
     limit: u64,
 ) -> Result<Entered, NoMemory>
-    requires set { IsSet (scene setting.now.scripts.now setting.now.table.now (map (λ h. h.known)
-        setting.now.hooks.now.all.items)) }
     requires limit { limit ≤ instruction_limit }
     requires ready { CanRunEntry world.old.world }
-    requires fit { FitIn (scene setting.now.scripts.now setting.now.table.now (map (λ h. h.known)
-        setting.now.hooks.now.all.items)) world.old.world }
+    requires fit { FitIn (seen setting.now) world.old.world }
     requires first { 1 ≤ object }
     requires within { object ≤ object_count world.old.world }
     requires acting { IsActing object world.old.world }
     requires room { 1 ≤ world.old.room }
-    ensures entered { IfOk result (λ e. HasEntered (scene setting.now.scripts.now
-        setting.now.table.now (map (λ h. h.known) setting.now.hooks.now.all.items)) limit e
-        (turn_taken (runner_in (scene setting.now.scripts.now setting.now.table.now (map (λ h.
-        h.known) setting.now.hooks.now.all.items)) limit) object world.old.world) world.old.world
+    ensures entered { IfOk result (λ e. HasEntered (seen setting.now) limit e (turn_taken
+        (runner_in (seen setting.now) limit) object world.old.world) world.old.world
         world.new.world) }
-    ensures cut { OnErr result (IsCutIn (λ n. turn_taken (runner_in (scene setting.now.scripts.now
-        setting.now.table.now (map (λ h. h.known) setting.now.hooks.now.all.items)) n) object
+    ensures cut { OnErr result (IsCutIn (λ n. turn_taken (runner_in (seen setting.now) n) object
         world.old.world) limit world.old.world world.new.world) }
 {
     entries_keep_worlds::<Saved>();
@@ -283,31 +254,23 @@ fn unapply_entry(world: &mut World<Saved>, object: u32, number: u64) -> Result<E
 #[tactic(auto, using(crate::proofs::Entering::entry_lemmas))]
 pub(crate) fn enter(
     alloc: Global,
-    setting: &PlaySetting<'_>,
+    setting: &PlaySetting<'_, '_>,
     world: &mut World<Saved>,
     entry: Entry<Saved>,
     limit: u64,
 ) -> Result<Entered, NoMemory>
-    requires set { IsSet (scene setting.now.scripts.now setting.now.table.now (map (λ h. h.known)
-        setting.now.hooks.now.all.items)) }
     requires limit { limit ≤ instruction_limit }
     requires ready { CanRunEntry world.old.world }
-    requires fit { FitIn (scene setting.now.scripts.now setting.now.table.now (map (λ h. h.known)
-        setting.now.hooks.now.all.items)) world.old.world }
+    requires fit { FitIn (seen setting.now) world.old.world }
     requires placed { IsPlaced (object_count world.old.world) entry.kind }
     requires acting { (o : ℕ) → entry.kind ≡ kind.Turn o → IsActing o world.old.world }
-    requires stored { KindFits (scripts_in (scene setting.now.scripts.now setting.now.table.now
-        (map (λ h. h.known) setting.now.hooks.now.all.items))) (tables_in (scene
-        setting.now.scripts.now setting.now.table.now (map (λ h. h.known)
-        setting.now.hooks.now.all.items))) entry.kind }
+    requires stored { KindFits (scripts_in (seen setting.now)) (tables_in (seen setting.now))
+        entry.kind }
     requires room { 1 ≤ world.old.room }
-    ensures entered { IfOk result (λ e. HasEntered (scene setting.now.scripts.now
-        setting.now.table.now (map (λ h. h.known) setting.now.hooks.now.all.items)) limit e
-        (entered_as (runner_in (scene setting.now.scripts.now setting.now.table.now (map (λ h.
-        h.known) setting.now.hooks.now.all.items)) limit) entry.kind entry.number world.old.world)
+    ensures entered { IfOk result (λ e. HasEntered (seen setting.now) limit e (entered_as
+        (runner_in (seen setting.now) limit) entry.kind entry.number world.old.world)
         world.old.world world.new.world) }
-    ensures cut { OnErr result (IsCutIn (λ n. entered_as (runner_in (scene setting.now.scripts.now
-        setting.now.table.now (map (λ h. h.known) setting.now.hooks.now.all.items)) n) entry.kind
+    ensures cut { OnErr result (IsCutIn (λ n. entered_as (runner_in (seen setting.now) n) entry.kind
         entry.number world.old.world) limit world.old.world world.new.world) }
 {
     let Entry {

@@ -1,5 +1,5 @@
 //! One turn of a play: the next entry, where one is due, and its lines.
-ghost use Rattle.std.specs.Prelude.{◌≡◌, ◌≤◌, ◌<◌, ◌+◌, ◌^◌, ◌⊎◌, ℕ, [], IsTrue, map};
+ghost use Rattle.std.specs.Prelude.{◌≡◌, ◌≤◌, ◌<◌, ◌+◌, ◌^◌, ◌⊎◌, ℕ, [], IsTrue};
 ghost use Rattle.delay_agenda.specs.declared.entry.Kind.TheVariants as kind;
 ghost use Rattle.nwq_outside.specs.Outside.{CountsDone, Takes as TakesPiece};
 ghost use Rattle.nwq_outside.specs.declared.answer.Done.TheVariants as done;
@@ -9,11 +9,12 @@ ghost use Rattle.world_rules.specs.Trace.{trace_text};
 ghost use Rattle.world_rules.specs.Turns.{begin, drained};
 ghost use Rattle.world_rules.specs.World.{count as object_count};
 ghost use Rattle.world_rules.specs.Plays.{entered_as};
+ghost use Rattle.ncs_machine.specs.InSetting.{seen};
+ghost use Rattle.ncs_machine.specs.Settings.{FitIn, host_in, scripts_in, tables_in};
 ghost use Rattle.ncs_machine.specs.Stored.{KindFits};
 ghost use Rattle.module_player.specs.Cuts.{IsCutAt, IsCutIn, WhereCutIn};
 ghost use Rattle.module_player.specs.Entries.{CanRunEntry};
-ghost use Rattle.module_player.specs.Scenes.{FitIn, IsSet, host_in, runner_in, scene, scripts_in};
-ghost use Rattle.module_player.specs.Scenes.{tables_in};
+ghost use Rattle.module_player.specs.CodePlays.{runner_in};
 ghost use Rattle.module_player.specs.Turns.{CountsNext, Takes, TakesText, Turns, lines_of};
 ghost use Rattle.module_player.specs.Turns.{lines_text};
 
@@ -84,40 +85,30 @@ fn put_lines<S: Sink>(world: &mut World<Saved>, text: &mut Vec<u8>, out: &mut S)
 #[tactic(auto, using(crate::proofs::Turning::take_lemmas))]
 fn take<S: Sink>(
     alloc: Global,
-    setting: &PlaySetting<'_>,
+    setting: &PlaySetting<'_, '_>,
     world: &mut World<Saved>,
     entry: Entry<Saved>,
     limit: u64,
     text: &mut Vec<u8>,
     out: &mut S,
 ) -> TurnOutcome
-    requires set { IsSet (scene setting.now.scripts.now setting.now.table.now (map (λ h. h.known)
-        setting.now.hooks.now.all.items)) }
     requires limit { limit ≤ instruction_limit }
     requires ready { CanRunEntry world.old.world }
-    requires fit { FitIn (scene setting.now.scripts.now setting.now.table.now (map (λ h. h.known)
-        setting.now.hooks.now.all.items)) world.old.world }
+    requires fit { FitIn (seen setting.now) world.old.world }
     requires placed { IsPlaced (object_count world.old.world) entry.kind }
     requires acting { (o : ℕ) → entry.kind ≡ kind.Turn o → IsActing o world.old.world }
-    requires stored { KindFits (scripts_in (scene setting.now.scripts.now setting.now.table.now
-        (map (λ h. h.known) setting.now.hooks.now.all.items))) (tables_in (scene
-        setting.now.scripts.now setting.now.table.now (map (λ h. h.known)
-        setting.now.hooks.now.all.items))) entry.kind }
+    requires stored { KindFits (scripts_in (seen setting.now)) (tables_in (seen setting.now))
+        entry.kind }
     requires room { 1 ≤ world.old.room }
-    ensures takes { Takes result (scene setting.now.scripts.now setting.now.table.now (map (λ h.
-        h.known) setting.now.hooks.now.all.items)) limit (entered_as (runner_in (scene
-        setting.now.scripts.now setting.now.table.now (map (λ h. h.known)
-        setting.now.hooks.now.all.items)) limit) entry.kind entry.number world.old.world)
+    ensures takes { Takes result (seen setting.now) limit (entered_as
+        (runner_in (seen setting.now) limit) entry.kind entry.number world.old.world)
         world.old.world world.new.world }
-    ensures taken { IsTrue S.tells → TakesText result (lines_text
-        (entered_as (runner_in (scene setting.now.scripts.now setting.now.table.now
-        (map (λ h. h.known) setting.now.hooks.now.all.items)) limit) entry.kind entry.number
-        world.old.world)) (S.taken out.old) (S.taken out.new) }
+    ensures taken { IsTrue S.tells → TakesText result (lines_text (entered_as
+        (runner_in (seen setting.now) limit) entry.kind entry.number world.old.world))
+        (S.taken out.old) (S.taken out.new) }
     ensures counts { CountsNext result (S.faults out.old) (S.faults out.new) }
-    ensures cut { WhereCutIn result (IsCutIn (λ n. entered_as (runner_in (scene
-        setting.now.scripts.now setting.now.table.now (map (λ h. h.known)
-        setting.now.hooks.now.all.items)) n) entry.kind entry.number world.old.world) limit
-        world.old.world world.new.world) }
+    ensures cut { WhereCutIn result (IsCutIn (λ n. entered_as (runner_in (seen setting.now) n)
+        entry.kind entry.number world.old.world) limit world.old.world world.new.world) }
 {
     match enter(alloc, setting, world, entry, limit) {
         Err(_) => TurnOutcome::NoMemory,
@@ -139,32 +130,25 @@ fn take<S: Sink>(
 #[tactic(auto, using(crate::proofs::Turning::turn_lemmas))]
 pub(crate) fn turn<S: Sink>(
     alloc: Global,
-    setting: &PlaySetting<'_>,
+    setting: &PlaySetting<'_, '_>,
     world: &mut World<Saved>,
     limit: u64,
     until: u64,
     text: &mut Vec<u8>,
     out: &mut S,
 ) -> TurnOutcome
-    requires set { IsSet (scene setting.now.scripts.now setting.now.table.now (map (λ h. h.known)
-        setting.now.hooks.now.all.items)) }
     requires limit { limit ≤ instruction_limit }
     requires until { until ≤ time_limit }
     requires next { world.old.world.agenda.next + 1 < 2 ^ 62 }
-    requires fit { FitIn (scene setting.now.scripts.now setting.now.table.now (map (λ h. h.known)
-        setting.now.hooks.now.all.items)) world.old.world }
-    ensures turns { Turns result (scene setting.now.scripts.now setting.now.table.now (map (λ h.
-        h.known) setting.now.hooks.now.all.items)) limit (runner_in (scene setting.now.scripts.now
-        setting.now.table.now (map (λ h. h.known) setting.now.hooks.now.all.items)) limit) (begin
-        until world.old.world) world.old.world world.new.world }
-    ensures taken { IsTrue S.tells → TakesText result (trace_text (lines_of (runner_in (scene
-        setting.now.scripts.now setting.now.table.now (map (λ h. h.known)
-        setting.now.hooks.now.all.items)) limit) (begin until world.old.world))) (S.taken out.old)
+    requires fit { FitIn (seen setting.now) world.old.world }
+    ensures turns { Turns result (seen setting.now) limit (runner_in (seen setting.now) limit)
+        (begin until world.old.world) world.old.world world.new.world }
+    ensures taken { IsTrue S.tells → TakesText result (trace_text (lines_of
+        (runner_in (seen setting.now) limit) (begin until world.old.world))) (S.taken out.old)
         (S.taken out.new) }
     ensures counts { CountsNext result (S.faults out.old) (S.faults out.new) }
-    ensures cut { WhereCutIn result (IsCutAt (host_in (scene setting.now.scripts.now
-        setting.now.table.now (map (λ h. h.known) setting.now.hooks.now.all.items))) limit (begin
-        until world.old.world) world.old.world world.new.world) }
+    ensures cut { WhereCutIn result (IsCutAt (host_in (seen setting.now)) limit
+        (begin until world.old.world) world.old.world world.new.world) }
 {
     entries_keep_fits();
     match world.begin(until) {

@@ -1,5 +1,9 @@
 pub mod Host
 pub mod Stored
+pub mod Settings
+pub mod ServingOnce
+pub mod InHooks
+pub mod InSetting
 pub mod Endings
 pub mod Steps
 pub mod Names

@@ -100,7 +100,7 @@ fn named_from(scripts: &[Loaded], name: &[u8], from: usize) -> Option<usize>
 
 /// The number of the listed script of a name, where its letters count without their case.
 #[tactic(auto, using(crate::proofs::Names::position_is))]
-pub fn script_named(scripts: &Scripts, name: &Text) -> Option<usize>
+pub(crate) fn script_named(scripts: &Scripts, name: &Text) -> Option<usize>
     requires few { length scripts.now < 2 ^ 32 }
     ensures number { result ≡ script_named (scripts_of scripts.now) name.now }
 {

@@ -4,6 +4,8 @@ ghost use Rattle.std.specs.Prelude.{◌≡◌, ◌≤◌, ◌<◌, ◌^◌, [], 
 ghost use Rattle.world_core.specs.Calls.{AreServing};
 ghost use Rattle.stack_rules.specs.Laws.{AllMeet};
 ghost use Rattle.ncs_machine.specs.Host.{scripts_of, tables_of};
+ghost use Rattle.ncs_machine.specs.InSetting.{seen};
+ghost use Rattle.ncs_machine.specs.Settings.{FitIn};
 ghost use Rattle.ncs_machine.specs.Stored.{StatesFit};
 
 use hook_table::Hooks;
@@ -27,20 +29,15 @@ fn at_most(limit: u64) -> u64
 /// the entries taken and the instructions done; `None` where one of these numbers is too large.
 fn go_on_by(
     alloc: Global,
-    setting: &PlaySetting<'_>,
+    setting: &PlaySetting<'_, '_>,
     world: &mut World<Saved>,
     limits: (u64, u64, u64),
     taken: u64,
     done: u64,
     out: &mut MemSink,
 ) -> Option<Played>
-    requires few { length setting.now.scripts.now < 2 ^ 32 }
-    requires meets { AllMeet setting.now.table.now (scripts_of setting.now.scripts.now)
-        (tables_of setting.now.scripts.now) }
-    requires fit { StatesFit (scripts_of setting.now.scripts.now)
-        (tables_of setting.now.scripts.now) world.old.world }
+    requires fit { FitIn (seen setting.now) world.old.world }
     requires quiet { world.old.world.trace ≡ [] }
-    requires hooks { AreServing (map (λ h. h.known) setting.now.hooks.now.all.items) }
 {
     let (limit, entries, until) = limits;
     if taken > entries || entries > 1_000_000 || until > 4_294_967_295 {
@@ -76,11 +73,7 @@ fn go_on(alloc: Global, opened: Opened, hooks: &Hooks, out: &mut MemSink) -> Opt
         taken,
         done,
     } = opened;
-    let setting = PlaySetting {
-        scripts: &scripts,
-        table: &table,
-        hooks,
-    };
+    let setting = PlaySetting::of(&scripts, &table, hooks);
     let played = go_on_by(alloc, &setting, &mut world, limits, taken, done, out);
     drop(world);
     drop(scripts);

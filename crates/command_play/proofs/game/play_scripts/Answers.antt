@@ -5,8 +5,8 @@ use Rattle.command_sources.specs.Reads.{on_ok}
 use Rattle.command_play.specs.Reads.{ReadsArea}
 use Rattle.command_play.proofs.game.play_scripts.Goals as goal
 
-pub play_area-requires-clause-meets : goal.play_area-requires-clause-meets
-play_area-requires-clause-meets g c = c.in-Ok.ensures.kept.0
+pub of-setting-requires-clause-meets : goal.of-setting-requires-clause-meets
+of-setting-requires-clause-meets g c = c.in-Ok.ensures.kept.0
 
 pub returns-in-Err-clause-names : goal.returns-in-Err-clause-names
 returns-in-Err-clause-names g c =

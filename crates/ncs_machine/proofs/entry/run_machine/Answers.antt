@@ -1,7 +1,7 @@
 use Rattle.std.proofs.Common.{arith, Some, map, slice_get, subst, sym, ap, ◌+◌, ◌∙◌}
 use Rattle.ncs_machine.specs.Host.{engine_view, scripts_of, tables_of}
 use Rattle.ncs_machine.specs.Steps.{Remains, Stays, next_of, state}
-use Rattle.ncs_machine.proofs.Answers.{answers_typed}
+use Rattle.ncs_machine.proofs.Typed.{answers_typed}
 use Rattle.ncs_machine.proofs.Running.{cut_short, divided_run, ended_run, goes_on, run_begins, steps_well, still_listed, stopped_run}
 use Rattle.ncs_machine.proofs.entry.run_machine.Goals.{in-Enters, in-Goes}
 use Rattle.ncs_machine.proofs.entry.run_machine.Goals as goal
