@@ -1,4 +1,5 @@
 pub mod CodePlays
+pub mod Premises
 pub mod Entries
 pub mod Turns
 pub mod Answers
