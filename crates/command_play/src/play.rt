@@ -1,13 +1,10 @@
 //! The play of a plan, and what it leaves.
-ghost use Rattle.std.specs.Prelude.{◌≡◌, IsTrue, IfErr};
+ghost use Rattle.std.specs.Prelude.{◌≡◌, IsTrue};
 ghost use Rattle.plan_text.specs.Plans.{IsPlan};
-ghost use Rattle.world_core.specs.Calls.{cells_of};
 ghost use Rattle.ncs_machine.specs.InSetting.{seen};
-ghost use Rattle.ncs_machine.specs.Settings.{scripts_in};
-ghost use Rattle.command_work.specs.Counts.{KeepsBut};
-ghost use Rattle.command_work.specs.Calls.{DoesOn, TalliesOn, IsName};
-ghost use Rattle.command_play.specs.Games.{plays_plan};
-ghost use Rattle.command_play.specs.Tellings.{StopsGame};
+ghost use Rattle.command_work.specs.Calls.{DoesOn, IsName};
+ghost use Rattle.command_play.specs.Games.{plays_plan_in};
+ghost use Rattle.command_play.specs.Tellings.{KeepsTo, StopsGame};
 
 use crate::remarks::Remarks;
 use crate::telling::tell_end;
@@ -20,7 +17,7 @@ use plan_text::Plan;
 use std::alloc::Global;
 
 /// Plays a plan over an area.
-#[tactic(auto, using(crate::proofs::PlayLemmas::plays_in, crate::proofs::StopLemmas::stops, command_work::specs::KeepsLemmas::keeps_all))]
+#[tactic(auto, using(crate::proofs::PlayLemmas::plays_in))]
 pub(crate) fn play_plan<F: Files, S: Sink>(
     alloc: Global,
     setting: &PlaySetting<'_, '_>,
@@ -32,13 +29,11 @@ pub(crate) fn play_plan<F: Files, S: Sink>(
     remarks: &mut Remarks,
 ) -> Result<(), Status>
     requires plan { IsPlan plan.now }
-    ensures does { IsTrue F.tells → IsTrue S.tells → DoesOn F.contents S.taken (plays_plan
-        (cells_of (seen setting.now).hooks) setting.now.code.table area plan.now
-        (scripts_in (seen setting.now)) to.now) files.old out.old result files.new out.new }
-    ensures counts { TalliesOn F.counts S.faults result files.old out.old files.new out.new }
-    ensures names { KeepsBut (IsName to.now) (F.contents files.old) (F.contents files.new) }
+    ensures does { IsTrue F.tells → IsTrue S.tells → DoesOn F.contents S.taken (plays_plan_in (seen
+        setting.now) area plan.now to.now) files.old out.old result files.new out.new }
+    ensures keeps { KeepsTo F.counts S.faults F.contents (IsName to.now) StopsGame result files.old
+        out.old files.new out.new }
     ensures unread { F.reads files.new ≡ F.reads files.old }
-    ensures only { IfErr result StopsGame }
 {
     match play_lines(alloc, setting, area, plan, out) {
         Err(status) => Err(status),

@@ -2,13 +2,9 @@
 use Rattle.std.proofs.Common.{◌≤◌, ℕ, List, refl, arith, min}
 use Rattle.nwq_outside.specs.Outside.{TookPrefix}
 use Rattle.plan_text.specs.declared.plan.Plan.{Plan}
-use Rattle.plan_text.specs.Plans.{IsPlan, limits_of}
+use Rattle.plan_text.specs.Plans.{IsPlan}
 use Rattle.command_work.specs.Parts.{took_nothing}
-use Rattle.command_plays.specs.Plays.{AreLimits, MayGo}
-
--- the limits of a plan are inside those of plays
-pub plan_limits : (plan : Plan) → IsPlan plan → AreLimits (limits_of plan)
-plan_limits plan kept = record { instructions = kept.limit.1; entries = kept.entries.1; until = kept.until.1 }
+use Rattle.module_player.specs.Premises.{MayGo}
 
 -- some entries are taken from the beginning on
 pub goes_first : (plan : Plan) → IsPlan plan → (n : ℕ) → 1 ≤ n → MayGo plan.entries (min n plan.entries) 0 0
@@ -17,4 +13,4 @@ goes_first plan kept n some = record { some = let e = kept.entries.0 in omega (a
 pub no_lines : (text t : List ℕ) → TookPrefix text t t
 no_lines text t = took_nothing text t t refl
 
-pub ruleset lines = (plan_limits, no_lines)
+pub ruleset lines = (goes_first, no_lines)

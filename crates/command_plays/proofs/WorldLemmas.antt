@@ -19,7 +19,8 @@ use Rattle.ncs_machine.specs.Stored.{StatesFit, ThingsFit, EntryFits}
 use Rattle.module_player.specs.declared.played.Played.{Played as Answer}
 use Rattle.play_worlds.specs.Worlds.{begun_by, plan_world}
 use Rattle.ncs_machine.specs.FitLemmas.{put_fits, idle_fit}
-use Rattle.command_plays.specs.Plays.{KeepsPart, MayPlay}
+use Rattle.module_player.specs.Premises.{MayPlay}
+use Rattle.command_plays.specs.Plays.{KeepsPart}
 
 -- ---- what a plan's events leave as it was
 

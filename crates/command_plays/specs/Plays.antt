@@ -1,8 +1,7 @@
--- Plays as commands make them: the play of a plan's lines, what it asks for, and how a command ends
--- by the end of its play.
-use Rattle.std.specs.Prelude.{◌≡◌, ◌≤◌, ◌<◌, ◌+◌, ◌^◌, ℕ, List, [], min}
+-- Plays as commands make them: the play of a plan's lines, and how a command ends by the end of its
+-- play.
+use Rattle.std.specs.Prelude.{◌≤◌, ◌+◌, ◌^◌, ℕ, List, min}
 use Rattle.nwq_value.specs.Engine.{EngineTable}
-use Rattle.nwq_value.specs.Limits.{entry_limit, instruction_limit, time_limit}
 use Rattle.plan_text.specs.declared.plan.Plan.{Plan}
 use Rattle.plan_text.specs.Plans.{Limits, limits_of}
 use Rattle.saved_state.specs.declared.saved.Saved.{Saved}
@@ -15,6 +14,7 @@ use Rattle.world_core.specs.Calls.{cells_of}
 use Rattle.ncs_machine.specs.Host.{host}
 use Rattle.ncs_machine.specs.Settings.{CodeSetting, FitIn, host_in, scripts_in}
 use Rattle.module_player.specs.CodePlays.{code_play, code_play_on}
+use Rattle.module_player.specs.Limits.{limits_in}
 use Rattle.module_player.specs.declared.limits.PlayLimits.{PlayLimits}
 use Rattle.module_player.specs.declared.played.Played.{Played as Answer}
 use Rattle.command_work.specs.declared.status.Status.TheVariants.{Limit}
@@ -52,32 +52,14 @@ played_in s limits w = code_play
 abbrev pub plan_played_in : CodeSetting → Plan → World Saved → Played Saved
 plan_played_in s plan w = plan_played (cells_of s.hooks) s.table plan (scripts_in s) w
 
-abbrev pub played_on_in : CodeSetting → Limits → ℕ → ℕ → ℕ → World Saved → Played Saved
+abbrev pub played_on_in : CodeSetting → PlayLimits → ℕ → ℕ → ℕ → World Saved → Played Saved
 played_on_in s limits stop taken done w = played_on
-    (cells_of s.hooks) s.table limits (scripts_in s) stop taken done w
+    (cells_of s.hooks) s.table (limits_in limits) (scripts_in s) stop taken done w
 
 abbrev pub played_first_in : CodeSetting → Plan → ℕ → World Saved → Played Saved
 played_first_in s plan n w = played_first (cells_of s.hooks) s.table plan (scripts_in s) n w
 
--- ---- what a play asks for
-
--- the world's captured states fit the scripts, its lines were told, and few entries were posted
-pub record MayPlay (s : CodeSetting) (w : World Saved) : Type 0 where
-  pub fit : FitIn s w
-  pub quiet : w.trace ≡ []
-  pub next : w.agenda.next < 2 ^ 61
-
--- the limits are inside those of plays
-pub record AreLimits (limits : Limits) : Type 0 where
-  pub instructions : limits.0 ≤ instruction_limit
-  pub entries : limits.1 ≤ entry_limit
-  pub until : limits.2 ≤ time_limit
-
--- a part of a play begins after so many entries and instructions, and takes some entries
-pub record MayGo (entries stop taken done : ℕ) : Type 0 where
-  pub some : taken < stop
-  pub within : taken ≤ entries
-  pub few : done < 2 ^ 61
+-- ---- what a part of a play keeps
 
 -- What a part of a play keeps, so that its world can be saved: captured states fit still, and at
 -- most so many entries were posted, and instructions executed, beyond these.

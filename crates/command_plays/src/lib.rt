@@ -10,11 +10,13 @@
 #![tactic(auto)]
 
 pub mod laws;
+mod limits;
 mod lines;
 mod list;
 mod part;
 mod telling;
 
+pub use limits::limits_of;
 pub use lines::{play_lines, play_world};
 pub use list::list_one;
 pub use part::{play_first, play_part};

@@ -6,9 +6,11 @@ ghost use Rattle.module_player.specs.EndTexts.{HasText, IsEnding};
 ghost use Rattle.command_work.specs.Work.{CutsShort};
 ghost use Rattle.command_work.specs.Calls.{TalliesPuts};
 ghost use Rattle.play_worlds.specs.Worlds.{plan_world};
-ghost use Rattle.command_plays.specs.Plays.{AreLimits, MayPlay, plan_played_in, played_in};
+ghost use Rattle.module_player.specs.Premises.{MayPlay};
+ghost use Rattle.command_plays.specs.Plays.{plan_played_in, played_in};
 ghost use Rattle.command_plays.specs.Tellings.{TakesLines};
 
+use crate::limits::limits_of;
 use crate::telling::cut_of;
 use area_tree::Area;
 use command_work::Status;
@@ -32,7 +34,6 @@ pub fn play_world<S: Sink>(
     out: &mut S,
 ) -> Result<(World<Saved>, Played), Status>
     requires world { MayPlay (seen setting.now) world.world }
-    requires limits { AreLimits (limits.instructions, limits.entries, limits.until) }
     ensures told { IfOk result (λ answer. HasText answer.1.how) }
     ensures ending { IfOk result (λ answer. IsEnding answer.1 (played_in (seen setting.now) limits
         world.world) answer.0.world) }
@@ -71,11 +72,7 @@ pub fn play_lines<S: Sink>(
     ensures counts { TalliesPuts S.faults result out.old out.new }
     ensures only { IfErr result CutsShort }
 {
-    let limits = PlayLimits {
-        instructions: plan.limit,
-        entries: plan.entries,
-        until: plan.until,
-    };
+    let limits = limits_of(plan);
     match world_of(alloc, area, plan) {
         Err(NoMemory) => Err(Status::Memory),
         Ok(world) => play_world(alloc, setting, world, limits, out),

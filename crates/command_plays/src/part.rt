@@ -7,10 +7,11 @@ ghost use Rattle.module_player.specs.EndTexts.{IsEnding};
 ghost use Rattle.command_work.specs.Work.{CutsShort};
 ghost use Rattle.command_work.specs.Calls.{TalliesPuts};
 ghost use Rattle.play_worlds.specs.Worlds.{plan_world};
-ghost use Rattle.command_plays.specs.Plays.{AreLimits, KeepsPart, MayGo, MayPlay};
-ghost use Rattle.command_plays.specs.Plays.{played_first_in, played_on_in};
+ghost use Rattle.module_player.specs.Premises.{MayGo, MayPlay};
+ghost use Rattle.command_plays.specs.Plays.{KeepsPart, played_first_in, played_on_in};
 ghost use Rattle.command_plays.specs.Tellings.{cut_of, TakesLines};
 
+use crate::limits::limits_of;
 use crate::telling::cut_of;
 use area_tree::Area;
 use command_work::Status;
@@ -30,15 +31,14 @@ pub fn play_part<S: Sink>(
     alloc: Global,
     setting: &PlaySetting<'_, '_>,
     world: World<Saved>,
-    limits: (u64, u64, u64),
+    limits: PlayLimits,
     stop: u64,
     taken: u64,
     done: u64,
     out: &mut S,
 ) -> Result<(World<Saved>, Played), Status>
     requires world { MayPlay (seen setting.now) world.world }
-    requires limits { AreLimits limits }
-    requires goes { MayGo limits.1 stop taken done }
+    requires goes { MayGo limits.entries stop taken done }
     ensures told { IfOk result (λ answer. cut_of answer.1.how ≡ None) }
     ensures ending { IfOk result (λ answer. IsEnding answer.1 (played_on_in (seen setting.now)
         limits stop taken done world.world) answer.0.world) }
@@ -51,12 +51,6 @@ pub fn play_part<S: Sink>(
     ensures only { IfErr result CutsShort }
 {
     let mut world = world;
-    let (instructions, entries, until) = limits;
-    let limits = PlayLimits {
-        instructions,
-        entries,
-        until,
-    };
     let played = play_on(alloc, setting, &mut world, limits, stop, taken, done, out);
     match cut_of(played.how) {
         Some(status) => {
@@ -89,7 +83,7 @@ pub fn play_first<S: Sink>(
         answer.0.world) }
     ensures only { IfErr result CutsShort }
 {
-    let limits = (plan.limit, plan.entries, plan.until);
+    let limits = limits_of(plan);
     let stop = entries.min(plan.entries);
     match world_of(alloc, area, plan) {
         Err(NoMemory) => Err(Status::Memory),

@@ -4,7 +4,7 @@ use Rattle.saved_state.specs.declared.saved.Saved.{Saved}
 use Rattle.world_rules.specs.World.{World}
 use Rattle.ncs_machine.specs.Settings.{CodeSetting}
 use Rattle.play_worlds.specs.Worlds.{first_world}
-use Rattle.command_plays.specs.Plays.{MayPlay}
+use Rattle.module_player.specs.Premises.{MayPlay}
 
 first_plays : (s : CodeSetting) (name : List ℕ) → MayPlay s (first_world name)
 first_plays s name = record { fit = record { agenda = (tt, tt); queues = tt }; quiet = refl; next = omega arith }

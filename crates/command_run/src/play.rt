@@ -11,7 +11,7 @@ ghost use Rattle.ncs_machine.specs.Settings.{scripts_in};
 ghost use Rattle.command_work.specs.Counts.{Refusing};
 ghost use Rattle.command_work.specs.Calls.{TalliesPuts, DoesPuts};
 ghost use Rattle.command_files.specs.Checks.{IsStackedFile};
-ghost use Rattle.command_plays.specs.Plays.{MayPlay};
+ghost use Rattle.module_player.specs.Premises.{MayPlay};
 ghost use Rattle.command_plays.specs.Scripts.{listed, plays_code, plays_file, tells_in};
 ghost use Rattle.command_run.specs.Tellings.{StopsPlay};
 

@@ -23,6 +23,7 @@ use Rattle.module_player.specs.declared.scripts.Ended.{Ended}
 use Rattle.module_player.specs.declared.entry.Entered.{Entered}
 use Rattle.module_player.specs.CodePlays.{code_runner, run_of, runner_in}
 use Rattle.module_player.specs.Entries.{HasActed, HasEntered, HasRun, KeepsFits, as_entered, run_with_ending, turn_taken}
+use Rattle.module_player.specs.Premises.{IsActor, IsReady}
 
 -- ---- states that fit
 
@@ -168,6 +169,17 @@ acts_now s o x w u keeps fits world valid acts f e =
     let k = subst (IsTurned o w) (sym e) (keeps o w world valid acts) in
     let h = subst (TurnedFits (scripts_in s) (tables_in s)) (sym e) (fits (scripts_in s) (tables_in s) o w f) in
     record { stored = h.action; fit = h.world; clock = k.clock; few = k.at_most_one; objects = k.objects; acting = k.acting }
+
+pub ready_on : (s : CodeSetting) (o : ℕ) (x : Saved) (w u : World Saved) (left now : ℕ) → ActsNow s o x w u → IsReady s 1 w left → left ≤ now → IsReady s 0 u now
+ready_on s o x w u left now a r grows = record {
+  fit = a.fit;
+  clock = let k = a.clock in let m = r.clock in omega arith;
+  next = let k = a.few in let m = r.next in omega arith;
+  room = let m = r.room in omega arith;
+}
+
+pub actor_on : (s : CodeSetting) (o : ℕ) (x : Saved) (w u : World Saved) → ActsNow s o x w u → IsActor o w → IsActor o u
+actor_on s o x w u a is = record { first = is.first; within = let k = a.objects in let m = is.within in omega arith; acting = a.acting }
 
 pub turn_acts : (s : CodeSetting) (limit o : ℕ) (x : Saved) (e : Entered) (w u v : World Saved) → u.agenda.next ≤ w.agenda.next + 1
     → record { action = Some x; world = u } ≡ turn o w

@@ -1,5 +1,5 @@
 -- What is told of an entry's scripts, and of an entry.
-use Rattle.std.specs.Prelude.{◌≡◌, ◌≤◌, ◌<◌, ◌+◌, ◌^◌, ℕ, List}
+use Rattle.std.specs.Prelude.{◌≡◌, ◌≤◌, ◌+◌, ℕ, List}
 use Rattle.machine_rules.specs.Machine.{Script}
 use Rattle.stack_rules.specs.Fits.{Tables}
 use Rattle.saved_state.specs.declared.saved.Saved.{Saved}
@@ -62,8 +62,3 @@ HasEntered s limit e p w v = Comes s limit (limit + 2) e p w v
 -- a Turn of an object
 abbrev pub turn_taken : Runner Saved → ℕ → World Saved → plays.Entered Saved
 turn_taken runner o w = turn_entry runner o (turn o w).action (turn o w).world
-
--- the clock and the number of the next post are so small that an entry can run
-pub record CanRunEntry (w : World Saved) : Type 0 where
-  pub clock : w.clock < 2 ^ 62
-  pub next : w.agenda.next + 1 < 2 ^ 62

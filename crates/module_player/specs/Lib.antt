@@ -1,4 +1,6 @@
 pub mod CodePlays
+pub mod Limits
+pub mod Premises
 pub mod Entries
 pub mod Turns
 pub mod Answers

@@ -1,7 +1,6 @@
 //! Plays: entry after entry.
 ghost use Rattle.std.specs.Prelude.{◌≡◌, ◌≢◌, ◌≤◌, ◌<◌, ◌+◌, ◌^◌, ◌++◌, [], IsTrue};
 ghost use Rattle.nwq_outside.specs.Outside.{TookPrefix};
-ghost use Rattle.nwq_value.specs.Limits.{entry_limit, instruction_limit, time_limit};
 ghost use Rattle.world_rules.specs.Trace.{trace_text};
 ghost use Rattle.world_rules.specs.Turns.{begin};
 ghost use Rattle.world_rules.specs.Plays.{full, play_on};
@@ -11,6 +10,7 @@ ghost use Rattle.module_player.specs.Answers.{CountsPlay, EndsAs, HasPlayed, IsL
 ghost use Rattle.module_player.specs.Answers.{TakesTrace, WherePlayed};
 ghost use Rattle.module_player.specs.CodePlays.{code_play, code_play_on, played_before, runner_in};
 ghost use Rattle.module_player.specs.Cuts.{IsCutShort, WhereCut, cut_lines};
+ghost use Rattle.module_player.specs.Premises.{MayGo, MayPlay};
 ghost use Rattle.module_player.specs.declared.played.How.TheVariants as answer;
 
 use crate::limits::PlayLimits;
@@ -51,15 +51,8 @@ fn play_from<S: Sink>(
     done: u64,
     out: &mut S,
 ) -> Played
-    requires fit { FitIn (seen setting.now) world.old.world }
-    requires quiet { world.old.world.trace ≡ [] }
-    requires next { world.old.world.agenda.next < 2 ^ 61 }
-    requires limit { limits.instructions ≤ instruction_limit }
-    requires entries { limits.entries ≤ entry_limit }
-    requires until { limits.until ≤ time_limit }
-    requires taken { taken < stop }
-    requires within { taken ≤ limits.entries }
-    requires done { done < 2 ^ 61 }
+    requires world { MayPlay (seen setting.now) world.old.world }
+    requires goes { MayGo limits.entries stop taken done }
     ensures played { HasPlayed (seen setting.now) result (played_before taken done world.old.world)
         (play_on (runner_in (seen setting.now) limits.instructions) (record {
           entries =
@@ -100,15 +93,7 @@ fn play_from<S: Sink>(
                 instructions: count,
             };
         }
-        match turn(
-            alloc,
-            setting,
-            world,
-            limits.instructions,
-            limits.until,
-            &mut text,
-            out,
-        ) {
+        match turn(alloc, setting, world, limits, &mut text, out) {
             TurnOutcome::Goes(n) => count += n,
             TurnOutcome::Stops(n) => {
                 return Played {
@@ -160,15 +145,8 @@ pub fn play_on<S: Sink>(
     done: u64,
     out: &mut S,
 ) -> Played
-    requires fit { FitIn (seen setting.now) world.old.world }
-    requires quiet { world.old.world.trace ≡ [] }
-    requires next { world.old.world.agenda.next < 2 ^ 61 }
-    requires limit { limits.instructions ≤ instruction_limit }
-    requires entries { limits.entries ≤ entry_limit }
-    requires until { limits.until ≤ time_limit }
-    requires taken { taken < stop }
-    requires within { taken ≤ limits.entries }
-    requires done { done < 2 ^ 61 }
+    requires world { MayPlay (seen setting.now) world.old.world }
+    requires goes { MayGo limits.entries stop taken done }
     // How the play ends, after how many entries and instructions, and in which world.
     ensures ending { EndsAs result.how (code_play_on (host_in (seen setting.now))
         limits.instructions limits.entries limits.until stop taken done world.old.world).ending }
@@ -221,12 +199,7 @@ pub fn play<S: Sink>(
     limits: PlayLimits,
     out: &mut S,
 ) -> Played
-    requires fit { FitIn (seen setting.now) world.old.world }
-    requires quiet { world.old.world.trace ≡ [] }
-    requires next { world.old.world.agenda.next < 2 ^ 61 }
-    requires limit { limits.instructions ≤ instruction_limit }
-    requires entries { limits.entries ≤ entry_limit }
-    requires until { limits.until ≤ time_limit }
+    requires world { MayPlay (seen setting.now) world.old.world }
     // How the play ends, after how many entries and instructions, and in which world.
     ensures ending { EndsAs result.how (code_play (host_in (seen setting.now)) limits.instructions
         limits.entries limits.until world.old.world).ending }

@@ -5,6 +5,7 @@ pub mod ServingOnce
 pub mod InHooks
 pub mod InSetting
 pub mod Endings
+pub mod Begins
 pub mod Steps
 pub mod Names
 pub mod Leading

@@ -5,7 +5,8 @@ ghost use Rattle.machine_rules.specs.Runs.{entry, run as run_of};
 ghost use Rattle.stack_rules.specs.Laws.{AllMeet};
 ghost use Rattle.stack_rules.specs.Safe.{IsSafeFrame};
 ghost use Rattle.world_rules.specs.World.{count};
-ghost use Rattle.ncs_machine.specs.Endings.{FitsBegin, IsCut, IsRunOf, WhereCut};
+ghost use Rattle.ncs_machine.specs.Begins.{MayBegin, MayRun};
+ghost use Rattle.ncs_machine.specs.Endings.{IsCut, IsRunOf, WhereCut};
 ghost use Rattle.ncs_machine.specs.Host.{engine_view, first_frame, host, run_from, scripts_of};
 ghost use Rattle.ncs_machine.specs.Host.{tables_of};
 ghost use Rattle.ncs_machine.specs.InSetting.{seen};
@@ -108,9 +109,7 @@ fn run_frame(
     limit: u64,
 ) -> (Ran, u64, u32)
     requires limit { limit ≤ instruction_limit }
-    requires clock { world.old.world.clock < 2 ^ 62 }
-    requires next { world.old.world.agenda.next < 2 ^ 62 }
-    requires caller { frame.self ≤ count world.old.world }
+    requires runs { MayRun frame.self world.old.world }
     requires safe { IsSafeFrame (scripts_in (seen setting.now)) (tables_in (seen setting.now))
         frame }
     ensures room { world.old.room ≤ world.new.room }
@@ -145,13 +144,9 @@ pub fn run(
     caller: u32,
     limit: u64,
 ) -> (Ran, u64, u32)
-    requires listed { script < length setting.now.code.scripts }
-    requires stored { FitsBegin (scripts_in (seen setting.now)) (tables_in (seen setting.now))
-        begin }
+    requires begins { MayBegin (seen setting.now) script begin }
     requires limit { limit ≤ instruction_limit }
-    requires clock { world.old.world.clock < 2 ^ 62 }
-    requires next { world.old.world.agenda.next < 2 ^ 62 }
-    requires caller { caller ≤ count world.old.world }
+    requires runs { MayRun caller world.old.world }
     ensures room { world.old.room ≤ world.new.room }
     ensures run { IsRunOf result.0 result.1 result.2 (run_from (host_in (seen setting.now)) limit
         script begin caller world.old.world) (scripts_in (seen setting.now))

@@ -9,4 +9,4 @@ pub run_frame-requires-clause-safe : goal.run_frame-requires-clause-safe
 run_frame-requires-clause-safe g c =
     subst (IsSafeFrame (scripts_in (seen c.args.setting.now)) (tables_in (seen c.args.setting.now))) (sym c.started-frame.ensures.frame)
     (start_safe c.args.setting.now.code.scripts
-    (tables_in (seen c.args.setting.now)) c.args.setting.now.code.table c.args.script c.args.caller c.entries_begin_safely.ensures.scripts c.requires.listed c.keeps.ensures.checked.meets)
+    (tables_in (seen c.args.setting.now)) c.args.setting.now.code.table c.args.script c.args.caller c.entries_begin_safely.ensures.scripts c.requires.begins.listed c.keeps.ensures.checked.meets)

@@ -1,0 +1,19 @@
+-- What is asked of an entry that begins.
+use Rattle.std.specs.Prelude.{◌≤◌, ◌<◌, ◌^◌, ℕ, length}
+use Rattle.saved_state.specs.declared.saved.Saved.{Saved}
+use Rattle.world_rules.specs.World.{World, count}
+use Rattle.ncs_machine.specs.Endings.{FitsBegin}
+use Rattle.ncs_machine.specs.Settings.{CodeSetting, scripts_in, tables_in}
+use Rattle.ncs_machine.specs.declared.scripts.Begin.{Begin}
+
+-- its first script is listed, and a captured state with which it begins fits
+pub record MayBegin (s : CodeSetting) (script : ℕ) (begin : Begin) : Type 0 where
+  pub listed : script < length s.scripts
+  pub stored : FitsBegin (scripts_in s) (tables_in s) begin
+
+-- The clock and the number of the next post are so small that scripts can post, and they run on an
+-- object that is there, or on none.
+pub record MayRun (self : ℕ) (w : World Saved) : Type 0 where
+  pub clock : w.clock < 2 ^ 62
+  pub next : w.agenda.next < 2 ^ 62
+  pub caller : self ≤ count w
