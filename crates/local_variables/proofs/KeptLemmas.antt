@@ -15,7 +15,7 @@ use Rattle.local_variables.specs.declared.held.Held.{Held}
 use Rattle.local_variables.specs.declared.held.Content.{Content}
 use Rattle.local_variables.specs.declared.held.Content.TheVariants.{Int, Text}
 use Rattle.local_variables.specs.Variables.{Variable, IntVar, TextVar, is_int, is_text, same_variable, first, put}
-use Rattle.local_variables.specs.Kept.{named, variable_in, seen, held_at, rewritten, stamp_of, Leads, AreKept}
+use Rattle.local_variables.specs.Kept.{named, variable_in, seen, held_at, rewritten, stamp_of, AreKept}
 use Rattle.local_variables.proofs.VariableLaws.{apart, same_equiv, put_distinct, filter_distinct, without_first, filter_without, int_like, text_like}
 
 -- a variable with another content
