@@ -1,9 +1,10 @@
 //! The command.
-ghost use Rattle.std.specs.Prelude.{◌≡◌, ◌≤◌, ℕ, length, map, IsTrue, IfErr};
+ghost use Rattle.std.specs.Prelude.{◌≡◌, ◌≤◌, ℕ, length, IsTrue, IfErr};
 ghost use Rattle.nwq_value.specs.Limits.{file_limit};
 ghost use Rattle.nwq_value.specs.HeaderTable.{header_table};
 ghost use Rattle.nwq_outside.specs.Outside.{Contents};
 ghost use Rattle.world_core.specs.Calls.{AreServing, cells_of};
+ghost use Rattle.ncs_machine.specs.InHooks.{known_by};
 ghost use Rattle.play_generator.specs.Made.{number_limit, play_of};
 ghost use Rattle.nwq_outside.specs.declared.counts.FileCounts.{FileCounts};
 ghost use Rattle.command_work.specs.Work.{Does};
@@ -38,10 +39,9 @@ fn play_file<S: Sink>(
     requires made { made.now ≡ play_of number }
     requires small { length bytes.items ≤ file_limit }
     requires stacked { IsStackedFile table.now bytes.items }
-    requires hooks { AreServing (map (λ h. h.known) hooks.now.all.items) }
-    ensures does { IsTrue S.tells → (c : Contents) →
-        Does (checks_made (cells_of (map (λ h. h.known) hooks.now.all.items)) number bytes.items)
-        c (S.taken out.old) result c (S.taken out.new) }
+    requires hooks { AreServing (known_by hooks.now) }
+    ensures does { IsTrue S.tells → (c : Contents) → Does (checks_made (cells_of (known_by
+        hooks.now)) number bytes.items) c (S.taken out.old) result c (S.taken out.new) }
     ensures counts { (counts : FileCounts) → Tallies result (Counted counts (S.faults out.old))
         (Counted counts (S.faults out.new)) }
     ensures only { IfErr result (Refusing Status.Limit) }
@@ -65,10 +65,9 @@ fn play_made<S: Sink>(
     requires header { table.now ≡ header_table }
     requires number { number ≤ number_limit }
     requires made { made.now ≡ play_of number }
-    requires hooks { AreServing (map (λ h. h.known) hooks.now.all.items) }
-    ensures does { IsTrue S.tells → (c : Contents) →
-        Does (generates (cells_of (map (λ h. h.known) hooks.now.all.items)) number)
-        c (S.taken out.old) result c (S.taken out.new) }
+    requires hooks { AreServing (known_by hooks.now) }
+    ensures does { IsTrue S.tells → (c : Contents) → Does (generates (cells_of (known_by hooks.now))
+        number) c (S.taken out.old) result c (S.taken out.new) }
     ensures counts { (counts : FileCounts) → Tallies result (Counted counts (S.faults out.old))
         (Counted counts (S.faults out.new)) }
     ensures only { IfErr result StopsGenerate }
@@ -88,10 +87,9 @@ pub fn generate<S: Sink>(
     out: &mut S,
 ) -> Result<(), Status>
     requires number { number ≤ number_limit }
-    requires hooks { AreServing (map (λ h. h.known) hooks.now.all.items) }
-    ensures does { IsTrue S.tells → (c : Contents) →
-        Does (generates (cells_of (map (λ h. h.known) hooks.now.all.items)) number)
-        c (S.taken out.old) result c (S.taken out.new) }
+    requires hooks { AreServing (known_by hooks.now) }
+    ensures does { IsTrue S.tells → (c : Contents) → Does (generates (cells_of (known_by hooks.now))
+        number) c (S.taken out.old) result c (S.taken out.new) }
     ensures counts { (counts : FileCounts) → Tallies result (Counted counts (S.faults out.old))
         (Counted counts (S.faults out.new)) }
     ensures only { IfErr result StopsGenerate }

@@ -1,17 +1,18 @@
 //! The play of a made play's code.
-ghost use Rattle.std.specs.Prelude.{◌≡◌, ◌≤◌, List, codes, map, IsTrue, IfErr};
+ghost use Rattle.std.specs.Prelude.{◌≡◌, ◌≤◌, List, codes, IsTrue, IfErr};
 ghost use Rattle.nwq_value.specs.HeaderTable.{header_table};
 ghost use Rattle.nwq_outside.specs.Outside.{Contents};
 ghost use Rattle.ncs_code.specs.Plain.{PlainOp};
 ghost use Rattle.stack_rules.specs.Rules.{MeetsRules};
 ghost use Rattle.stack_check.specs.Checked.{kept_table};
 ghost use Rattle.world_core.specs.Calls.{AreServing, cells_of};
+ghost use Rattle.ncs_machine.specs.InHooks.{known_by};
 ghost use Rattle.ncs_machine.specs.InSetting.{seen};
 ghost use Rattle.ncs_machine.specs.Settings.{scripts_in};
 ghost use Rattle.plan_text.specs.Plans.{IsPlan};
 ghost use Rattle.play_generator.specs.Made.{number_limit, play_of};
 ghost use Rattle.play_worlds.specs.Worlds.{plan_world};
-ghost use Rattle.command_plays.specs.Plays.{plan_played};
+ghost use Rattle.command_plays.specs.Plays.{plan_played_in};
 ghost use Rattle.command_plays.specs.Scripts.{listed};
 ghost use Rattle.nwq_outside.specs.declared.counts.FileCounts.{FileCounts};
 ghost use Rattle.command_work.specs.Work.{Does};
@@ -47,9 +48,8 @@ fn play_over<S: Sink>(
     requires header { setting.now.code.table ≡ header_table }
     requires number { number ≤ number_limit }
     requires plan { IsPlan plan.now }
-    ensures does { IsTrue S.tells → (c : Contents) → Does (tells number (plan_played
-        (cells_of (seen setting.now).hooks) setting.now.code.table plan.now
-        (scripts_in (seen setting.now)) (plan_world area plan.now))) c (S.taken out.old) result c
+    ensures does { IsTrue S.tells → (c : Contents) → Does (tells number (plan_played_in
+        (seen setting.now) plan.now (plan_world area plan.now))) c (S.taken out.old) result c
         (S.taken out.new) }
     ensures counts { (counts : FileCounts) → Tallies result (Counted counts (S.faults out.old))
         (Counted counts (S.faults out.new)) }
@@ -113,10 +113,9 @@ pub(crate) fn play_code<S: Sink>(
     requires number { number ≤ number_limit }
     requires made { made.now ≡ play_of number }
     requires meets { MeetsRules table.now code.code (kept_table code) }
-    requires hooks { AreServing (map (λ h. h.known) hooks.now.all.items) }
-    ensures does { IsTrue S.tells → (c : Contents) →
-        Does (plays_made (cells_of (map (λ h. h.known) hooks.now.all.items)) number code.code)
-        c (S.taken out.old) result c (S.taken out.new) }
+    requires hooks { AreServing (known_by hooks.now) }
+    ensures does { IsTrue S.tells → (c : Contents) → Does (plays_made (cells_of (known_by
+        hooks.now)) number code.code) c (S.taken out.old) result c (S.taken out.new) }
     ensures counts { (counts : FileCounts) → Tallies result (Counted counts (S.faults out.old))
         (Counted counts (S.faults out.new)) }
     ensures only { IfErr result (Refusing Status.Limit) }

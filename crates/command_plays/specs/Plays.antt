@@ -12,10 +12,9 @@ use Rattle.world_rules.specs.Plays as plays
 use Rattle.world_rules.specs.Plays.{PlayEnd, Played}
 use Rattle.world_core.specs.Calls.{cells_of}
 use Rattle.ncs_machine.specs.Host.{host}
-use Rattle.ncs_machine.specs.Settings.{CodeSetting, FitIn, host_in, scripts_in}
+use Rattle.ncs_machine.specs.Settings.{CodeSetting, FitIn, scripts_in}
 use Rattle.module_player.specs.CodePlays.{code_play, code_play_on}
-use Rattle.module_player.specs.Limits.{limits_in}
-use Rattle.module_player.specs.declared.limits.PlayLimits.{PlayLimits}
+pub use Rattle.module_player.specs.CodePlays.{played_in, played_on_in}
 use Rattle.module_player.specs.declared.played.Played.{Played as Answer}
 use Rattle.command_work.specs.declared.status.Status.TheVariants.{Limit}
 use Rattle.command_work.specs.Work.{Work, Gives, Ends, Finished}
@@ -45,16 +44,8 @@ played_first cell header plan scripts n w = played_on cell header (limits_of pla
 
 -- ---- the same in a setting, where the cells are those that its hooks look up
 
-abbrev pub played_in : CodeSetting → PlayLimits → World Saved → Played Saved
-played_in s limits w = code_play
-    (host_in s) limits.instructions limits.entries limits.until w
-
 abbrev pub plan_played_in : CodeSetting → Plan → World Saved → Played Saved
 plan_played_in s plan w = plan_played (cells_of s.hooks) s.table plan (scripts_in s) w
-
-abbrev pub played_on_in : CodeSetting → PlayLimits → ℕ → ℕ → ℕ → World Saved → Played Saved
-played_on_in s limits stop taken done w = played_on
-    (cells_of s.hooks) s.table (limits_in limits) (scripts_in s) stop taken done w
 
 abbrev pub played_first_in : CodeSetting → Plan → ℕ → World Saved → Played Saved
 played_first_in s plan n w = played_first (cells_of s.hooks) s.table plan (scripts_in s) n w

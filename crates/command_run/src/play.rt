@@ -8,12 +8,12 @@ ghost use Rattle.world_core.specs.Calls.{AreServing, cells_of};
 ghost use Rattle.ncs_machine.specs.InHooks.{known_by};
 ghost use Rattle.ncs_machine.specs.InSetting.{seen};
 ghost use Rattle.ncs_machine.specs.Settings.{scripts_in};
+ghost use Rattle.module_player.specs.Limits.{limits_in};
 ghost use Rattle.command_work.specs.Counts.{Refusing};
 ghost use Rattle.command_work.specs.Calls.{TalliesPuts, DoesPuts};
 ghost use Rattle.command_files.specs.Checks.{IsStackedFile};
-ghost use Rattle.module_player.specs.Premises.{MayPlay};
-ghost use Rattle.command_plays.specs.Scripts.{listed, plays_code, plays_file, tells_in};
-ghost use Rattle.command_run.specs.Tellings.{StopsPlay};
+ghost use Rattle.command_plays.specs.Scripts.{listed, plays_code, plays_file};
+ghost use Rattle.command_run.specs.Tellings.{default_limits, StopsPlay};
 
 use crate::telling::tell_end;
 use command_files::load_checked;
@@ -25,10 +25,8 @@ use ncs_machine::PlaySetting;
 use nwq_outside::Sink;
 use nwq_value::{NoMemory, Table};
 use play_worlds::first_world;
-use saved_state::Saved;
 use stack_check::Checked;
 use std::alloc::Global;
-use world_core::World;
 
 /// The instructions that an entry may take.
 const INSTRUCTIONS: u64 = 131_072;
@@ -39,33 +37,19 @@ const ENTRIES: u64 = 10_000;
 /// The milliseconds after which no entry is taken.
 const UNTIL: u64 = 60_000;
 
-/// Plays listed scripts in a world, and tells the play.
-#[tactic(auto, using(crate::proofs::TellLemmas::cut_refuses))]
-fn tell_world<S: Sink>(
-    alloc: Global,
-    setting: &PlaySetting<'_, '_>,
-    world: World<Saved>,
-    out: &mut S,
-) -> Result<(), Status>
-    requires world { MayPlay (seen setting.now) world.world }
-    ensures does { IsTrue S.tells → DoesPuts S.taken (tells_in (seen setting.now) world.world)
-        out.old result out.new }
-    ensures counts { TalliesPuts S.faults result out.old out.new }
-    ensures only { IfErr result (Refusing Status.Limit) }
+/// How far a play may go where nothing is set.
+fn limits() -> PlayLimits
+    ensures default { limits_in result ≡ default_limits }
 {
-    let limits = PlayLimits {
+    PlayLimits {
         instructions: INSTRUCTIONS,
         entries: ENTRIES,
         until: UNTIL,
-    };
-    match play_world(alloc, setting, world, limits, out) {
-        Err(status) => Err(status),
-        Ok((world, played)) => tell_end(alloc, world, setting.code.scripts(), &played, out),
     }
 }
 
-/// Plays the one listed script from a start of it.
-#[tactic(auto, using(crate::proofs::PlayLemmas::starts))]
+/// Plays the one listed script from a start of it, and tells the play.
+#[tactic(auto, using(crate::proofs::PlayLemmas::starts, crate::proofs::TellLemmas::cut_refuses))]
 fn play_listed<S: Sink>(
     alloc: Global,
     setting: &PlaySetting<'_, '_>,
@@ -80,7 +64,10 @@ fn play_listed<S: Sink>(
 {
     match first_world(alloc, name) {
         Err(NoMemory) => Err(Status::Memory),
-        Ok(world) => tell_world(alloc, setting, world, out),
+        Ok(world) => match play_world(alloc, setting, world, limits(), out) {
+            Err(status) => Err(status),
+            Ok((world, played)) => tell_end(alloc, world, setting.code.scripts(), &played, out),
+        },
     }
 }
 
@@ -111,7 +98,7 @@ fn play_code<S: Sink>(
 }
 
 /// Loads the bytes of the file of a compiled script, checks its code and plays it.
-#[tactic(auto, using(crate::proofs::Steps::steps, crate::proofs::PlayLemmas::stops), unfolding(command_plays::specs::Scripts::plays_file))]
+#[tactic(auto, using(crate::proofs::PlayLemmas::stops))]
 pub fn play_file<S: Sink>(
     alloc: Global,
     table: &Table,

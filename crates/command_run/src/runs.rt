@@ -8,7 +8,7 @@ ghost use Rattle.command_sources.specs.Reads.{ReadsUnit, header_read};
 ghost use Rattle.command_files.specs.Checks.{IsStackedFile};
 ghost use Rattle.command_compile.specs.Files.{code_name};
 ghost use Rattle.command_plays.specs.Scripts.{plays_file};
-ghost use Rattle.command_run.specs.Runs.{runs_under, runs, StopsRun};
+ghost use Rattle.command_run.specs.Runs.{runs, StopsRun};
 
 use crate::play::play_file;
 use command_compile::{code_name, read_compiled};
@@ -51,33 +51,8 @@ fn play_compiled<S: Sink>(
     }
 }
 
-/// Plays one start entry of the script of this name under a header.
-#[tactic(auto, using(crate::proofs::Steps::steps, crate::proofs::StopLemmas::runs_stop), unfolding(crate::specs::Runs::runs_under))]
-fn run_under<F: Files, S: Sink>(
-    alloc: Global,
-    table: &Table,
-    script: &str,
-    files: &mut F,
-    out: &mut S,
-    hooks: &Hooks,
-) -> Result<(), Status>
-    requires hooks { AreServing (known_by hooks.now) }
-    ensures does { IsTrue F.tells → IsTrue S.tells → DoesOn F.contents S.taken (runs_under (cells_of
-        (known_by hooks.now)) script.now table.now) files.old out.old result files.new out.new }
-    ensures counts { TalliesOn F.counts S.faults result files.old out.old files.new out.new }
-    ensures same { F.contents files.new ≡ F.contents files.old }
-    ensures once { IsTrue F.tells → OnOk result (ReadsUnit (F.contents files.old) script.now
-        (F.reads files.old) (F.reads files.new)) }
-    ensures only { IfErr result StopsRun }
-{
-    match read_compiled(alloc, table, script, files, out) {
-        Err(status) => Err(status),
-        Ok(bytes) => play_compiled(alloc, table, script, bytes, hooks, out),
-    }
-}
-
 /// Plays one start entry of the script of this name, under the header that a word names.
-#[tactic(auto, using(crate::proofs::Steps::steps, crate::proofs::StopLemmas::runs_stop), unfolding(crate::specs::Runs::runs))]
+#[tactic(auto, using(crate::proofs::StopLemmas::runs_stop))]
 pub fn run<F: Files, S: Sink>(
     alloc: Global,
     header: &str,
@@ -98,6 +73,12 @@ pub fn run<F: Files, S: Sink>(
 {
     match read_table(alloc, header, files, out) {
         Err(status) => Err(status),
-        Ok(table) => run_under(alloc, &table, script, files, out, hooks),
+        Ok(table) => match read_compiled(alloc, &table, script, files, out) {
+            Err(status) => {
+                drop(table);
+                Err(status)
+            }
+            Ok(bytes) => play_compiled(alloc, &table, script, bytes, hooks, out),
+        },
     }
 }

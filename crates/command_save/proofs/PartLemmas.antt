@@ -1,6 +1,7 @@
 -- The first part of a play ends in a world that can be saved.
-use Rattle.std.proofs.Common.{arith, ◌≡◌, ◌≢◌, ◌<◌, ◌≤◌, ◌^◌, ℕ, inl, inr, List, ◌++◌, min, Result, Err, sym, ◌∙◌, subst}
+use Rattle.std.proofs.Common.{arith, ◌≡◌, ◌≢◌, ◌<◌, ◌≤◌, ◌+◌, ◌^◌, ℕ, inl, inr, List, ◌++◌, min, Result, Err, sym, ◌∙◌, subst}
 use Rattle.nwq_value.specs.Engine.{EngineTable}
+use Rattle.nwq_value.specs.Limits.{event_limit}
 use Rattle.nwq_outside.specs.Outside.{Contents, TookPrefix}
 use Rattle.gff_tree.specs.Whole.{PlainGff}
 use Rattle.area_rules.specs.Area.{PlainArea}
@@ -81,10 +82,11 @@ module _ (rest : PlaysCanRest) (fresh : PlanWorldsAreFresh) (scripts : List Load
         come = record { entries = subst (λ (k : ℕ). k ≤ plan.entries) (sym ends.entries) there.entries; clock = there.clock; instructions = executed };
       }
 
-  pub may_save : IsEnding answer first w → StatesFit (scripts_of scripts) (tables_of scripts) w → w.agenda.next < 2 ^ 61 → answer.instructions < 2 ^ 61
-      → WhereBroken answer.how (MaySave scripts file (limits_of plan) w answer)
-  may_save ends fit next executed =
-      where_broken answer.how (MaySave scripts file (limits_of plan) w answer) first.ending ends.ending (λ broken. saved_of ends fit next executed (can_rest broken))
+  pub may_save : IsEnding answer first w → StatesFit (scripts_of scripts) (tables_of scripts) w → w.agenda.next ≤ event_limit + 2 ^ 45
+      → answer.instructions ≤ 2 ^ 45 → WhereBroken answer.how (MaySave scripts file (limits_of plan) w answer)
+  may_save ends fit posted executed =
+      where_broken answer.how (MaySave scripts file (limits_of plan) w answer) first.ending ends.ending
+      (λ broken. saved_of ends fit (let p = posted in omega (arith, p)) (let e = executed in omega (arith, e)) (can_rest broken))
 
 -- ---- the work
 

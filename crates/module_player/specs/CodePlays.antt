@@ -11,6 +11,7 @@ use Rattle.world_rules.specs.EndText.{end_text}
 use Rattle.ncs_machine.specs.declared.scripts.Loaded.{Loaded}
 use Rattle.ncs_machine.specs.Host.{engine_view, host, scripts_of}
 use Rattle.ncs_machine.specs.Settings.{CodeSetting, host_in}
+use Rattle.module_player.specs.declared.limits.PlayLimits.{PlayLimits}
 
 -- what listed scripts run in under a header
 abbrev pub host_of : List Loaded → EngineTable → List Known → Host (World Saved)
@@ -58,6 +59,16 @@ abbrev pub code_play_on : Host (World Saved) → ℕ → ℕ → ℕ → ℕ →
 code_play_on host limit entries until stop taken done w =
     play_on (code_runner host limit) (record { entries = entries; until = until; stop = stop })
     (played_before taken done w)
+
+-- ---- the same in a setting, within limits
+
+abbrev pub played_in : CodeSetting → PlayLimits → World Saved → Played Saved
+played_in s limits w =
+    code_play (host_in s) limits.instructions limits.entries limits.until w
+
+abbrev pub played_on_in : CodeSetting → PlayLimits → ℕ → ℕ → ℕ → World Saved → Played Saved
+played_on_in s limits stop taken done w =
+    code_play_on (host_in s) limits.instructions limits.entries limits.until stop taken done w
 
 -- ---- the text at its end
 

@@ -108,9 +108,9 @@ fn script_entry(
     ensures entered { IfOk result (λ e. HasEntered (seen setting.now) limits.instructions e
         (finished (λ v. v) (run_of (run_from (host_in (seen setting.now)) limits.instructions script
         begin object world.old.world))) world.old.world world.new.world) }
-    ensures cut { OnErr result (IsCutIn (λ n. finished (λ v. v) (run_of (run_from (host_in (seen
-        setting.now)) n script begin object world.old.world))) limits.instructions world.old.world
-        world.new.world) }
+    ensures cut { OnErr result (IsCutIn (λ n. finished (λ v. v) (run_of (run_from
+        (host_in (seen setting.now)) n script begin object world.old.world))) limits.instructions
+        world.old.world world.new.world) }
 {
     let (ended, count) = run_scripts(alloc, setting, world, script, begin, object, limits)?;
     let stopped = finish(world, ended)?;

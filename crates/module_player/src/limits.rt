@@ -10,6 +10,7 @@ pub struct PlayLimits {
     pub entries: u64,
     /// The time by which an entry must be due.
     pub until: u64,
+    // Inside what a plan may set: who holds limits knows it.
     pub ghost some_instructions: { 1 ≤ instructions },
     pub ghost few_instructions: { instructions ≤ instruction_limit },
     pub ghost some_entries: { 1 ≤ entries },

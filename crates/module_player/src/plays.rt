@@ -3,12 +3,12 @@ ghost use Rattle.std.specs.Prelude.{◌≡◌, ◌≢◌, ◌≤◌, ◌<◌, �
 ghost use Rattle.nwq_outside.specs.Outside.{TookPrefix};
 ghost use Rattle.world_rules.specs.Trace.{trace_text};
 ghost use Rattle.world_rules.specs.Turns.{begin};
-ghost use Rattle.world_rules.specs.Plays.{full, play_on};
+ghost use Rattle.world_rules.specs.Plays.{full};
 ghost use Rattle.ncs_machine.specs.InSetting.{seen};
 ghost use Rattle.ncs_machine.specs.Settings.{FitIn, host_in};
 ghost use Rattle.module_player.specs.Answers.{CountsPlay, EndsAs, HasPlayed, IsLastEnd};
 ghost use Rattle.module_player.specs.Answers.{TakesTrace, WherePlayed};
-ghost use Rattle.module_player.specs.CodePlays.{code_play, code_play_on, played_before, runner_in};
+ghost use Rattle.module_player.specs.CodePlays.{played_before, played_in, played_on_in};
 ghost use Rattle.module_player.specs.Cuts.{IsCutShort, WhereCut, cut_lines};
 ghost use Rattle.module_player.specs.Premises.{MayGo, MayPlay};
 ghost use Rattle.module_player.specs.declared.played.How.TheVariants as answer;
@@ -54,34 +54,16 @@ fn play_from<S: Sink>(
     requires world { MayPlay (seen setting.now) world.old.world }
     requires goes { MayGo limits.entries stop taken done }
     ensures played { HasPlayed (seen setting.now) result (played_before taken done world.old.world)
-        (play_on (runner_in (seen setting.now) limits.instructions) (record {
-          entries =
-              limits.entries;
-          until = limits.until;
-          stop = stop;
-        })
-        (played_before taken done world.old.world)) S.tells (S.taken out.old) (S.taken out.new)
-        (S.faults out.old) (S.faults out.new) world.new.world }
+        (played_on_in (seen setting.now) limits stop taken done world.old.world) S.tells (S.taken
+        out.old) (S.taken out.new) (S.faults out.old) (S.faults out.new) world.new.world }
     ensures cut { WhereCut result.how (IsCutShort (host_in (seen setting.now)) limits.instructions
-        limits.until (play_on (runner_in (seen setting.now) limits.instructions) (record {
-          entries =
-              limits.entries;
-          until = limits.until;
-          stop = result.entries;
-        })
-        (played_before taken done world.old.world)) result.entries result.instructions
-        world.new.world) }
+        limits.until (played_on_in (seen setting.now) limits result.entries taken done
+        world.old.world) result.entries result.instructions world.new.world) }
     ensures told { IsTrue S.tells → WhereCut result.how (TookPrefix (cut_lines
-        (host_in (seen setting.now)) limits.instructions limits.until (play_on
-        (runner_in (seen setting.now) limits.instructions) (record {
-          entries = limits.entries;
-          until
-              = limits.until;
-          stop = result.entries;
-        }) (played_before taken done world.old.world)))
-        (S.taken out.old ++ trace_text (play_on (runner_in (seen setting.now) limits.instructions)
-        (record { entries = limits.entries; until = limits.until; stop = result.entries })
-        (played_before taken done world.old.world)).last.trace) (S.taken out.new)) }
+        (host_in (seen setting.now)) limits.instructions limits.until (played_on_in
+        (seen setting.now) limits result.entries taken done world.old.world)) (S.taken out.old ++
+        trace_text (played_on_in (seen setting.now) limits result.entries taken done
+        world.old.world).last.trace) (S.taken out.new)) }
 {
     let mut count = done;
     let mut text = Vec::new(alloc);
@@ -148,21 +130,18 @@ pub fn play_on<S: Sink>(
     requires world { MayPlay (seen setting.now) world.old.world }
     requires goes { MayGo limits.entries stop taken done }
     // How the play ends, after how many entries and instructions, and in which world.
-    ensures ending { EndsAs result.how (code_play_on (host_in (seen setting.now))
-        limits.instructions limits.entries limits.until stop taken done world.old.world).ending }
-    ensures entries { WherePlayed result.how (result.entries ≡ (code_play_on
-        (host_in (seen setting.now)) limits.instructions limits.entries limits.until stop taken done
-        world.old.world).last.entries) }
-    ensures instructions { WherePlayed result.how (result.instructions ≡ (code_play_on
-        (host_in (seen setting.now)) limits.instructions limits.entries limits.until stop taken done
-        world.old.world).last.count) }
-    ensures world { WherePlayed result.how (world.new.world ≡ (code_play_on
-        (host_in (seen setting.now)) limits.instructions limits.entries limits.until stop taken done
-        world.old.world).last.world) }
+    ensures ending { EndsAs result.how (played_on_in (seen setting.now) limits stop taken done
+        world.old.world).ending }
+    ensures entries { WherePlayed result.how (result.entries ≡ (played_on_in (seen setting.now)
+        limits stop taken done world.old.world).last.entries) }
+    ensures instructions { WherePlayed result.how (result.instructions ≡ (played_on_in
+        (seen setting.now) limits stop taken done world.old.world).last.count) }
+    ensures world { WherePlayed result.how (world.new.world ≡ (played_on_in (seen setting.now)
+        limits stop taken done world.old.world).last.world) }
     // The sink took the play's lines, or a prefix of them where the play was cut short.
-    ensures trace { IsTrue S.tells → TakesTrace result.how (trace_text (code_play_on
-        (host_in (seen setting.now)) limits.instructions limits.entries limits.until stop taken done
-        world.old.world).last.trace) (S.taken out.old) (S.taken out.new) }
+    ensures trace { IsTrue S.tells → TakesTrace result.how (trace_text (played_on_in
+        (seen setting.now) limits stop taken done world.old.world).last.trace) (S.taken out.old)
+        (S.taken out.new) }
     ensures faults { CountsPlay result.how (S.faults out.old) (S.faults out.new) }
     // What the world keeps, so that its text can be put, and the play can go on.
     ensures fit { WherePlayed result.how (FitIn (seen setting.now) world.new.world) }
@@ -173,18 +152,16 @@ pub fn play_on<S: Sink>(
     // stopped after some of its instructions, or done. The sink took a prefix of that entry's
     // lines.
     ensures cut { WhereCut result.how (IsCutShort (host_in (seen setting.now)) limits.instructions
-        limits.until (code_play_on (host_in (seen setting.now)) limits.instructions limits.entries
-        limits.until result.entries taken done world.old.world) result.entries result.instructions
-        world.new.world) }
+        limits.until (played_on_in (seen setting.now) limits result.entries taken done
+        world.old.world) result.entries result.instructions world.new.world) }
     ensures told { IsTrue S.tells → WhereCut result.how (TookPrefix (cut_lines
-        (host_in (seen setting.now)) limits.instructions limits.until (code_play_on
-        (host_in (seen setting.now)) limits.instructions limits.entries limits.until result.entries
-        taken done world.old.world)) (S.taken out.old ++ trace_text (code_play_on
-        (host_in (seen setting.now)) limits.instructions limits.entries limits.until result.entries
-        taken done world.old.world).last.trace) (S.taken out.new)) }
+        (host_in (seen setting.now)) limits.instructions limits.until (played_on_in
+        (seen setting.now) limits result.entries taken done world.old.world)) (S.taken out.old ++
+        trace_text (played_on_in (seen setting.now) limits result.entries taken done
+        world.old.world).last.trace) (S.taken out.new)) }
     // How much at most was posted, and executed.
-    ensures posted { WherePlayed result.how
-        (world.new.world.agenda.next ≤ world.old.world.agenda.next + 2 ^ 45) }
+    ensures posted { WherePlayed result.how (world.new.world.agenda.next ≤
+        world.old.world.agenda.next + 2 ^ 45) }
     ensures executed { WherePlayed result.how (result.instructions ≤ done + 2 ^ 45) }
 {
     play_from(alloc, setting, world, limits, stop, taken, done, out)
@@ -201,21 +178,16 @@ pub fn play<S: Sink>(
 ) -> Played
     requires world { MayPlay (seen setting.now) world.old.world }
     // How the play ends, after how many entries and instructions, and in which world.
-    ensures ending { EndsAs result.how (code_play (host_in (seen setting.now)) limits.instructions
-        limits.entries limits.until world.old.world).ending }
-    ensures entries { WherePlayed result.how (result.entries ≡ (code_play
-        (host_in (seen setting.now)) limits.instructions limits.entries limits.until
+    ensures ending { EndsAs result.how (played_in (seen setting.now) limits world.old.world).ending }
+    ensures entries { WherePlayed result.how (result.entries ≡ (played_in (seen setting.now) limits
         world.old.world).last.entries) }
-    ensures instructions { WherePlayed result.how (result.instructions ≡ (code_play
-        (host_in (seen setting.now)) limits.instructions limits.entries limits.until
-        world.old.world).last.count) }
-    ensures world { WherePlayed result.how (world.new.world ≡ (code_play
-        (host_in (seen setting.now)) limits.instructions limits.entries limits.until
+    ensures instructions { WherePlayed result.how (result.instructions ≡ (played_in
+        (seen setting.now) limits world.old.world).last.count) }
+    ensures world { WherePlayed result.how (world.new.world ≡ (played_in (seen setting.now) limits
         world.old.world).last.world) }
     // The sink took the play's lines, or a prefix of them where the play was cut short.
-    ensures trace { IsTrue S.tells → TakesTrace result.how (trace_text (code_play
-        (host_in (seen setting.now)) limits.instructions limits.entries limits.until
-        world.old.world).last.trace) (S.taken out.old) (S.taken out.new) }
+    ensures trace { IsTrue S.tells → TakesTrace result.how (trace_text (played_in (seen setting.now)
+        limits world.old.world).last.trace) (S.taken out.old) (S.taken out.new) }
     ensures faults { CountsPlay result.how (S.faults out.old) (S.faults out.new) }
     // What the world keeps, so that its text can be put, and the play can go on.
     ensures fit { WherePlayed result.how (FitIn (seen setting.now) world.new.world) }
@@ -226,15 +198,13 @@ pub fn play<S: Sink>(
     // stopped after some of its instructions, or done. The sink took a prefix of that entry's
     // lines.
     ensures cut { WhereCut result.how (IsCutShort (host_in (seen setting.now)) limits.instructions
-        limits.until (code_play_on (host_in (seen setting.now)) limits.instructions limits.entries
-        limits.until result.entries 0 0 world.old.world) result.entries result.instructions
-        world.new.world) }
+        limits.until (played_on_in (seen setting.now) limits result.entries 0 0 world.old.world)
+        result.entries result.instructions world.new.world) }
     ensures told { IsTrue S.tells → WhereCut result.how (TookPrefix (cut_lines
-        (host_in (seen setting.now)) limits.instructions limits.until (code_play_on
-        (host_in (seen setting.now)) limits.instructions limits.entries limits.until result.entries
-        0 0 world.old.world)) (S.taken out.old ++ trace_text (code_play_on
-        (host_in (seen setting.now)) limits.instructions limits.entries limits.until result.entries
-        0 0 world.old.world).last.trace) (S.taken out.new)) }
+        (host_in (seen setting.now)) limits.instructions limits.until (played_on_in
+        (seen setting.now) limits result.entries 0 0 world.old.world)) (S.taken out.old ++
+        trace_text (played_on_in (seen setting.now) limits result.entries 0 0
+        world.old.world).last.trace) (S.taken out.new)) }
     // It isn't broken off.
     ensures whole { result.how ≢ answer.Pause }
 {

@@ -129,12 +129,12 @@ pub(crate) fn turn<S: Sink>(
 ) -> TurnOutcome
     requires next { world.old.world.agenda.next + 1 < 2 ^ 62 }
     requires fit { FitIn (seen setting.now) world.old.world }
-    ensures turns { Turns result (seen setting.now) limits.instructions (runner_in (seen
-        setting.now) limits.instructions) (begin limits.until world.old.world) world.old.world
-        world.new.world }
-    ensures taken { IsTrue S.tells → TakesText result (trace_text (lines_of (runner_in (seen
-        setting.now) limits.instructions) (begin limits.until world.old.world))) (S.taken out.old)
-        (S.taken out.new) }
+    ensures turns { Turns result (seen setting.now) limits.instructions
+        (runner_in (seen setting.now) limits.instructions) (begin limits.until world.old.world)
+        world.old.world world.new.world }
+    ensures taken { IsTrue S.tells → TakesText result (trace_text (lines_of
+        (runner_in (seen setting.now) limits.instructions) (begin limits.until world.old.world)))
+        (S.taken out.old) (S.taken out.new) }
     ensures counts { CountsNext result (S.faults out.old) (S.faults out.new) }
     ensures cut { WhereCutIn result (IsCutAt (host_in (seen setting.now)) limits.instructions
         (begin limits.until world.old.world) world.old.world world.new.world) }

@@ -1,15 +1,15 @@
 //! An entry from its begin to its end.
-ghost use Rattle.std.specs.Prelude.{◌≡◌, ◌≤◌, ◌<◌, ◌^◌, [], length, map};
+ghost use Rattle.std.specs.Prelude.{◌≡◌, ◌≤◌, []};
 ghost use Rattle.nwq_value.specs.Limits.{instruction_limit};
 ghost use Rattle.machine_rules.specs.Runs.{entry, run as run_of};
-ghost use Rattle.stack_rules.specs.Laws.{AllMeet};
 ghost use Rattle.stack_rules.specs.Safe.{IsSafeFrame};
-ghost use Rattle.world_rules.specs.World.{count};
 ghost use Rattle.ncs_machine.specs.Begins.{MayBegin, MayRun};
 ghost use Rattle.ncs_machine.specs.Endings.{IsCut, IsRunOf, WhereCut};
 ghost use Rattle.ncs_machine.specs.Host.{engine_view, first_frame, host, run_from, scripts_of};
 ghost use Rattle.ncs_machine.specs.Host.{tables_of};
+ghost use Rattle.ncs_machine.specs.InHooks.{known_by};
 ghost use Rattle.ncs_machine.specs.InSetting.{seen};
+ghost use Rattle.ncs_machine.specs.Settings.{IsChecked, checked_listing};
 ghost use Rattle.ncs_machine.specs.Settings.{host_in, scripts_in, tables_in};
 ghost use Rattle.ncs_machine.specs.Steps.{state};
 ghost use Rattle.world_core.specs.Calls.{AreServing};
@@ -53,26 +53,19 @@ fn run_machine(
     table: &Table,
     limit: u64,
 ) -> (Ran, u64, u32)
-    requires few { length scripts.now < 2 ^ 32 }
+    requires checked { IsChecked (checked_listing scripts.now table.now) }
+    requires hooks { AreServing (known_by hooks.now) }
     requires limit { limit ≤ instruction_limit }
-    requires clock { world.old.world.clock < 2 ^ 62 }
-    requires next { world.old.world.agenda.next < 2 ^ 62 }
-    requires caller { machine.old.running.self ≤ count world.old.world }
-    requires meets { AllMeet table.now (scripts_of scripts.now)
-        (tables_of scripts.now) }
-    requires hooks { AreServing (map (λ h. h.known) hooks.now.all.items) }
+    requires runs { MayRun machine.old.running.self world.old.world }
     requires safe { IsSafeFrame (scripts_of scripts.now) (tables_of scripts.now)
         machine.old.running }
     requires alone { machine.old.waiting ≡ [] }
     ensures room { world.old.room ≤ world.new.room }
-    ensures run { IsRunOf result.0 result.1 result.2
-        (run_of (host (scripts_of scripts.now)
-        (engine_view table.now (map (λ h. h.known) hooks.now.all.items))) limit
-        (state machine.old world.old.world))
-        (scripts_of scripts.now) (tables_of scripts.now)
-        world.old.world world.new.world }
+    ensures run { IsRunOf result.0 result.1 result.2 (run_of (host (scripts_of scripts.now)
+        (engine_view table.now (known_by hooks.now))) limit (state machine.old world.old.world))
+        (scripts_of scripts.now) (tables_of scripts.now) world.old.world world.new.world }
     ensures cut { WhereCut result.0 (IsCut (host (scripts_of scripts.now)
-        (engine_view table.now (map (λ h. h.known) hooks.now.all.items))) result.1 result.2
+        (engine_view table.now (known_by hooks.now))) result.1 result.2
         (state machine.old world.old.world) world.new.world) }
 {
     steps_are_safe::<Scene>();

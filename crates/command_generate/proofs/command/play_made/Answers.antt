@@ -1,5 +1,6 @@
-use Rattle.std.proofs.Common.{map, ap, ◌∙◌}
+use Rattle.std.proofs.Common.{ap, ◌∙◌}
 use Rattle.world_core.specs.Calls.{cells_of}
+use Rattle.ncs_machine.specs.InHooks.{known_by}
 use Rattle.play_generator.specs.Made.{Play}
 use Rattle.command_generate.proofs.CommandLemmas.{compiled_then}
 use Rattle.command_generate.proofs.SourceLemmas.{found_does}
@@ -14,7 +15,7 @@ compile_source-requires-clause-source g c = record {
 
 pub returns-in-Ok-clause-does : goal.returns-in-Ok-clause-does
 returns-in-Ok-clause-does g c = λ tells d.
-    compiled_then (cells_of (map (λ h. h.known) c.args.hooks.now.all.items)) c.args.number c.play_file.result d (g.S.Sink.taken c.args.out.now)
+    compiled_then (cells_of (known_by c.args.hooks.now)) c.args.number c.play_file.result d (g.S.Sink.taken c.args.out.now)
     (g.S.Sink.taken c.args.out.now) (g.S.Sink.taken c.play_file.new.out) c.args.made.now c.source.result.now c.in-Ok.bytes c.into_vec.result.items
     c.requires.made c.source.ensures.source c.into_vec.ensures.items (found_does c.source.result.now c.in-Ok.bytes d (g.S.Sink.taken c.args.out.now) c.in-Ok.ensures.file)
     (c.play_file.ensures.does tells d)

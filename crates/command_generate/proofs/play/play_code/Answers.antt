@@ -13,3 +13,6 @@ returns-in-Ok-clause-does g c = λ tells d.
     subst (λ (s : CodeSetting). Does (plays_made (cells_of s.hooks) c.args.number c.args.code.code) d (g.S.Sink.taken c.args.out.now) c.play_listed.result
     d (g.S.Sink.taken c.play_listed.new.out)) c.of-setting.ensures.setting
     (c.play_listed.ensures.does tells c.args.code.code (ap scripts_in c.of-setting.ensures.setting ∙ c.in-Ok.ensures.listed) d)
+
+pub play_listed-requires-clause-header : goal.play_listed-requires-clause-header
+play_listed-requires-clause-header g c = ap (λ (s : CodeSetting). s.table) c.of-setting.ensures.setting ∙ c.requires.header
