@@ -1,6 +1,8 @@
 //! The frames of a running entry, and one step.
 ghost use Rattle.std.specs.Prelude.{◌≡◌, ◌≢◌, ◌≤◌, ◌<◌, ◌+◌, ◌^◌, [], ◌∷◌, length, map, None};
-ghost use Rattle.std.specs.Prelude.{IfOk, OnErr, OnOk, Some, slice_get, ℕ};
+ghost use Rattle.std.specs.Prelude.{IfOk, OnErr, OnOk, Option, Some, slice_get, ℕ};
+ghost use Rattle.nwq_value.specs.Engine.{IsRoutine};
+ghost use Rattle.nwq_value.specs.declared.engine.Role.TheVariants.{Pure};
 ghost use Rattle.std.specs.List.{position_from};
 ghost use Rattle.nwq_value.specs.Limits.{file_limit};
 ghost use Rattle.ncs_code.specs.Plain.{Action};
@@ -23,7 +25,7 @@ ghost use Rattle.world_core.specs.Calls.{AreServing, IsEarly};
 use crate::scripts::{Loaded, Scripts};
 use hook_table::Hooks;
 use machine_frames::{Arguments, Frame};
-use nwq_value::{Args, NoMemory, Routine, Table, Text};
+use nwq_value::{Args, NoMemory, Role, Routine, Table, Text};
 use saved_state::Saved;
 use std::alloc::Global;
 use std::marker::Model;
@@ -38,6 +40,8 @@ const MOST_WAITING: usize = 8;
 pub struct Machine {
     pub(crate) running: Frame,
     waiting: Vec<Frame>,
+    /// What a call's arguments are put into, which is kept so that few calls take memory for it.
+    list: Args,
 }
 
 impl Model for Machine {
@@ -115,6 +119,7 @@ impl Machine {
         Machine {
             running,
             waiting: Vec::new(alloc),
+            list: Args::new(alloc),
         }
     }
 
@@ -144,7 +149,8 @@ impl Machine {
     }
 
     /// The arguments of a call of the routine, which has this number, by an instruction of this
-    /// size, where none were taken yet.
+    /// size, where none were taken yet. They stand in the list of the last call whose arguments
+    /// were lent.
     pub(crate) fn take(
         &mut self,
         alloc: Global,
@@ -163,6 +169,8 @@ impl Machine {
             (IsCall routine.now number count self.old.running self.new.running args.new) }
         ensures others { self.new ≡ record self.old { running = self.new.running } }
     {
+        args.values = mem::replace(&mut self.list, Args::new(alloc));
+        args.values.clear();
         self.running
             .take_arguments(alloc, routine, number, count, size, args)
     }
@@ -268,9 +276,80 @@ impl Machine {
         self.begin_script(alloc, scripts, world, name, target)
     }
 
-    /// A call of the engine, behind it.
-    #[tactic(auto, using(crate::proofs::Calls::ask_lemmas))]
+    /// A call of the engine, behind it: of the routine of this number. Where its arguments are
+    /// lent, the list is kept for the next call.
+    #[tactic(auto, using(crate::proofs::Calls::lent_lemmas))]
     pub(crate) fn ask(
+        &mut self,
+        world: &mut World<Saved>,
+        hooks: &Hooks,
+        table: &Table,
+        n: u16,
+        routine: &Routine,
+        values: Args,
+        action: Option<Saved>,
+    ) -> Result<(), NoMemory>
+        requires early { IsEarly world.old.world }
+        requires caller { self.old.running.self ≤ object_count world.old.world }
+        requires hooks { AreServing (map (λ h. h.known) hooks.now.all.items) }
+        requires listed { slice_get table.now.routines n ≡ Some routine.now }
+        requires routine { IsRoutine routine.now }
+        requires types { FitArguments
+            (engine_view table.now (map (λ h. h.known) hooks.now.all.items)) n values }
+        ensures room { world.old.room ≤ world.new.room }
+        ensures answered { OnOk result (answered (answer_of (engine_answer
+            (engine_view table.now (map (λ h. h.known) hooks.now.all.items)) n
+            self.old.running.self values action world.old.world)) self.old.running
+            (state self.old world.old.world) ≡ state self.new world.new.world) }
+        ensures cut { OnErr result (IsHalfway world.old.world (engine_answer
+            (engine_view table.now (map (λ h. h.known) hooks.now.all.items)) n
+            self.old.running.self values action world.old.world).world world.new.world) }
+    {
+        match routine.role {
+            Role::Pure(k) => {
+                self.ask_function(world, hooks, table, n, routine, k, &values)?;
+                self.list = values;
+                Ok(())
+            }
+            Role::Built(_) | Role::World | Role::Uncallable => {
+                self.ask_engine(world, hooks, table, n, values, action)
+            }
+        }
+    }
+
+    /// The same of a function of strings and numbers, which changes nothing.
+    fn ask_function(
+        &mut self,
+        world: &World<Saved>,
+        hooks: &Hooks,
+        table: &Table,
+        n: u16,
+        routine: &Routine,
+        k: u8,
+        values: &Args,
+    ) -> Result<(), NoMemory>
+        requires hooks { AreServing (map (λ h. h.known) hooks.now.all.items) }
+        requires listed { slice_get table.now.routines n ≡ Some routine.now }
+        requires routine { IsRoutine routine.now }
+        requires role { routine.now.role ≡ Pure k }
+        requires types { FitArguments
+            (engine_view table.now (map (λ h. h.known) hooks.now.all.items)) n values.now }
+        ensures answered { (action : Option SavedView) → OnOk result
+            (answered (answer_of (engine_answer
+            (engine_view table.now (map (λ h. h.known) hooks.now.all.items)) n
+            self.old.running.self values.now action world.now.world)) self.old.running
+            (state self.old world.now.world) ≡ state self.new world.now.world) }
+    {
+        match world.function(hooks, table, n, routine, k, values)? {
+            None => Ok(()),
+            Some(value) => self.running.give(value),
+        }
+    }
+
+    /// The same of any routine.
+    #[inline(never)]
+    #[tactic(auto, using(crate::proofs::Calls::ask_lemmas))]
+    fn ask_engine(
         &mut self,
         world: &mut World<Saved>,
         hooks: &Hooks,

@@ -14,7 +14,6 @@ ghost use Rattle.ncs_machine.specs.Steps.{GoesWell, IsHalfway, Remains, Stays, n
 ghost use Rattle.ncs_machine.specs.Steps.{world_behind};
 ghost use Rattle.world_core.specs.Calls.{AreServing, IsEarly};
 
-use crate::call::EngineCall;
 use crate::machine::{Machine, StepOutcome};
 use crate::scripts::{Loaded, Scripts};
 use decoded_code::Step;
@@ -66,12 +65,7 @@ impl Machine {
     {
         match decoded {
             Step::Action { routine, count } => {
-                let call = EngineCall {
-                    number: *routine,
-                    count: *count,
-                    size: decoded.size(),
-                };
-                self.call_engine(alloc, scripts, world, hooks, table, call)?;
+                self.call_engine(alloc, scripts, world, hooks, table, *routine, *count)?;
                 Ok(StepOutcome::Enters)
             }
             Step::Jsr { offset } => {

@@ -134,7 +134,7 @@ fn world_call<X: Drop>(
 }
 
 /// A function of strings and numbers, or the look-up of a cell: the hook of its number answers.
-fn pure_call(
+pub(crate) fn pure_call(
     hooks: &Hooks,
     k: u8,
     routine: &Routine,
