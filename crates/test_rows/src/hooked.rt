@@ -86,7 +86,13 @@ fn try_with<T: Trial>(
         move |args: &Args| -> Result<Value, NoMemory>
             ensures { IfOk result (λ v. IsAnswer own (function_numbered 9).name
                 (function_numbered 9).result args.now v) }
-        { cell_call(alloc, &own, args) },
+        {
+            if refused == 9 {
+                Err(NoMemory)
+            } else {
+                cell_call(alloc, &own, args)
+            }
+        },
     )?;
     put_cell_hook(alloc, &mut hooks, cells, tables)?;
     all_are_put(&hooks);
