@@ -3,8 +3,8 @@ ghost use Rattle.std.specs.Prelude.{◌≡◌, ◌≤◌, ℕ, length, IsTrue, I
 ghost use Rattle.nwq_value.specs.Limits.{file_limit};
 ghost use Rattle.nwq_value.specs.HeaderTable.{header_table};
 ghost use Rattle.nwq_outside.specs.Outside.{Contents};
+ghost use Rattle.hook_table.specs.InHooks.{known_by};
 ghost use Rattle.world_core.specs.Calls.{AreServing, cells_of};
-ghost use Rattle.ncs_machine.specs.InHooks.{known_by};
 ghost use Rattle.play_generator.specs.Made.{number_limit, play_of};
 ghost use Rattle.nwq_outside.specs.declared.counts.FileCounts.{FileCounts};
 ghost use Rattle.command_work.specs.Work.{Does};

@@ -3,10 +3,10 @@ ghost use Rattle.std.specs.Prelude.{◌≡◌, ◌≤◌, List, codes, IsTrue, I
 ghost use Rattle.nwq_value.specs.HeaderTable.{header_table};
 ghost use Rattle.nwq_outside.specs.Outside.{Contents};
 ghost use Rattle.ncs_code.specs.Plain.{PlainOp};
+ghost use Rattle.hook_table.specs.InHooks.{known_by};
 ghost use Rattle.stack_rules.specs.Rules.{MeetsRules};
 ghost use Rattle.stack_check.specs.Checked.{kept_table};
 ghost use Rattle.world_core.specs.Calls.{AreServing, cells_of};
-ghost use Rattle.ncs_machine.specs.InHooks.{known_by};
 ghost use Rattle.ncs_machine.specs.InSetting.{seen};
 ghost use Rattle.ncs_machine.specs.Settings.{scripts_in};
 ghost use Rattle.plan_text.specs.Plans.{IsPlan};

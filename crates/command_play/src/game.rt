@@ -1,8 +1,8 @@
 //! The command: what a play needs is read, in order, and the plan is played.
 ghost use Rattle.std.specs.Prelude.{◌≡◌, IsTrue, IfErr, OnOk};
 ghost use Rattle.plan_text.specs.Plans.{IsPlan};
+ghost use Rattle.hook_table.specs.InHooks.{known_by};
 ghost use Rattle.world_core.specs.Calls.{AreServing, cells_of};
-ghost use Rattle.ncs_machine.specs.InHooks.{known_by};
 ghost use Rattle.command_work.specs.Counts.{KeepsBut};
 ghost use Rattle.command_work.specs.Calls.{DoesOn, TalliesOn};
 ghost use Rattle.command_play.specs.Games.{plays_scripts, plays};
@@ -48,8 +48,8 @@ fn play_scripts<F: Files, S: Sink>(
         files.old out.old result files.new out.new }
     ensures keeps { KeepsTo F.counts S.faults F.contents (IsGameFile game.entry.to.now) StopsGame
         result files.old out.old files.new out.new }
-    ensures once { IsTrue F.tells → OnOk result (ReadsArea plan.now.scripts
-        (F.contents files.old) (F.reads files.old) (F.reads files.new)) }
+    ensures once { IsTrue F.tells → OnOk result (ReadsArea plan.now.scripts (F.contents files.old)
+        (F.reads files.old) (F.reads files.new)) }
 {
     match list_scripts(alloc, table, plan.scripts.as_slice(), files, out) {
         Err(status) => Err(status),
@@ -78,17 +78,16 @@ pub fn play_files<F: Files, S: Sink>(
     remarks: &mut Remarks,
 ) -> Result<(), Status>
     requires hooks { AreServing (known_by hooks.now) }
-    ensures does { IsTrue F.tells → IsTrue S.tells → DoesOn F.contents S.taken (plays (cells_of
-        (known_by hooks.now)) game.entry.header.now game.entry.area.now game.entry.plan.now
-        game.entry.to.now) files.old out.old result files.new out.new }
+    ensures does { IsTrue F.tells → IsTrue S.tells → DoesOn F.contents S.taken (plays
+        (cells_of (known_by hooks.now)) game.entry.header.now game.entry.area.now
+        game.entry.plan.now game.entry.to.now) files.old out.old result files.new out.new }
     ensures counts { TalliesOn F.counts S.faults result files.old out.old files.new out.new }
     // The files of bytecode of scripts, and the file of the area that is left, alone are written.
     ensures names { KeepsBut (IsGameFile game.entry.to.now)
         (F.contents files.old) (F.contents files.new) }
     // Each file is read once: the plan, the header, those of each script, and the area.
-    ensures once { IsTrue F.tells → IsTrue S.tells →
-        OnOk result (ReadsGame game.entry.header.now game.entry.plan.now (F.contents files.old)
-        (F.reads files.old) (F.reads files.new)) }
+    ensures once { IsTrue F.tells → IsTrue S.tells → OnOk result (ReadsGame game.entry.header.now
+        game.entry.plan.now (F.contents files.old) (F.reads files.old) (F.reads files.new)) }
     ensures only { IfErr result StopsGame }
 {
     match read_plan_file(alloc, game.plan, files, out) {

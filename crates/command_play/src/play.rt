@@ -29,8 +29,8 @@ pub(crate) fn play_plan<F: Files, S: Sink>(
     remarks: &mut Remarks,
 ) -> Result<(), Status>
     requires plan { IsPlan plan.now }
-    ensures does { IsTrue F.tells → IsTrue S.tells → DoesOn F.contents S.taken (plays_plan_in (seen
-        setting.now) area plan.now to.now) files.old out.old result files.new out.new }
+    ensures does { IsTrue F.tells → IsTrue S.tells → DoesOn F.contents S.taken (plays_plan_in
+        (seen setting.now) area plan.now to.now) files.old out.old result files.new out.new }
     ensures keeps { KeepsTo F.counts S.faults F.contents (IsName to.now) StopsGame result files.old
         out.old files.new out.new }
     ensures unread { F.reads files.new ≡ F.reads files.old }

@@ -10,8 +10,6 @@ use Rattle.world_rules.specs.Trace.{trace_text}
 use Rattle.world_rules.specs.World.{World}
 use Rattle.machine_rules.specs.Machine.{Script}
 use Rattle.world_rules.specs.Plays.{Played}
-use Rattle.world_core.specs.Calls.{cells_of}
-use Rattle.ncs_machine.specs.Settings.{CodeSetting, scripts_in}
 use Rattle.module_player.specs.CodePlays.{code_play, code_end_text}
 use Rattle.command_work.specs.Work.{Work, Puts, then, Finished}
 use Rattle.command_files.specs.Checks.{loaded_in}
@@ -38,10 +36,6 @@ tells_end scripts p = Puts (code_end_text scripts p) (ends_by p.ending)
 -- a play is told by its trace and the text of its end
 abbrev pub tells : List Script → Played Saved → Work Finished
 tells scripts p = Puts (trace_text p.last.trace) (tells_end scripts p)
-
--- so the play of a setting's scripts from a world on
-abbrev pub tells_in : CodeSetting → World Saved → Work Finished
-tells_in s w = tells (scripts_in s) (run_played (cells_of s.hooks) s.table (scripts_in s) w)
 
 -- instructions are played as the one script of this name
 unfoldable pub plays_code : CellLookup → EngineTable → List ℕ → List PlainOp → Work Finished

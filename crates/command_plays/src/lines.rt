@@ -35,11 +35,11 @@ pub fn play_world<S: Sink>(
 ) -> Result<(World<Saved>, Played), Status>
     requires world { MayPlay (seen setting.now) world.world }
     ensures told { IfOk result (λ answer. HasText answer.1.how) }
-    ensures ending { IfOk result (λ answer. IsEnding answer.1 (played_in (seen setting.now) limits
-        world.world) answer.0.world) }
+    ensures ending { IfOk result (λ answer. IsEnding answer.1
+        (played_in (seen setting.now) limits world.world) answer.0.world) }
     // The sink took the play's lines, or a prefix of them where the play was cut short.
-    ensures trace { IsTrue S.tells → TakesLines S.taken (played_in (seen setting.now) limits
-        world.world) out.old result out.new }
+    ensures trace { IsTrue S.tells → TakesLines S.taken
+        (played_in (seen setting.now) limits world.world) out.old result out.new }
     ensures counts { TalliesPuts S.faults result out.old out.new }
     ensures only { IfErr result CutsShort }
 {

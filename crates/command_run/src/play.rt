@@ -2,10 +2,10 @@
 ghost use Rattle.std.specs.Prelude.{◌≡◌, ◌≤◌, List, length, IsTrue, IfErr};
 ghost use Rattle.nwq_value.specs.Limits.{file_limit};
 ghost use Rattle.ncs_code.specs.Plain.{PlainOp};
+ghost use Rattle.hook_table.specs.InHooks.{known_by};
 ghost use Rattle.stack_rules.specs.Rules.{MeetsRules};
 ghost use Rattle.stack_check.specs.Checked.{kept_table};
 ghost use Rattle.world_core.specs.Calls.{AreServing, cells_of};
-ghost use Rattle.ncs_machine.specs.InHooks.{known_by};
 ghost use Rattle.ncs_machine.specs.InSetting.{seen};
 ghost use Rattle.ncs_machine.specs.Settings.{scripts_in};
 ghost use Rattle.module_player.specs.Limits.{limits_in};

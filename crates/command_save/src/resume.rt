@@ -2,8 +2,8 @@
 ghost use Rattle.std.specs.Prelude.{◌≡◌, ◌≤◌, ℕ, length, IsTrue, IfErr};
 ghost use Rattle.nwq_value.specs.Limits.{file_limit};
 ghost use Rattle.nwq_outside.specs.Outside.{next};
+ghost use Rattle.hook_table.specs.InHooks.{known_by};
 ghost use Rattle.world_core.specs.Calls.{AreServing, cells_of};
-ghost use Rattle.ncs_machine.specs.InHooks.{known_by};
 ghost use Rattle.ncs_machine.specs.Host.{scripts_of};
 ghost use Rattle.command_work.specs.Counts.{KeepsBut, Refusing, StopsArea};
 ghost use Rattle.command_work.specs.Calls.{DoesOn, TalliesOn, TalliesPuts, IsName, DoesPuts};
@@ -31,8 +31,8 @@ fn state_of_bytes<S: Sink>(
     out: &mut S,
 ) -> Result<State, Status>
     requires small { length bytes.now ≤ file_limit }
-    ensures does { IsTrue S.tells → DoesPuts S.taken (state_in name.now bytes.now)
-        out.old result out.new }
+    ensures does { IsTrue S.tells → DoesPuts S.taken (state_in name.now bytes.now) out.old result
+        out.new }
     ensures counts { TalliesPuts S.faults result out.old out.new }
     ensures only { IfErr result (Refusing Status.Area) }
 {

@@ -2,8 +2,8 @@
 //! played.
 ghost use Rattle.std.specs.Prelude.{◌≡◌, ◌≤◌, IsTrue, IfErr, OnOk};
 ghost use Rattle.nwq_outside.specs.Outside.{next};
+ghost use Rattle.hook_table.specs.InHooks.{known_by};
 ghost use Rattle.world_core.specs.Calls.{AreServing, cells_of};
-ghost use Rattle.ncs_machine.specs.InHooks.{known_by};
 ghost use Rattle.ncs_machine.specs.Host.{scripts_of};
 ghost use Rattle.play_save.specs.Rules.{IsAreaOf, IsHeaderOf};
 ghost use Rattle.command_work.specs.Counts.{KeepsBut};
@@ -99,10 +99,10 @@ fn save_area<F: Files, S: Sink>(
 ) -> Result<(), Status>
     requires begins { MayBegin header listed.now.plan.now listed.now.scripts.now words.entries }
     requires hooks { AreServing (known_by hooks.now) }
-    ensures does { IsTrue F.tells → IsTrue S.tells → DoesOn F.contents S.taken (saves_area (cells_of
-        (known_by hooks.now)) header words.entry.area.now listed.now.plan.now words.entry.entries
-        words.entry.state.now (scripts_of listed.now.scripts.now)) files.old out.old result
-        files.new out.new }
+    ensures does { IsTrue F.tells → IsTrue S.tells → DoesOn F.contents S.taken (saves_area
+        (cells_of (known_by hooks.now)) header words.entry.area.now listed.now.plan.now
+        words.entry.entries words.entry.state.now (scripts_of listed.now.scripts.now)) files.old
+        out.old result files.new out.new }
     ensures keeps { KeepsTo F.counts S.faults F.contents (IsName words.entry.state.now) StopsGame
         result files.old out.old files.new out.new }
     ensures once { F.reads files.new ≡ next (F.reads files.old) }
@@ -135,8 +135,8 @@ fn save_scripts<F: Files, S: Sink>(
         words.entry.state.now header) files.old out.old result files.new out.new }
     ensures keeps { KeepsTo F.counts S.faults F.contents (IsGameFile words.entry.state.now)
         StopsGame result files.old out.old files.new out.new }
-    ensures once { IsTrue F.tells → OnOk result (ReadsArea plan.now.scripts
-        (F.contents files.old) (F.reads files.old) (F.reads files.new)) }
+    ensures once { IsTrue F.tells → OnOk result (ReadsArea plan.now.scripts (F.contents files.old)
+        (F.reads files.old) (F.reads files.new)) }
 {
     match list_scripts(alloc, &header.table, plan.scripts.as_slice(), files, out) {
         Err(status) => {
@@ -171,9 +171,8 @@ fn save_under<F: Files, S: Sink>(
         out.new }
     ensures keeps { KeepsTo F.counts S.faults F.contents (IsGameFile words.entry.state.now)
         StopsGame result files.old out.old files.new out.new }
-    ensures once { IsTrue F.tells → OnOk result (ReadsArea plan.now.scripts
-        (F.contents files.old) (header_read words.entry.header.now (F.reads files.old))
-        (F.reads files.new)) }
+    ensures once { IsTrue F.tells → OnOk result (ReadsArea plan.now.scripts (F.contents files.old)
+        (header_read words.entry.header.now (F.reads files.old)) (F.reads files.new)) }
 {
     match read_header(alloc, words.header, files, out) {
         Err(status) => Err(status),
@@ -201,9 +200,8 @@ pub fn save_play<F: Files, S: Sink>(
     ensures names { KeepsBut (IsGameFile words.entry.state.now)
         (F.contents files.old) (F.contents files.new) }
     // Each file is read once: the plan, the header, those of each script, and the area.
-    ensures once { IsTrue F.tells → IsTrue S.tells → OnOk result
-        (ReadsGame words.entry.header.now words.entry.plan.now (F.contents files.old)
-        (F.reads files.old) (F.reads files.new)) }
+    ensures once { IsTrue F.tells → IsTrue S.tells → OnOk result (ReadsGame words.entry.header.now
+        words.entry.plan.now (F.contents files.old) (F.reads files.old) (F.reads files.new)) }
     ensures only { IfErr result StopsGame }
 {
     match read_plan_file(alloc, words.plan, files, out) {

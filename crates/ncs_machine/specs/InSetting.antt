@@ -1,5 +1,5 @@
 -- A play's setting, without what its hooks call.
-pub use Rattle.ncs_machine.specs.InHooks.{known_by}
+pub use Rattle.hook_table.specs.InHooks.{known_by}
 use Rattle.ncs_machine.specs.Settings.{CodeSetting, code_setting}
 use Rattle.ncs_machine.specs.declared.setting.PlaySetting.{PlaySetting}
 

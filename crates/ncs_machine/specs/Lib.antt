@@ -2,7 +2,6 @@ pub mod Host
 pub mod Stored
 pub mod Settings
 pub mod ServingOnce
-pub mod InHooks
 pub mod InSetting
 pub mod Endings
 pub mod Begins

@@ -1,13 +1,13 @@
 //! An entry from its begin to its end.
 ghost use Rattle.std.specs.Prelude.{◌≡◌, ◌≤◌, []};
 ghost use Rattle.nwq_value.specs.Limits.{instruction_limit};
+ghost use Rattle.hook_table.specs.InHooks.{known_by};
 ghost use Rattle.machine_rules.specs.Runs.{entry, run as run_of};
 ghost use Rattle.stack_rules.specs.Safe.{IsSafeFrame};
 ghost use Rattle.ncs_machine.specs.Begins.{MayBegin, MayRun};
 ghost use Rattle.ncs_machine.specs.Endings.{IsCut, IsRunOf, WhereCut};
 ghost use Rattle.ncs_machine.specs.Host.{engine_view, first_frame, host, run_from, scripts_of};
 ghost use Rattle.ncs_machine.specs.Host.{tables_of};
-ghost use Rattle.ncs_machine.specs.InHooks.{known_by};
 ghost use Rattle.ncs_machine.specs.InSetting.{seen};
 ghost use Rattle.ncs_machine.specs.Settings.{IsChecked, checked_listing};
 ghost use Rattle.ncs_machine.specs.Settings.{host_in, scripts_in, tables_in};

@@ -1,9 +1,9 @@
 ghost use Rattle.std.specs.Prelude.{◌≡◌, ◌<◌, ◌^◌, length};
+ghost use Rattle.hook_table.specs.InHooks.{known_by};
 ghost use Rattle.stack_rules.specs.Laws.{AllMeet};
 ghost use Rattle.machine_rules.specs.Machine.{script_named};
 ghost use Rattle.world_core.specs.Calls.{AreServing};
 ghost use Rattle.ncs_machine.specs.Host.{scripts_of, tables_of};
-ghost use Rattle.ncs_machine.specs.InHooks.{known_by};
 ghost use Rattle.ncs_machine.specs.ServingOnce.{serving_once};
 ghost use Rattle.ncs_machine.specs.Settings.{IsChecked, checked_listing};
 

@@ -1,5 +1,5 @@
+use Rattle.hook_table.specs.InHooks.{known_by}
 use Rattle.world_core.specs.Calls.{cells_of}
-use Rattle.ncs_machine.specs.InHooks.{known_by}
 use Rattle.command_work.specs.Counts.{Counted}
 use Rattle.command_generate.proofs.CommandLemmas.{checked_then, counted_on}
 use Rattle.command_generate.proofs.command.play_file.Goals as goal

@@ -1,6 +1,6 @@
 use Rattle.std.proofs.Common.{ap, ◌∙◌}
+use Rattle.hook_table.specs.InHooks.{known_by}
 use Rattle.world_core.specs.Calls.{cells_of}
-use Rattle.ncs_machine.specs.InHooks.{known_by}
 use Rattle.play_generator.specs.Made.{Play}
 use Rattle.command_generate.proofs.CommandLemmas.{compiled_then}
 use Rattle.command_generate.proofs.SourceLemmas.{found_does}

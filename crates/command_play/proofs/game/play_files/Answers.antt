@@ -1,7 +1,7 @@
 use Rattle.std.proofs.Common.{Err, ap, ◌∙◌}
 use Rattle.nwq_outside.specs.Outside.{next}
+use Rattle.hook_table.specs.InHooks.{known_by}
 use Rattle.world_core.specs.Calls.{cells_of}
-use Rattle.ncs_machine.specs.InHooks.{known_by}
 use Rattle.command_work.specs.Counts.{Counted}
 use Rattle.command_work.specs.KeepsLemmas.{keeps_all, keeps_after}
 use Rattle.command_work.specs.Parts.{then_ok, then_err}

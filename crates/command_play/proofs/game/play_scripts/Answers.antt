@@ -1,8 +1,8 @@
 use Rattle.std.proofs.Common.{List, Ok, Err, OnOk, length, ap, subst, ◌∙◌}
 use Rattle.plan_text.specs.declared.plan.Script.{Script as ScriptLine}
+use Rattle.hook_table.specs.InHooks.{known_by}
 use Rattle.world_core.specs.Calls.{cells_of}
 use Rattle.ncs_machine.specs.Host.{scripts_of}
-use Rattle.ncs_machine.specs.InHooks.{known_by}
 use Rattle.ncs_machine.specs.InSetting.{seen}
 use Rattle.command_work.specs.KeepsLemmas.{keeps_all}
 use Rattle.command_work.specs.Parts.{then_ok, then_err}

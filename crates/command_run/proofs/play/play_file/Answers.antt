@@ -1,6 +1,6 @@
 use Rattle.std.proofs.Common.{subst}
+use Rattle.hook_table.specs.InHooks.{known_by}
 use Rattle.world_core.specs.Calls.{cells_of}
-use Rattle.ncs_machine.specs.InHooks.{known_by}
 use Rattle.command_work.specs.Counts.{Counted, Tallies}
 use Rattle.command_work.specs.Parts.{then_ok, then_err}
 use Rattle.command_files.specs.Checks.{loaded_in}

@@ -1,6 +1,6 @@
 use Rattle.std.proofs.Common.{◌∙◌}
+use Rattle.hook_table.specs.InHooks.{known_by}
 use Rattle.world_core.specs.Calls.{cells_of}
-use Rattle.ncs_machine.specs.InHooks.{known_by}
 use Rattle.command_compile.specs.Files.{code_name}
 use Rattle.command_run.proofs.RunLemmas.{same_play}
 use Rattle.command_run.proofs.runs.play_compiled.Goals as goal

@@ -1,5 +1,5 @@
+use Rattle.hook_table.specs.InHooks.{known_by}
 use Rattle.world_core.specs.Calls.{cells_of}
-use Rattle.ncs_machine.specs.InHooks.{known_by}
 use Rattle.command_save.proofs.RestOfLemmas.{may_go_on, opened_does}
 use Rattle.command_save.proofs.resume.resume_state.Goals as goal
 

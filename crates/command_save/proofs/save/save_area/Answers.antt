@@ -1,6 +1,6 @@
+use Rattle.hook_table.specs.InHooks.{known_by}
 use Rattle.world_core.specs.Calls.{cells_of}
 use Rattle.ncs_machine.specs.Host.{scripts_of}
-use Rattle.ncs_machine.specs.InHooks.{known_by}
 use Rattle.command_work.specs.Calls.{IsName}
 use Rattle.command_work.specs.KeepsLemmas.{keeps_all}
 use Rattle.command_work.specs.Parts.{then_ok, then_err}

@@ -1,7 +1,7 @@
 use Rattle.std.proofs.Common.{◌≡◌, ◌++◌, refl, subst}
 use Rattle.world_rules.specs.Trace.{trace_text}
+use Rattle.hook_table.specs.InHooks.{known_by}
 use Rattle.world_core.specs.Calls.{cells_of}
-use Rattle.ncs_machine.specs.InHooks.{known_by}
 use Rattle.ncs_machine.specs.InSetting.{seen}
 use Rattle.ncs_machine.specs.Host.{scripts_of}
 use Rattle.ncs_machine.specs.Settings.{FitIn}

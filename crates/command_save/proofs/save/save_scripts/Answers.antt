@@ -1,3 +1,4 @@
+use Rattle.hook_table.specs.InHooks.{known_by}
 use Rattle.command_play.specs.Files.{keeps_end, keeps_listing, keeps_rest, keeps_to_game}
 use Rattle.command_save.proofs.ListLemmas.{few_listed, may_list}
 use Rattle.std.proofs.Common.{List, Ok, Err, OnOk, subst, sym}
@@ -5,7 +6,6 @@ use Rattle.plan_text.specs.declared.plan.Script.{Script as ScriptLine}
 use Rattle.plan_text.specs.Plans.{AreListed}
 use Rattle.world_core.specs.Calls.{cells_of}
 use Rattle.ncs_machine.specs.Host.{scripts_of}
-use Rattle.ncs_machine.specs.InHooks.{known_by}
 use Rattle.command_work.specs.Parts.{then_ok, then_err}
 use Rattle.command_work.specs.Work.{Does}
 use Rattle.command_sources.specs.Reads.{on_ok}

@@ -1,5 +1,5 @@
+use Rattle.hook_table.specs.InHooks.{known_by}
 use Rattle.world_core.specs.Calls.{cells_of}
-use Rattle.ncs_machine.specs.InHooks.{known_by}
 use Rattle.command_work.specs.KeepsLemmas.{keeps_all}
 use Rattle.command_work.specs.Parts.{then_ok, then_err}
 use Rattle.command_play.specs.Files.{keeps_end, keeps_rest}

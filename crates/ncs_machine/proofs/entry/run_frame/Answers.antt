@@ -1,5 +1,5 @@
 use Rattle.std.proofs.Common.{sym, subst, ap}
-use Rattle.ncs_machine.specs.InHooks.{known_by}
+use Rattle.hook_table.specs.InHooks.{known_by}
 use Rattle.ncs_machine.specs.Settings.{CodeSetting, IsChecked, checked_listing}
 use Rattle.ncs_machine.specs.Steps.{Frames}
 use Rattle.ncs_machine.proofs.Beginning.{cut_here, run_here, safe_here, setting_is}

@@ -1,4 +1,5 @@
-use Rattle.std.proofs.Common.{arith, Some, map, slice_get, subst, sym, ap, ◌+◌, ◌∙◌}
+use Rattle.std.proofs.Common.{arith, Some, slice_get, subst, sym, ap, ◌+◌, ◌∙◌}
+use Rattle.hook_table.specs.InHooks.{known_by}
 use Rattle.ncs_machine.specs.Host.{engine_view, scripts_of, tables_of}
 use Rattle.ncs_machine.specs.Steps.{Remains, Stays, next_of, state}
 use Rattle.ncs_machine.proofs.Typed.{answers_typed}
@@ -9,7 +10,7 @@ use Rattle.ncs_machine.proofs.entry.run_machine.Goals as goal
 pub script-script-requires : goal.script-script-requires
 script-script-requires g c = record {
   listed = still_listed c.args.scripts.now
-      (engine_view c.args.table.now (map (λ h. h.known) c.args.hooks.now.all.items))
+      (engine_view c.args.table.now (known_by c.args.hooks.now))
       (tables_of c.args.scripts.now) c.args.limit
       (state c.args.machine.now c.args.world.now.world) 0 c.args.machine.now c.args.world.now.world
       (run_begins (scripts_of c.args.scripts.now) _ (tables_of c.args.scripts.now) c.args.limit c.args.machine.now c.args.world.now.world
