@@ -1,6 +1,6 @@
 //! Engine calls of the running script.
 ghost use Rattle.std.specs.Prelude.{◌≡◌, ◌≢◌, ◌≤◌, ◌<◌, ◌+◌, ◌^◌, None, Some, OnErr, OnOk, IfSome};
-ghost use Rattle.std.specs.Prelude.{length, map, slice_get};
+ghost use Rattle.std.specs.Prelude.{length, slice_get};
 ghost use Rattle.std.specs.Option.{option_map};
 ghost use Rattle.nwq_value.specs.Limits.{file_limit};
 ghost use Rattle.nwq_value.specs.declared.value.Value.TheVariants.{Text as TextValue};
@@ -12,6 +12,7 @@ ghost use Rattle.machine_rules.specs.Calls.{is_execute_script};
 ghost use Rattle.machine_rules.specs.Machine.{Goes, executed, followed};
 ghost use Rattle.std.specs.Prelude.{◌∷◌, [], ℕ, List};
 ghost use Rattle.world_rules.specs.World.{count as object_count};
+ghost use Rattle.hook_table.specs.InHooks.{known_by};
 ghost use Rattle.ncs_machine.specs.Host.{EngineView, engine_view, host, scripts_of};
 ghost use Rattle.ncs_machine.specs.Names.{AreNameAndTarget};
 ghost use Rattle.ncs_machine.specs.Steps.{IsHalfway, state, world_behind};
@@ -110,19 +111,19 @@ impl Machine {
         requires few { length scripts.now < 2 ^ 32 }
         requires early { IsEarly world.old.world }
         requires caller { self.old.running.self ≤ object_count world.old.world }
-        requires hooks { AreServing (map (λ h. h.known) hooks.now.all.items) }
+        requires hooks { AreServing (known_by hooks.now) }
         requires case { engine_called table.now number count self.old.running
             ≢ None }
         requires small { self.old.running.place + op_size (Action number count) ≤ file_limit }
         ensures room { world.old.room ≤ world.new.room }
         ensures called { OnOk result (IfSome (engine_called table.now number count
             self.old.running) (λ a. followed (host (scripts_of scripts.now)
-            (engine_view table.now (map (λ h. h.known) hooks.now.all.items)))
+            (engine_view table.now (known_by hooks.now)))
             (state self.old world.old.world) a
             ≡ Goes (state self.new world.new.world))) }
         ensures cut { OnErr result (IsHalfway world.old.world (world_behind (option_map (followed
             (host (scripts_of scripts.now)
-            (engine_view table.now (map (λ h. h.known) hooks.now.all.items)))
+            (engine_view table.now (known_by hooks.now)))
             (state self.old world.old.world)) (engine_called table.now number count
             self.old.running)) world.old.world) world.new.world) }
     {

@@ -17,6 +17,7 @@ ghost use Rattle.machine_rules.specs.Machine.{Host, answered, script_begun, exec
 ghost use Rattle.machine_rules.specs.Machine.{over};
 ghost use Rattle.machine_rules.specs.Machine.{script_named};
 ghost use Rattle.world_rules.specs.World.{World as WorldView, count as object_count};
+ghost use Rattle.hook_table.specs.InHooks.{known_by};
 ghost use Rattle.ncs_machine.specs.Host.{EngineView, answer_of, engine_answer, engine_view, host};
 ghost use Rattle.ncs_machine.specs.Host.{scripts_of};
 ghost use Rattle.ncs_machine.specs.Steps.{FitArguments, IsHalfway, Remains, next_of, state};
@@ -291,18 +292,18 @@ impl Machine {
     ) -> Result<(), NoMemory>
         requires early { IsEarly world.old.world }
         requires caller { self.old.running.self ≤ object_count world.old.world }
-        requires hooks { AreServing (map (λ h. h.known) hooks.now.all.items) }
+        requires hooks { AreServing (known_by hooks.now) }
         requires listed { slice_get table.now.routines n ≡ Some routine.now }
         requires routine { IsRoutine routine.now }
         requires types { FitArguments
-            (engine_view table.now (map (λ h. h.known) hooks.now.all.items)) n values }
+            (engine_view table.now (known_by hooks.now)) n values }
         ensures room { world.old.room ≤ world.new.room }
         ensures answered { OnOk result (answered (answer_of (engine_answer
-            (engine_view table.now (map (λ h. h.known) hooks.now.all.items)) n
+            (engine_view table.now (known_by hooks.now)) n
             self.old.running.self values action world.old.world)) self.old.running
             (state self.old world.old.world) ≡ state self.new world.new.world) }
         ensures cut { OnErr result (IsHalfway world.old.world (engine_answer
-            (engine_view table.now (map (λ h. h.known) hooks.now.all.items)) n
+            (engine_view table.now (known_by hooks.now)) n
             self.old.running.self values action world.old.world).world world.new.world) }
     {
         match routine.role {
@@ -328,15 +329,15 @@ impl Machine {
         k: u8,
         values: &Args,
     ) -> Result<(), NoMemory>
-        requires hooks { AreServing (map (λ h. h.known) hooks.now.all.items) }
+        requires hooks { AreServing (known_by hooks.now) }
         requires listed { slice_get table.now.routines n ≡ Some routine.now }
         requires routine { IsRoutine routine.now }
         requires role { routine.now.role ≡ Pure k }
         requires types { FitArguments
-            (engine_view table.now (map (λ h. h.known) hooks.now.all.items)) n values.now }
+            (engine_view table.now (known_by hooks.now)) n values.now }
         ensures answered { (action : Option SavedView) → OnOk result
             (answered (answer_of (engine_answer
-            (engine_view table.now (map (λ h. h.known) hooks.now.all.items)) n
+            (engine_view table.now (known_by hooks.now)) n
             self.old.running.self values.now action world.now.world)) self.old.running
             (state self.old world.now.world) ≡ state self.new world.now.world) }
     {
@@ -360,16 +361,16 @@ impl Machine {
     ) -> Result<(), NoMemory>
         requires early { IsEarly world.old.world }
         requires caller { self.old.running.self ≤ object_count world.old.world }
-        requires hooks { AreServing (map (λ h. h.known) hooks.now.all.items) }
+        requires hooks { AreServing (known_by hooks.now) }
         requires types { FitArguments
-            (engine_view table.now (map (λ h. h.known) hooks.now.all.items)) n values }
+            (engine_view table.now (known_by hooks.now)) n values }
         ensures room { world.old.room ≤ world.new.room }
         ensures answered { OnOk result (answered (answer_of (engine_answer
-            (engine_view table.now (map (λ h. h.known) hooks.now.all.items)) n
+            (engine_view table.now (known_by hooks.now)) n
             self.old.running.self values action world.old.world)) self.old.running
             (state self.old world.old.world) ≡ state self.new world.new.world) }
         ensures cut { OnErr result (IsHalfway world.old.world (engine_answer
-            (engine_view table.now (map (λ h. h.known) hooks.now.all.items)) n
+            (engine_view table.now (known_by hooks.now)) n
             self.old.running.self values action world.old.world).world world.new.world) }
     {
         let own = self.running.own();

@@ -14,6 +14,7 @@ ghost use Rattle.world_rules.specs.Trace.{trace_text};
 ghost use Rattle.world_rules.specs.Turns.{new_world, turn, turn_done, unapply, fault, drained};
 ghost use Rattle.world_rules.specs.Turns.{with_entries};
 ghost use Rattle.world_rules.specs.World.{count, effects_of, queue_of};
+ghost use Rattle.hook_table.specs.InHooks.{known_by};
 ghost use Rattle.world_core.specs.Calls.{planned, cells_of, AreServing, FitArguments, IsEarly};
 ghost use Rattle.world_core.specs.Calls.{ServeRoutine};
 ghost use Rattle.world_parts.specs.Begun.{IsBegunAs};
@@ -130,10 +131,10 @@ impl<X: Drop> World<X> {
         requires early { IsEarly self.old.world }
         requires caller { caller ≤ count self.old.world }
         requires hooks { ServeRoutine table.now routine
-            (map (λ h. h.known) hooks.now.all.items) }
+            (known_by hooks.now) }
         requires types { FitArguments table.now routine args }
         ensures ok { IfOk result (λ value. record { value = value; world = self.new.world }
-            ≡ engine table.now (cells_of (map (λ h. h.known) hooks.now.all.items)) routine
+            ≡ engine table.now (cells_of (known_by hooks.now)) routine
             (call caller args action) self.old.world) }
         ensures err { OnErr result (self.new.world ≡ self.old.world) }
         ensures room { self.old.room ≤ self.new.room }
@@ -176,11 +177,11 @@ impl<X: Drop> World<X> {
         requires listed { slice_get table.now.routines number ≡ Some routine.now }
         requires routine { IsRoutine routine.now }
         requires role { routine.now.role ≡ Pure k }
-        requires hooks { AreServing (map (λ h. h.known) hooks.now.all.items) }
+        requires hooks { AreServing (known_by hooks.now) }
         requires types { FitArguments table.now number args.now }
         ensures ok { (caller : ℕ) (action : Option X) → IfOk result (λ value.
             record { value = value; world = self.now.world }
-            ≡ engine table.now (cells_of (map (λ h. h.known) hooks.now.all.items)) number
+            ≡ engine table.now (cells_of (known_by hooks.now)) number
             (call caller args.now action) self.now.world) }
     {
         let (_table, _number) = (table, number);
