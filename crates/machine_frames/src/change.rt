@@ -5,7 +5,8 @@ ghost use Rattle.ncs_code.specs.Spelling.{op_size};
 ghost use Rattle.ncs_code.specs.File.{jump_place};
 ghost use Rattle.nwq_value.specs.Limits.{file_limit};
 ghost use Rattle.machine_rules.specs.Act.{added, cells_after, if_ints, is_division, place_after};
-ghost use Rattle.machine_rules.specs.Cells.{of_ints, zero_on_top};
+ghost use Rattle.machine_rules.specs.Cells.{of_ints, value_pushed, zero_on_top};
+ghost use Rattle.machine_rules.specs.Values.{starting_value};
 ghost use Rattle.decoded_code.specs.Steps.{op_of};
 ghost use Rattle.machine_frames.specs.Operations.{binary_of, divides};
 
@@ -89,6 +90,39 @@ fn operate_apart(stack: &mut Stack, kind: u8, op: Binary, at: u32) -> Result<u32
     ensures place { IfOk result (λ place. place ≡ at + 2) }
 {
     kind_ints(stack, kind, op)?;
+    Ok(at + 2)
+}
+
+/// RSADD. An int is pushed here. Gives the place that follows.
+#[inline(always)]
+#[tactic(auto, using(crate::proofs::Popped::int_started))]
+fn start(alloc: Global, stack: &mut Stack, kind: u8, at: u32) -> Result<u32, NoMemory>
+    requires case { value_pushed (starting_value kind) stack.old.cells ≢ None }
+    requires small { at + 2 ≤ file_limit }
+    ensures cells { OnOk result
+        (value_pushed (starting_value kind) stack.old.cells ≡ Some stack.new.cells) }
+    ensures bp { OnOk result (stack.new.bp ≡ stack.old.bp) }
+    ensures place { IfOk result (λ place. place ≡ at + 2) }
+{
+    if kind == 0x03 {
+        stack.push(Cell::Value(Value::Int(0)))?;
+        Ok(at + 2)
+    } else {
+        start_apart(alloc, stack, kind, at)
+    }
+}
+
+/// The same by a call of its own.
+#[inline(never)]
+fn start_apart(alloc: Global, stack: &mut Stack, kind: u8, at: u32) -> Result<u32, NoMemory>
+    requires case { value_pushed (starting_value kind) stack.old.cells ≢ None }
+    requires small { at + 2 ≤ file_limit }
+    ensures cells { OnOk result
+        (value_pushed (starting_value kind) stack.old.cells ≡ Some stack.new.cells) }
+    ensures bp { OnOk result (stack.new.bp ≡ stack.old.bp) }
+    ensures place { IfOk result (λ place. place ≡ at + 2) }
+{
+    push_start(alloc, stack, kind)?;
     Ok(at + 2)
 }
 
@@ -181,10 +215,7 @@ pub fn change(
             write_sp(alloc, stack, *offset, *size)?;
             Ok(at + 8)
         }
-        Step::RsAdd { kind } => {
-            push_start(alloc, stack, *kind)?;
-            Ok(at + 2)
-        }
+        Step::RsAdd { kind } => start(alloc, stack, *kind, at),
         Step::CpTopSp { offset, size } => {
             push_sp(alloc, stack, *offset, *size)?;
             Ok(at + 8)

@@ -193,25 +193,8 @@ fn take_zero_apart(stack: &mut Stack) -> bool
     n == 0
 }
 
-/// RSADD. An int is pushed here.
-#[inline(always)]
-#[tactic(auto, using(crate::proofs::Popped::int_started))]
+/// RSADD.
 pub fn push_start(alloc: Global, stack: &mut Stack, kind: u8) -> Result<(), NoMemory>
-    requires case { value_pushed (starting_value kind) stack.old.cells ≢ None }
-    ensures cells { OnOk result
-        (value_pushed (starting_value kind) stack.old.cells ≡ Some stack.new.cells) }
-    ensures bp { OnOk result (stack.new.bp ≡ stack.old.bp) }
-{
-    if kind == 0x03 {
-        stack.push(Cell::Value(Value::Int(0)))
-    } else {
-        push_start_apart(alloc, stack, kind)
-    }
-}
-
-/// RSADD of any value.
-#[inline(never)]
-fn push_start_apart(alloc: Global, stack: &mut Stack, kind: u8) -> Result<(), NoMemory>
     requires case { value_pushed (starting_value kind) stack.old.cells ≢ None }
     ensures cells { OnOk result
         (value_pushed (starting_value kind) stack.old.cells ≡ Some stack.new.cells) }

@@ -136,9 +136,9 @@ impl Machine {
                     self.execute_named(alloc, scripts, world, &args.values)?;
                     Ok(())
                 } else {
-                    // The arguments stay in their place until here, since moves of them are dear.
-                    let Arguments { values, action } = args;
-                    self.ask(world, hooks, table, number, routine, values, action)?;
+                    // The arguments stay in their place, since moves of them are dear.
+                    self.ask(alloc, world, hooks, table, number, routine, &mut args)?;
+                    drop(args);
                     Ok(())
                 }
             }

@@ -282,13 +282,13 @@ impl Machine {
     #[tactic(auto, using(crate::proofs::Calls::lent_lemmas))]
     pub(crate) fn ask(
         &mut self,
+        alloc: Global,
         world: &mut World<Saved>,
         hooks: &Hooks,
         table: &Table,
         n: u16,
         routine: &Routine,
-        values: Args,
-        action: Option<Saved>,
+        args: &mut Arguments,
     ) -> Result<(), NoMemory>
         requires early { IsEarly world.old.world }
         requires caller { self.old.running.self ≤ object_count world.old.world }
@@ -296,23 +296,25 @@ impl Machine {
         requires listed { slice_get table.now.routines n ≡ Some routine.now }
         requires routine { IsRoutine routine.now }
         requires types { FitArguments
-            (engine_view table.now (known_by hooks.now)) n values }
+            (engine_view table.now (known_by hooks.now)) n args.old.values }
         ensures room { world.old.room ≤ world.new.room }
         ensures answered { OnOk result (answered (answer_of (engine_answer
             (engine_view table.now (known_by hooks.now)) n
-            self.old.running.self values action world.old.world)) self.old.running
+            self.old.running.self args.old.values args.old.action world.old.world)) self.old.running
             (state self.old world.old.world) ≡ state self.new world.new.world) }
         ensures cut { OnErr result (IsHalfway world.old.world (engine_answer
             (engine_view table.now (known_by hooks.now)) n
-            self.old.running.self values action world.old.world).world world.new.world) }
+            self.old.running.self args.old.values args.old.action world.old.world).world
+            world.new.world) }
     {
         match routine.role {
             Role::Pure(k) => {
-                self.ask_function(world, hooks, table, n, routine, k, &values)?;
-                self.list = values;
+                self.ask_function(world, hooks, table, n, routine, k, &args.values)?;
+                mem::swap(&mut self.list, &mut args.values);
                 Ok(())
             }
             Role::Built(_) | Role::World | Role::Uncallable => {
+                let Arguments { values, action } = mem::replace(args, Arguments::new(alloc));
                 self.ask_engine(world, hooks, table, n, values, action)
             }
         }

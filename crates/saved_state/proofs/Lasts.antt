@@ -16,5 +16,15 @@ last_plain cells k cell false less at is plain h = absurd cc
 
 pub ruleset plain_lemmas = (last_plain)
 
+pub int_ends : (cells : List Cell) (k : ℕ) (cell : Cell) (test : Bool) → k < length cells → k ≡ length cells - 1 → cell ≡ get_or cells k cell
+    → (IsTrue test → owns_nothing cell ≡ true) → IsTrue test → EndsPlainly cells
+int_ends cells k cell test less at is plain h = record {
+  cell = cell;
+  is = ap (slice_get cells) (sym at) ∙ slice_get-get_or cells k cell less ∙ ap Some (sym is);
+  plain = plain h;
+}
+
+pub ruleset int_lemmas = (int_ends)
+
 pub some_last : (cells : List Cell) → EndsPlainly cells → 0 < length cells
 some_last cells h = let inside = slice_get_within cells (length cells - 1) h.cell h.is in omega (arith, inside)

@@ -602,18 +602,52 @@ fn put_object(top: &mut Vec<Cell>, index: usize, n: u32)
     }
 }
 
-/// Drops the last cell. That it owns no memory is seen before the list changes, so that whoever
-/// has read an int doesn't look twice.
+/// Drops the last cell. That it holds an int is seen before the list changes, so that whoever has
+/// read it doesn't look twice.
 #[inline(always)]
 fn drop_last(top: &mut Vec<Cell>)
+    requires some { 0 < length top.old.items }
+    ensures left { top.new.items ≡ take (length top.old.items - 1) top.old.items }
+{
+    if ends_with_int(top.as_slice()) {
+        drop_plain(top);
+    } else {
+        drop_other(top);
+    }
+}
+
+/// The same of any cell, by a call of its own.
+#[inline(never)]
+fn drop_other(top: &mut Vec<Cell>)
     requires some { 0 < length top.old.items }
     ensures left { top.new.items ≡ take (length top.old.items - 1) top.old.items }
 {
     if ends_plainly(top.as_slice()) {
         drop_plain(top);
     } else {
-        let_go(top.take_last());
+        drop(top.take_last());
     }
+}
+
+/// Whether a cell holds an int, and so owns no memory.
+#[inline(always)]
+fn is_int(cell: &Cell) -> bool
+    ensures plain { IsTrue result → owns_nothing cell.now ≡ true }
+{
+    match cell {
+        Cell::Value(Value::Int(_)) => true,
+        _ => false,
+    }
+}
+
+/// Whether the last cell holds an int.
+#[inline(always)]
+#[tactic(auto, using(crate::proofs::Lasts::int_lemmas))]
+fn ends_with_int(top: &[Cell]) -> bool
+    requires some { 0 < length top.now }
+    ensures plain { IsTrue result → EndsPlainly top.now }
+{
+    is_int(&top[top.len() - 1])
 }
 
 /// Whether a cell owns no memory, as those of ints and objects.
