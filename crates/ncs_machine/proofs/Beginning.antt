@@ -17,6 +17,7 @@ use Rattle.ncs_machine.specs.declared.scripts.Begin.{Begin}
 use Rattle.ncs_machine.specs.declared.scripts.Begin.TheVariants.{Start, Stored}
 use Rattle.world_rules.specs.World.{World}
 use Rattle.ncs_machine.specs.declared.entry.Ran.{Ran}
+use Rattle.ncs_machine.specs.Begins.{RunsAlone}
 use Rattle.ncs_machine.specs.Endings.{FitsBegin, IsCut, IsRunOf, WhereCut}
 use Rattle.ncs_machine.specs.Host.{first_frame, script_of, scripts_of}
 use Rattle.ncs_machine.specs.Settings.{CheckedListing, CodeSetting, checked_listing, code_setting, host_in, scripts_in, tables_in}
@@ -59,8 +60,11 @@ pub setting_is : (l : CheckedListing) (scripts : List Loaded) (table : EngineTab
     → code_setting (checked_listing scripts table) hooks ≡ code_setting l hooks
 setting_is l scripts table hooks a b = rw (a, b) refl
 
-pub safe_here : (s t : CodeSetting) (f g : Frame) → s ≡ t → f ≡ g → IsSafeFrame (scripts_in s) (tables_in s) f → IsSafeFrame (scripts_in t) (tables_in t) g
-safe_here s t f g same alone h = subst (IsSafeFrame (scripts_in t) (tables_in t)) alone (subst (λ k. IsSafeFrame (scripts_in k) (tables_in k) f) same h)
+pub runs_here : (s t : CodeSetting) (f : Frame) (m : Frames) → s ≡ t → record { running = f; waiting = [] } ≡ m → IsSafeFrame (scripts_in s) (tables_in s) f
+    → RunsAlone (scripts_in t) (tables_in t) m
+runs_here s t f m same alone h =
+    subst (RunsAlone (scripts_in t) (tables_in t)) alone
+    (record { safe = subst (λ k. IsSafeFrame (scripts_in k) (tables_in k) f) same h; alone = refl })
 
 module _ (s t : CodeSetting) (answer : Ran) (n o : ℕ) (m : Frames) (f : Frame) (w v : World Saved) where
   pub run_here : (limit : ℕ) → s ≡ t → m ≡ record { running = f; waiting = [] }

@@ -7,6 +7,7 @@ use Rattle.machine_rules.specs.Machine.{Host, Script}
 use Rattle.stack_rules.specs.Fits.{Tables}
 use Rattle.stack_rules.specs.Laws.{AllMeet}
 use Rattle.world_rules.specs.World.{World}
+use Rattle.world_core.specs.Calls.{AreServing}
 use Rattle.ncs_machine.specs.Host.{engine_view, host, scripts_of, tables_of}
 use Rattle.ncs_machine.specs.Stored.{StatesFit}
 use Rattle.ncs_machine.specs.declared.scripts.Loaded.{Loaded}
@@ -34,6 +35,11 @@ pub record CodeSetting : Type 0 where
 
 abbrev pub code_setting : CheckedListing → List Known → CodeSetting
 code_setting l hooks = record { scripts = l.scripts; table = l.table; hooks = hooks }
+
+-- the scripts are checked, and the hooks serve
+pub record IsSet (s : CodeSetting) : Type 0 where
+  pub checked : IsChecked (checked_listing s.scripts s.table)
+  pub serving : AreServing s.hooks
 
 abbrev pub scripts_in : CodeSetting → List Script
 scripts_in s = scripts_of s.scripts

@@ -1,18 +1,16 @@
 //! An entry from its begin to its end.
-ghost use Rattle.std.specs.Prelude.{◌≡◌, ◌≤◌, []};
-ghost use Rattle.nwq_value.specs.Limits.{instruction_limit};
+ghost use Rattle.std.specs.Prelude.{◌≤◌};
 ghost use Rattle.hook_table.specs.InHooks.{known_by};
 ghost use Rattle.machine_rules.specs.Runs.{entry, run as run_of};
 ghost use Rattle.stack_rules.specs.Safe.{IsSafeFrame};
-ghost use Rattle.ncs_machine.specs.Begins.{MayBegin, MayRun};
+ghost use Rattle.ncs_machine.specs.Begins.{MayBegin, MayRun, RunsAlone};
 ghost use Rattle.ncs_machine.specs.Endings.{IsCut, IsRunOf, WhereCut};
 ghost use Rattle.ncs_machine.specs.Host.{engine_view, first_frame, host, run_from, scripts_of};
 ghost use Rattle.ncs_machine.specs.Host.{tables_of};
 ghost use Rattle.ncs_machine.specs.InSetting.{seen};
-ghost use Rattle.ncs_machine.specs.Settings.{IsChecked, checked_listing};
+ghost use Rattle.ncs_machine.specs.Settings.{IsSet, checked_listing, code_setting};
 ghost use Rattle.ncs_machine.specs.Settings.{host_in, scripts_in, tables_in};
 ghost use Rattle.ncs_machine.specs.Steps.{state};
-ghost use Rattle.world_core.specs.Calls.{AreServing};
 
 use crate::machine::{Machine, StepOutcome};
 use crate::scene::Scene;
@@ -53,13 +51,10 @@ fn run_machine(
     table: &Table,
     limit: u64,
 ) -> (Ran, u64, u32)
-    requires checked { IsChecked (checked_listing scripts.now table.now) }
-    requires hooks { AreServing (known_by hooks.now) }
-    requires limit { limit ≤ instruction_limit }
-    requires runs { MayRun machine.old.running.self world.old.world }
-    requires safe { IsSafeFrame (scripts_of scripts.now) (tables_of scripts.now)
-        machine.old.running }
-    requires alone { machine.old.waiting ≡ [] }
+    requires set { IsSet (code_setting (checked_listing scripts.now table.now)
+        (known_by hooks.now)) }
+    requires runs { MayRun limit machine.old.running.self world.old.world }
+    requires begins { RunsAlone (scripts_of scripts.now) (tables_of scripts.now) machine.old }
     ensures room { world.old.room ≤ world.new.room }
     ensures run { IsRunOf result.0 result.1 result.2 (run_of (host (scripts_of scripts.now)
         (engine_view table.now (known_by hooks.now))) limit (state machine.old world.old.world))
@@ -101,8 +96,7 @@ fn run_frame(
     world: &mut World<Saved>,
     limit: u64,
 ) -> (Ran, u64, u32)
-    requires limit { limit ≤ instruction_limit }
-    requires runs { MayRun frame.self world.old.world }
+    requires runs { MayRun limit frame.self world.old.world }
     requires safe { IsSafeFrame (scripts_in (seen setting.now)) (tables_in (seen setting.now))
         frame }
     ensures room { world.old.room ≤ world.new.room }
@@ -138,8 +132,7 @@ pub fn run(
     limit: u64,
 ) -> (Ran, u64, u32)
     requires begins { MayBegin (seen setting.now) script begin }
-    requires limit { limit ≤ instruction_limit }
-    requires runs { MayRun caller world.old.world }
+    requires runs { MayRun limit caller world.old.world }
     ensures room { world.old.room ≤ world.new.room }
     ensures run { IsRunOf result.0 result.1 result.2 (run_from (host_in (seen setting.now)) limit
         script begin caller world.old.world) (scripts_in (seen setting.now))

@@ -15,18 +15,18 @@ script-script-requires g c = record {
       (state c.args.machine.now c.args.world.now.world) 0 c.args.machine.now c.args.world.now.world
       (run_begins (scripts_of c.args.scripts.now) _ (tables_of c.args.scripts.now) c.args.limit c.args.machine.now c.args.world.now.world
       c.steps_are_safe.ensures.steps c.calls_keep_worlds.ensures.engine c.calls_keep_worlds.ensures.no_script c.calls_keep_worlds.ensures.too_deep
-      c.tables_type_execute_script.ensures.typed c.keeps-2.ensures.table c.keeps.ensures.kept c.requires.checked.meets
+      c.tables_type_execute_script.ensures.typed c.keeps-2.ensures.table c.keeps.ensures.kept c.requires.set.checked.meets
       (answers_typed _ c.answers_have_types.ensures.typed c.keeps-2.ensures.table)
-      c.requires.safe c.requires.alone c.requires.runs.caller);
+      c.requires.begins.safe c.requires.begins.alone c.requires.runs.caller);
 }
 
 pub loop-done-init : goal.loop-done-init
 loop-done-init g c = record {
   running = run_begins (scripts_of c.args.scripts.now) _ (tables_of c.args.scripts.now) c.args.limit c.args.machine.now c.args.world.now.world
       c.steps_are_safe.ensures.steps c.calls_keep_worlds.ensures.engine c.calls_keep_worlds.ensures.no_script c.calls_keep_worlds.ensures.too_deep
-      c.tables_type_execute_script.ensures.typed c.keeps-2.ensures.table c.keeps.ensures.kept c.requires.checked.meets
+      c.tables_type_execute_script.ensures.typed c.keeps-2.ensures.table c.keeps.ensures.kept c.requires.set.checked.meets
       (answers_typed _ c.answers_have_types.ensures.typed c.keeps-2.ensures.table)
-      c.requires.safe c.requires.alone c.requires.runs.caller;
+      c.requires.begins.safe c.requires.begins.alone c.requires.runs.caller;
   script = c.script-script.ensures.script;
   own = c.own-own.ensures.own;
   room = omega arith;
