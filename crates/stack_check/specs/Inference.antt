@@ -29,7 +29,7 @@ use Rattle.stack_check.specs.declared.leads.Kind.TheVariants.{Call, Return, Stor
 use Rattle.stack_lists.specs.Shared.{read}
 use Rattle.stack_lists.specs.Held.{HeapGrows, IsIn, shape_of}
 use Rattle.stack_lists.specs.Rows.{RowAdded, row_in}
-use Rattle.stack_lists.specs.declared.todo.Call.{Call}
+use Rattle.stack_lists.specs.declared.todo.Call.{Call as KeptCall}
 use Rattle.stack_lists.specs.declared.todo.Spot.{Spot}
 use Rattle.stack_lists.specs.Worklist.{CallersAdded, Worklist, calls_of, waiting}
 use Rattle.stack_check.specs.Facts.{FindsMore, current, first_place, first_held, callee_of, trial_table, unseen_cells, unseen_under}
@@ -449,7 +449,7 @@ CallsAgain before after (Stored site) = after ≡ before
 -- Each call that was kept of the routine waits.
 abbrev pub CallsWait : Worklist → Worklist → Entry → Type 0
 CallsWait before after Start = Unit {0}
-CallsWait before after (Called target) = (call : Call) → Contains (calls_of before target) call
+CallsWait before after (Called target) = (call : KeptCall) → Contains (calls_of before target) call
     → Contains (waiting after) call.spot
 CallsWait before after (Stored site) = Unit {0}
 
