@@ -52,17 +52,17 @@ returns-clause-kept c =
       cells = c.self.inside.cells;
       under = c.self.inside.under;
     }) c.args.row c.args.call) c.self.view_is
-        (call_added (record {
-          first = c.self.inside.first.items;
-          soon = c.self.inside.soon.items;
-          later = c.self.inside.later.items;
-          calls = c.self.inside.calls;
-          called = c.self.inside.called;
-          marks = c.self.inside.marks;
-          waits = c.self.inside.waits;
-          cells = c.self.inside.cells;
-          under = c.self.inside.under;
-        })
-        _ c.args.row c.get-below.result c.in_ok-number.number c.args.call c.self.invariant.0 c.in_ok-number.ensures.grows c.get-below.ensures.number
-        c.in_ok-number.ensures.reads c.in_ok-number.ensures.inside c.in_ok-put.ensures.put c.in_ok-put-2.ensures.put)
-        (c.is_marked.ensures.none c.if-is_marked.false)
+    (call_added (record {
+      first = c.self.inside.first.items;
+      soon = c.self.inside.soon.items;
+      later = c.self.inside.later.items;
+      calls = c.self.inside.calls;
+      called = c.self.inside.called;
+      marks = c.self.inside.marks;
+      waits = c.self.inside.waits;
+      cells = c.self.inside.cells;
+      under = c.self.inside.under;
+    })
+    _ c.args.row c.get-below.result c.in_ok-number.number c.args.call c.self.invariant.0 c.in_ok-number.ensures.grows c.get-below.ensures.number
+    c.in_ok-number.ensures.reads c.in_ok-number.ensures.inside c.in_ok-put.ensures.put c.in_ok-put-2.ensures.put)
+    (c.is_marked.ensures.none c.if-is_marked.false)
