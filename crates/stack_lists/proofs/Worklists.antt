@@ -1,5 +1,5 @@
 -- The worklist: what is handed in and out, and the calls that are kept.
-use Rattle.std.proofs.Common.{arith, ◌≡◌, ◌≢◌, ◌≤◌, ◌<◌, ◌+◌, ℕ, zero, suc, List, [], ◌∷◌, ◌++◌, length, map, get_or, inl, inr, sym, subst, ◌∙◌, ap, refl, append-nil}
+use Rattle.std.proofs.Common.{arith, ◌≡◌, ◌≤◌, ◌<◌, ℕ, zero, suc, List, [], ◌∷◌, ◌++◌, length, map, get_or, inl, inr, sym, subst, ◌∙◌, ap, refl, append-nil}
 use Rattle.std.specs.Prelude.{Result, Ok, Err, OnOk, Contains}
 use Rattle.std.proofs.lemmas.Bool.{cases_eq}
 use Rattle.std.proofs.lemmas.List.{append_assoc, length-append, map-append}
@@ -10,7 +10,7 @@ use Rattle.stack_lists.specs.declared.todo.Call.{Call}
 use Rattle.stack_lists.specs.declared.todo.Spot.{Spot}
 use Rattle.stack_lists.specs.Shared.{Grows, read}
 use Rattle.stack_lists.specs.Rows.{PutAt, SameNumbers}
-use Rattle.stack_lists.specs.Worklist.{AllWait, AreMarked, AreThere, CallKept, CallersAdded, CallsPut, IsMarked, IsTop, SameCalls, Worklist, calls_of, spot_of, waiting}
+use Rattle.stack_lists.specs.Worklist.{AllWait, AreMarked, AreThere, CallKept, CallersAdded, CallsPut, IsMarked, IsTop, SameCalls, Worklist, calls_of, spot_of}
 use Rattle.stack_lists.specs.Growth.{read_empty}
 use Rattle.stack_lists.specs.Budget.{most}
 

@@ -1,4 +1,3 @@
-use Rattle.std.proofs.Common.{◌≡◌}
 use Rattle.stack_lists.proofs.Waits.{PutSoFar}
 use Rattle.stack_lists.proofs.todo.put_all.Given as goal
 

@@ -1,4 +1,4 @@
-use Rattle.std.proofs.Common.{arith, ◌≡◌, ◌-◌, None, Some, slice_get, subst, sym}
+use Rattle.std.proofs.Common.{arith, ◌≡◌, ◌-◌, Some, slice_get, subst, sym}
 use Rattle.stack_lists.specs.Rows.{IsNumberOf, held_in}
 use Rattle.stack_lists.proofs.RowLemmas.{find_none, number_held, number_none}
 use Rattle.stack_lists.proofs.rows.Rows.number.Goals as goal
