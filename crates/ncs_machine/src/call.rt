@@ -138,7 +138,6 @@ impl Machine {
                 } else {
                     // The arguments stay in their place, since moves of them are dear.
                     self.ask(alloc, world, hooks, table, number, routine, &mut args)?;
-                    drop(args);
                     Ok(())
                 }
             }

@@ -1,20 +1,9 @@
 -- The last cell of a list, where it owns no memory.
-use Rattle.std.proofs.Common.{arith, ◌≡◌, ◌<◌, ◌-◌, ℕ, List, length, slice_get, get_or, Some, Bool, true, false, sym, ap, ◌∙◌}
+use Rattle.std.proofs.Common.{arith, ◌≡◌, ◌<◌, ◌-◌, ℕ, List, length, slice_get, get_or, Some, Bool, true, sym, ap, ◌∙◌}
 use Rattle.std.specs.Prelude.{IsTrue}
 use Rattle.std.proofs.lemmas.Option.{slice_get-get_or, slice_get_within}
 use Rattle.saved_state.specs.declared.cell.Cell.{Cell}
 use Rattle.saved_state.specs.Kept.{EndsPlainly, owns_nothing}
-
-pub last_plain : (cells : List Cell) (k : ℕ) (cell : Cell) (test : Bool) → k < length cells → k ≡ length cells - 1 → cell ≡ get_or cells k cell
-    → test ≡ owns_nothing cell → IsTrue test → EndsPlainly cells
-last_plain cells k cell true less at is plain h = record {
-  cell = cell;
-  is = ap (slice_get cells) (sym at) ∙ slice_get-get_or cells k cell less ∙ ap Some (sym is);
-  plain = sym plain;
-}
-last_plain cells k cell false less at is plain h = absurd cc
-
-pub ruleset plain_lemmas = (last_plain)
 
 pub int_ends : (cells : List Cell) (k : ℕ) (cell : Cell) (test : Bool) → k < length cells → k ≡ length cells - 1 → cell ≡ get_or cells k cell
     → (IsTrue test → owns_nothing cell ≡ true) → IsTrue test → EndsPlainly cells

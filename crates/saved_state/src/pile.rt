@@ -622,11 +622,7 @@ fn drop_other(top: &mut Vec<Cell>)
     requires some { 0 < length top.old.items }
     ensures left { top.new.items ≡ take (length top.old.items - 1) top.old.items }
 {
-    if ends_plainly(top.as_slice()) {
-        drop_plain(top);
-    } else {
-        drop(top.take_last());
-    }
+    drop(top.take_last());
 }
 
 /// Whether a cell holds an int, and so owns no memory.
@@ -648,28 +644,6 @@ fn ends_with_int(top: &[Cell]) -> bool
     ensures plain { IsTrue result → EndsPlainly top.now }
 {
     is_int(&top[top.len() - 1])
-}
-
-/// Whether a cell owns no memory, as those of ints and objects.
-#[inline(always)]
-fn owns_nothing(cell: &Cell) -> bool
-    ensures test { result ≡ owns_nothing cell.now }
-{
-    match cell {
-        Cell::Value(Value::Int(_)) => true,
-        Cell::Value(Value::Object(_)) => true,
-        _ => false,
-    }
-}
-
-/// Whether the last cell owns no memory.
-#[inline(always)]
-#[tactic(auto, using(crate::proofs::Lasts::plain_lemmas))]
-fn ends_plainly(top: &[Cell]) -> bool
-    requires some { 0 < length top.now }
-    ensures plain { IsTrue result → EndsPlainly top.now }
-{
-    owns_nothing(&top[top.len() - 1])
 }
 
 /// Drops the last cell, which owns no memory, without a look at it.
