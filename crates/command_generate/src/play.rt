@@ -10,14 +10,14 @@ ghost use Rattle.world_core.specs.Calls.{AreServing, cells_of};
 ghost use Rattle.ncs_machine.specs.InSetting.{seen};
 ghost use Rattle.ncs_machine.specs.Settings.{scripts_in};
 ghost use Rattle.plan_text.specs.Plans.{IsPlan};
-ghost use Rattle.play_generator.specs.Made.{number_limit, play_of};
+ghost use Rattle.play_generator.specs.Made.{number_limit};
 ghost use Rattle.play_worlds.specs.Worlds.{plan_world};
 ghost use Rattle.command_plays.specs.Plays.{plan_played_in};
 ghost use Rattle.command_plays.specs.Scripts.{listed};
 ghost use Rattle.nwq_outside.specs.declared.counts.FileCounts.{FileCounts};
 ghost use Rattle.command_work.specs.Work.{Does};
 ghost use Rattle.command_work.specs.Counts.{Counted, Tallies, Refusing};
-ghost use Rattle.command_generate.specs.Generated.{made_area, tells, plays_made};
+ghost use Rattle.command_generate.specs.Generated.{IsMade, tells, plays_made};
 
 use crate::kinds::Kept;
 use crate::made::{made_area, made_plan};
@@ -76,9 +76,7 @@ fn play_listed<S: Sink>(
     made: &Made,
     out: &mut S,
 ) -> Result<(), Status>
-    requires header { setting.now.code.table ≡ header_table }
-    requires number { number ≤ number_limit }
-    requires made { made.now ≡ play_of number }
+    requires made { IsMade setting.now.code.table number made.now }
     ensures does { IsTrue S.tells → (ops : List PlainOp) → scripts_in (seen setting.now) ≡ listed
         (codes "beat") ops → (c : Contents) → Does (plays_made (cells_of (seen setting.now).hooks)
         number ops) c (S.taken out.old) result c (S.taken out.new) }
@@ -109,9 +107,7 @@ pub(crate) fn play_code<S: Sink>(
     hooks: &Hooks,
     out: &mut S,
 ) -> Result<(), Status>
-    requires header { table.now ≡ header_table }
-    requires number { number ≤ number_limit }
-    requires made { made.now ≡ play_of number }
+    requires made { IsMade table.now number made.now }
     requires meets { MeetsRules table.now code.code (kept_table code) }
     requires hooks { AreServing (known_by hooks.now) }
     ensures does { IsTrue S.tells → (c : Contents) → Does (plays_made (cells_of (known_by

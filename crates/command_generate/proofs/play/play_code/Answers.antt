@@ -14,5 +14,11 @@ returns-in-Ok-clause-does g c = λ tells d.
     d (g.S.Sink.taken c.play_listed.new.out)) c.of-setting.ensures.setting
     (c.play_listed.ensures.does tells c.args.code.code (ap scripts_in c.of-setting.ensures.setting ∙ c.in-Ok.ensures.listed) d)
 
-pub play_listed-requires-clause-header : goal.play_listed-requires-clause-header
-play_listed-requires-clause-header g c = ap (λ (s : CodeSetting). s.table) c.of-setting.ensures.setting ∙ c.requires.header
+pub play_listed-requires : goal.play_listed-requires
+play_listed-requires g c = record {
+  made = record {
+    built_in = ap (λ (s : CodeSetting). s.table) c.of-setting.ensures.setting ∙ c.requires.made.built_in;
+    few = c.requires.made.few;
+    is = c.requires.made.is;
+  };
+}
