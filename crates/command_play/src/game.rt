@@ -67,7 +67,7 @@ fn play_scripts<F: Files, S: Sink>(
 }
 
 /// Plays a plan over an area, under the header that a word names, and leaves the area of a play
-/// that is done in the file `to`.
+/// that is done in the file `to`. It and the files of bytecode of scripts alone are written.
 #[tactic(auto, using(crate::proofs::StopLemmas::stops))]
 pub fn play_files<F: Files, S: Sink>(
     alloc: Global,
@@ -82,7 +82,6 @@ pub fn play_files<F: Files, S: Sink>(
         (cells_of (known_by hooks.now)) game.entry.header.now game.entry.area.now
         game.entry.plan.now game.entry.to.now) files.old out.old result files.new out.new }
     ensures counts { TalliesOn F.counts S.faults result files.old out.old files.new out.new }
-    // The files of bytecode of scripts, and the file of the area that is left, alone are written.
     ensures names { KeepsBut (IsGameFile game.entry.to.now)
         (F.contents files.old) (F.contents files.new) }
     // Each file is read once: the plan, the header, those of each script, and the area.

@@ -24,8 +24,8 @@ use saved_state::Saved;
 use std::alloc::Global;
 use world_core::World;
 
-/// Plays listed scripts in a world, within limits. The trace is put as it comes; the answer is the
-/// last world, and how the play ended.
+/// Plays listed scripts in a world, within limits. The trace is put as it comes, all of it or a
+/// prefix where the play is cut short; the answer is the last world, and how the play ended.
 pub fn play_world<S: Sink>(
     alloc: Global,
     setting: &PlaySetting<'_, '_>,
@@ -37,7 +37,6 @@ pub fn play_world<S: Sink>(
     ensures told { IfOk result (λ answer. HasText answer.1.how) }
     ensures ending { IfOk result (λ answer. IsEnding answer.1
         (played_in (seen setting.now) limits world.world) answer.0.world) }
-    // The sink took the play's lines, or a prefix of them where the play was cut short.
     ensures trace { IsTrue S.tells → TakesLines S.taken
         (played_in (seen setting.now) limits world.world) out.old result out.new }
     ensures counts { TalliesPuts S.faults result out.old out.new }

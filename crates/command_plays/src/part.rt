@@ -26,7 +26,8 @@ use std::alloc::Global;
 use world_core::World;
 
 /// Plays on in a world, after so many entries and instructions, until `stop` entries were taken in
-/// all. The trace is put as it comes; the answer is the last world, and how this part ended.
+/// all. The trace is put as it comes, all of it or a prefix where this part is cut short; the answer
+/// is the last world, which keeps what a saved one needs, and how this part ended.
 pub fn play_part<S: Sink>(
     alloc: Global,
     setting: &PlaySetting<'_, '_>,
@@ -42,7 +43,6 @@ pub fn play_part<S: Sink>(
     ensures told { IfOk result (λ answer. cut_of answer.1.how ≡ None) }
     ensures ending { IfOk result (λ answer. IsEnding answer.1 (played_on_in (seen setting.now)
         limits stop taken done world.world) answer.0.world) }
-    // The sink took this part's lines, or a prefix of them where it was cut short.
     ensures trace { IsTrue S.tells → TakesLines S.taken (played_on_in (seen setting.now) limits stop
         taken done world.world) out.old result out.new }
     ensures counts { TalliesPuts S.faults result out.old out.new }
