@@ -257,9 +257,8 @@ const SCRIPTS: &[Refused] = &[
     Refused {
         bytes: b"const object O = OBJECT_SELF; void main() {}",
         line: b"refused p.nss 1 6 mismatch\n",
-        said: "p.nss:1:7: error: the default has another type than its parameter, or a constant is \
-            of the type `object` [mismatch]\nconst object O = OBJECT_SELF; void main() {}\n      \
-            ^\n",
+        said: "p.nss:1:7: error: no constant is of the type `object`: one is an int or a string \
+            [mismatch]\nconst object O = OBJECT_SELF; void main() {}\n      ^\n",
     },
     Refused {
         bytes: b"void f(int a = 1, int b) {} void main() {}",
