@@ -1,5 +1,5 @@
 -- The fields of a line.
-use Rattle.std.proofs.Common.{◌≡◌, ◌≢◌, ℕ, zero, suc, ◌+◌, ◌-◌, ◌<◌, ◌≤◌, ◌==◌, min, Bool, true, false, cond, List, [], ◌∷◌, ◌++◌, length, drop, get_or, Result, Ok, Err, OnOk, refl, sym, ap, ◌∙◌, subst, arith}
+use Rattle.std.proofs.Common.{◌≡◌, ◌≢◌, ℕ, zero, suc, ◌+◌, ◌-◌, ◌<◌, ◌≤◌, ◌==◌, min, Bool, true, false, cond, List, [], ◌∷◌, length, drop, get_or, Result, Ok, Err, OnOk, refl, sym, ap, ◌∙◌, subst, arith}
 use Rattle.std.proofs.lemmas.List.{drop_more, drop_all}
 use Rattle.std.proofs.lemmas.Bool.Decides.{nat_tests}
 use Rattle.nwq_text.specs.Cuts.{IsFree}
@@ -8,7 +8,7 @@ use Rattle.message_text.specs.Shown.{Appends}
 use Rattle.message_sentences.specs.Form.{ShowsNoteAt}
 use Rattle.message_notes.specs.declared.lacks.Lack.{Lack}
 use Rattle.message_notes.specs.declared.lacks.Lack.TheVariants as lack
-use Rattle.message_notes.specs.Under.{field_place, field_in, IsUnder, ShowsLack}
+use Rattle.message_notes.specs.Under.{field_place, IsUnder, ShowsLack}
 
 equal : (b : ℕ) → (b == b) ≡ true
 equal b = grind (arith, nat_tests)

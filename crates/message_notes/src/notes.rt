@@ -104,7 +104,6 @@ fn piece_of(line: &Line, lack: Lack) -> &[u8] {
 }
 
 /// Appends the note on a line.
-#[tactic(auto, using(crate::proofs::UnderLemmas::lack_shown))]
 fn put_lack(
     out: &mut Vec<u8>,
     plan: Input<'_>,
