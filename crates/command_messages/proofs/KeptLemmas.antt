@@ -1,5 +1,5 @@
 -- What is kept of a piece.
-use Rattle.std.proofs.Common.{◌≡◌, ℕ, ◌<◌, ◌≤◌, Bool, true, false, cond, inl, inr, List, [], ◌++◌, length, ap, ◌∙◌, arith}
+use Rattle.std.proofs.Common.{◌≡◌, ℕ, ◌≤◌, Bool, true, false, cond, inl, inr, List, [], ◌++◌, length, ap, ◌∙◌, arith}
 use Rattle.command_messages.specs.Kept.{Keeps}
 
 pub piece_kept : (piece empty line : List ℕ) (b : Bool) → empty ≡ [] → length piece ≤ 8192 → line ≡ cond b (empty ++ piece) empty → Keeps piece line
