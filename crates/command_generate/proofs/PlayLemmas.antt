@@ -1,5 +1,5 @@
 -- The play of a made play's code.
-use Rattle.std.proofs.Common.{◌≡◌, ℕ, inr, List, codes, Result, Err, refl, subst}
+use Rattle.std.proofs.Common.{◌≡◌, ◌++◌, ℕ, inr, List, [], codes, Result, Err, refl, ap, subst, ◌∙◌}
 use Rattle.nwq_value.specs.Engine.{EngineTable}
 use Rattle.nwq_value.specs.HeaderTable.{header_table}
 use Rattle.nwq_outside.specs.Outside.{Contents}
@@ -53,3 +53,8 @@ module _ (cell : CellLookup) (n : ℕ) (ops : List PlainOp) (c : Contents) where
       (subst (λ a. Does (tells n (plan_played cell header plan scripts (plan_world a plan))) c t r c t') areas does)))
 
 pub ruleset made = (made_cut)
+
+-- ---- the trace, as it was kept
+
+pub all_kept : (bytes after before text : List ℕ) → bytes ≡ after → after ≡ before ++ text → before ≡ [] → bytes ≡ text
+all_kept bytes after before text same took empty = same ∙ took ∙ ap (λ (t : List ℕ). t ++ text) empty

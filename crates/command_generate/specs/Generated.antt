@@ -3,7 +3,9 @@
 use Rattle.std.specs.Prelude.{◌≡◌, ◌≤◌, ℕ, ◌*◌, List, [], ◌∷◌, ◌++◌, length, codes, Result, Ok}
 use Rattle.std.specs.FinMap as map
 use Rattle.std.specs.Fmt.{decimal}
+use Rattle.nwq_value.specs.Engine.{EngineTable}
 use Rattle.nwq_value.specs.HeaderTable.{header_table}
+use Rattle.nwq_value.specs.Limits.{file_limit}
 use Rattle.nwq_outside.specs.declared.counts.FileCounts.{FileCounts}
 use Rattle.nwq_outside.specs.Outside.{Contents, plain}
 use Rattle.area_rules.specs.Area.{PlainArea, area_of}
@@ -14,13 +16,13 @@ use Rattle.world_rules.specs.Trace.{trace_text}
 use Rattle.plan_text.specs.declared.plan.Plan.{Plan}
 use Rattle.world_rules.specs.Plays.{Played}
 use Rattle.world_rules.specs.EndText.{end_line}
-use Rattle.play_generator.specs.Made.{creatures_of, number_limit, rounds_of, area_tree, play_of}
+use Rattle.play_generator.specs.Made.{Play, creatures_of, number_limit, rounds_of, area_tree, play_of}
 use Rattle.play_generator.specs.Reads.{plan_made}
 use Rattle.command_work.specs.declared.status.Status.{Status}
 use Rattle.command_work.specs.declared.status.Status.TheVariants.{Limit}
 use Rattle.command_work.specs.Work.{Work, Gives, Puts, Finds, then, CutsShort, Does, Finished}
 use Rattle.command_compile.specs.Files.{compiled_named}
-use Rattle.command_files.specs.Checks.{loaded_in}
+use Rattle.command_files.specs.Checks.{IsStackedFile, loaded_in}
 use Rattle.play_worlds.specs.Worlds.{plan_world}
 use Rattle.command_plays.specs.Plays.{ends_by, plan_played}
 use Rattle.command_plays.specs.Scripts.{listed}
@@ -106,3 +108,16 @@ generates cell n = then (source_compiled (play_of n).source) (checks_made cell n
 abbrev pub StopsGenerate : Status → Type 0
 StopsGenerate Limit = Unit {0}
 StopsGenerate status = CutsShort status
+
+-- ---- what the steps are given
+
+-- a made play is that of its number, which isn't too great, and its header is the built-in one
+pub record IsMade (header : EngineTable) (number : ℕ) (made : Play) : Type 0 where
+  pub built_in : header ≡ header_table
+  pub few : number ≤ number_limit
+  pub is : made ≡ play_of number
+
+-- bytes can be loaded and are well stacked
+pub record MayLoad (header : EngineTable) (bytes : List ℕ) : Type 0 where
+  pub small : length bytes ≤ file_limit
+  pub stacked : IsStackedFile header bytes

@@ -1,15 +1,14 @@
 //! The command.
-ghost use Rattle.std.specs.Prelude.{◌≡◌, ◌≤◌, ℕ, length, map, IsTrue, IfErr};
-ghost use Rattle.nwq_value.specs.Limits.{file_limit};
-ghost use Rattle.nwq_value.specs.HeaderTable.{header_table};
+ghost use Rattle.std.specs.Prelude.{◌≤◌, IsTrue, IfErr};
 ghost use Rattle.nwq_outside.specs.Outside.{Contents};
+ghost use Rattle.hook_table.specs.InHooks.{known_by};
 ghost use Rattle.world_core.specs.Calls.{AreServing, cells_of};
-ghost use Rattle.play_generator.specs.Made.{number_limit, play_of};
+ghost use Rattle.play_generator.specs.Made.{number_limit};
 ghost use Rattle.nwq_outside.specs.declared.counts.FileCounts.{FileCounts};
 ghost use Rattle.command_work.specs.Work.{Does};
 ghost use Rattle.command_work.specs.Counts.{Counted, Tallies, Refusing};
-ghost use Rattle.command_files.specs.Checks.{IsStackedFile};
-ghost use Rattle.command_generate.specs.Generated.{checks_made, generates, StopsGenerate};
+ghost use Rattle.command_generate.specs.Generated.{checks_made, generates, IsMade, MayLoad};
+ghost use Rattle.command_generate.specs.Generated.{StopsGenerate};
 
 use crate::play::play_code;
 use crate::source::compile_source;
@@ -33,15 +32,11 @@ fn play_file<S: Sink>(
     hooks: &Hooks,
     out: &mut S,
 ) -> Result<(), Status>
-    requires header { table.now ≡ header_table }
-    requires number { number ≤ number_limit }
-    requires made { made.now ≡ play_of number }
-    requires small { length bytes.items ≤ file_limit }
-    requires stacked { IsStackedFile table.now bytes.items }
-    requires hooks { AreServing (map (λ h. h.known) hooks.now.all.items) }
-    ensures does { IsTrue S.tells → (c : Contents) →
-        Does (checks_made (cells_of (map (λ h. h.known) hooks.now.all.items)) number bytes.items)
-        c (S.taken out.old) result c (S.taken out.new) }
+    requires made { IsMade table.now number made.now }
+    requires loads { MayLoad table.now bytes.items }
+    requires hooks { AreServing (known_by hooks.now) }
+    ensures does { IsTrue S.tells → (c : Contents) → Does (checks_made (cells_of (known_by
+        hooks.now)) number bytes.items) c (S.taken out.old) result c (S.taken out.new) }
     ensures counts { (counts : FileCounts) → Tallies result (Counted counts (S.faults out.old))
         (Counted counts (S.faults out.new)) }
     ensures only { IfErr result (Refusing Status.Limit) }
@@ -62,13 +57,10 @@ fn play_made<S: Sink>(
     hooks: &Hooks,
     out: &mut S,
 ) -> Result<(), Status>
-    requires header { table.now ≡ header_table }
-    requires number { number ≤ number_limit }
-    requires made { made.now ≡ play_of number }
-    requires hooks { AreServing (map (λ h. h.known) hooks.now.all.items) }
-    ensures does { IsTrue S.tells → (c : Contents) →
-        Does (generates (cells_of (map (λ h. h.known) hooks.now.all.items)) number)
-        c (S.taken out.old) result c (S.taken out.new) }
+    requires made { IsMade table.now number made.now }
+    requires hooks { AreServing (known_by hooks.now) }
+    ensures does { IsTrue S.tells → (c : Contents) → Does (generates (cells_of (known_by hooks.now))
+        number) c (S.taken out.old) result c (S.taken out.new) }
     ensures counts { (counts : FileCounts) → Tallies result (Counted counts (S.faults out.old))
         (Counted counts (S.faults out.new)) }
     ensures only { IfErr result StopsGenerate }
@@ -88,10 +80,9 @@ pub fn generate<S: Sink>(
     out: &mut S,
 ) -> Result<(), Status>
     requires number { number ≤ number_limit }
-    requires hooks { AreServing (map (λ h. h.known) hooks.now.all.items) }
-    ensures does { IsTrue S.tells → (c : Contents) →
-        Does (generates (cells_of (map (λ h. h.known) hooks.now.all.items)) number)
-        c (S.taken out.old) result c (S.taken out.new) }
+    requires hooks { AreServing (known_by hooks.now) }
+    ensures does { IsTrue S.tells → (c : Contents) → Does (generates (cells_of (known_by hooks.now))
+        number) c (S.taken out.old) result c (S.taken out.new) }
     ensures counts { (counts : FileCounts) → Tallies result (Counted counts (S.faults out.old))
         (Counted counts (S.faults out.new)) }
     ensures only { IfErr result StopsGenerate }

@@ -1,23 +1,23 @@
 //! The play of a made play's code.
-ghost use Rattle.std.specs.Prelude.{◌≡◌, ◌≤◌, ◌<◌, ◌^◌, ℕ, List, codes, length, map, IsTrue, IfErr};
+ghost use Rattle.std.specs.Prelude.{◌≡◌, ◌≤◌, List, codes, IsTrue, IfErr};
 ghost use Rattle.nwq_value.specs.HeaderTable.{header_table};
 ghost use Rattle.nwq_outside.specs.Outside.{Contents};
-ghost use Rattle.area_rules.specs.Area.{PlainArea};
 ghost use Rattle.ncs_code.specs.Plain.{PlainOp};
-ghost use Rattle.stack_rules.specs.Laws.{AllMeet};
+ghost use Rattle.hook_table.specs.InHooks.{known_by};
 ghost use Rattle.stack_rules.specs.Rules.{MeetsRules};
 ghost use Rattle.stack_check.specs.Checked.{kept_table};
 ghost use Rattle.world_core.specs.Calls.{AreServing, cells_of};
-ghost use Rattle.ncs_machine.specs.Host.{scripts_of, tables_of};
+ghost use Rattle.ncs_machine.specs.InSetting.{seen};
+ghost use Rattle.ncs_machine.specs.Settings.{scripts_in};
 ghost use Rattle.plan_text.specs.Plans.{IsPlan};
-ghost use Rattle.play_generator.specs.Made.{number_limit, play_of};
+ghost use Rattle.play_generator.specs.Made.{number_limit};
 ghost use Rattle.play_worlds.specs.Worlds.{plan_world};
-ghost use Rattle.command_plays.specs.Plays.{plan_played};
+ghost use Rattle.command_plays.specs.Plays.{plan_played_in};
 ghost use Rattle.command_plays.specs.Scripts.{listed};
 ghost use Rattle.nwq_outside.specs.declared.counts.FileCounts.{FileCounts};
 ghost use Rattle.command_work.specs.Work.{Does};
 ghost use Rattle.command_work.specs.Counts.{Counted, Tallies, Refusing};
-ghost use Rattle.command_generate.specs.Generated.{plan_of, made_area, tells, plays_made};
+ghost use Rattle.command_generate.specs.Generated.{IsMade, tells, plays_made};
 
 use crate::kinds::Kept;
 use crate::made::{made_area, made_plan};
@@ -26,7 +26,7 @@ use area_tree::Area;
 use command_plays::{list_one, play_lines};
 use command_work::Status;
 use hook_table::Hooks;
-use ncs_machine::Scripts;
+use ncs_machine::PlaySetting;
 use nwq_outside::Sink;
 use nwq_value::{NoMemory, Table};
 use plan_text::Plan;
@@ -39,31 +39,25 @@ use trace_lines::plays_tell_lines;
 #[tactic(auto, using(crate::proofs::PlayLemmas::plays))]
 fn play_over<S: Sink>(
     alloc: Global,
-    table: &Table,
+    setting: &PlaySetting<'_, '_>,
     number: u32,
     area: Area,
     plan: &Plan,
-    scripts: &Scripts,
-    hooks: &Hooks,
     out: &mut S,
 ) -> Result<(), Status>
-    requires header { table.now ≡ header_table }
+    requires header { setting.now.code.table ≡ header_table }
     requires number { number ≤ number_limit }
-    requires few { length scripts.now < 2 ^ 32 }
-    requires meets { AllMeet table.now (scripts_of scripts.now) (tables_of scripts.now) }
-    requires hooks { AreServing (map (λ h. h.known) hooks.now.all.items) }
     requires plan { IsPlan plan.now }
-    ensures does { IsTrue S.tells → (c : Contents) → Does (tells number
-        (plan_played (cells_of (map (λ h. h.known) hooks.now.all.items)) table.now plan.now
-        (scripts_of scripts.now) (plan_world area plan.now)))
-        c (S.taken out.old) result c (S.taken out.new) }
+    ensures does { IsTrue S.tells → (c : Contents) → Does (tells number (plan_played_in
+        (seen setting.now) plan.now (plan_world area plan.now))) c (S.taken out.old) result c
+        (S.taken out.new) }
     ensures counts { (counts : FileCounts) → Tallies result (Counted counts (S.faults out.old))
         (Counted counts (S.faults out.new)) }
     ensures only { IfErr result (Refusing Status.Limit) }
 {
     plays_tell_lines();
     let mut trace = Kept::new(alloc);
-    match play_lines(alloc, table, area, plan, scripts, hooks, &mut trace) {
+    match play_lines(alloc, setting, area, plan, &mut trace) {
         Err(status) => Err(status),
         Ok((world, played)) => {
             let clock = world.clock();
@@ -77,23 +71,15 @@ fn play_over<S: Sink>(
 #[tactic(auto, using(crate::proofs::PlayLemmas::made))]
 fn play_listed<S: Sink>(
     alloc: Global,
-    table: &Table,
+    setting: &PlaySetting<'_, '_>,
     number: u32,
     made: &Made,
-    scripts: &Scripts,
-    hooks: &Hooks,
     out: &mut S,
 ) -> Result<(), Status>
-    requires header { table.now ≡ header_table }
-    requires number { number ≤ number_limit }
-    requires made { made.now ≡ play_of number }
-    requires few { length scripts.now < 2 ^ 32 }
-    requires meets { AllMeet table.now (scripts_of scripts.now) (tables_of scripts.now) }
-    requires hooks { AreServing (map (λ h. h.known) hooks.now.all.items) }
-    ensures does { IsTrue S.tells → (ops : List PlainOp) →
-        scripts_of scripts.now ≡ listed (codes "beat") ops → (c : Contents) →
-        Does (plays_made (cells_of (map (λ h. h.known) hooks.now.all.items)) number ops)
-        c (S.taken out.old) result c (S.taken out.new) }
+    requires made { IsMade setting.now.code.table number made.now }
+    ensures does { IsTrue S.tells → (ops : List PlainOp) → scripts_in (seen setting.now) ≡ listed
+        (codes "beat") ops → (c : Contents) → Does (plays_made (cells_of (seen setting.now).hooks)
+        number ops) c (S.taken out.old) result c (S.taken out.new) }
     ensures counts { (counts : FileCounts) → Tallies result (Counted counts (S.faults out.old))
         (Counted counts (S.faults out.new)) }
     ensures only { IfErr result (Refusing Status.Limit) }
@@ -105,7 +91,7 @@ fn play_listed<S: Sink>(
                 drop(area);
                 Err(Status::Memory)
             }
-            Ok(plan) => play_over(alloc, table, number, area, &plan, scripts, hooks, out),
+            Ok(plan) => play_over(alloc, setting, number, area, &plan, out),
         },
     }
 }
@@ -121,20 +107,20 @@ pub(crate) fn play_code<S: Sink>(
     hooks: &Hooks,
     out: &mut S,
 ) -> Result<(), Status>
-    requires header { table.now ≡ header_table }
-    requires number { number ≤ number_limit }
-    requires made { made.now ≡ play_of number }
+    requires made { IsMade table.now number made.now }
     requires meets { MeetsRules table.now code.code (kept_table code) }
-    requires hooks { AreServing (map (λ h. h.known) hooks.now.all.items) }
-    ensures does { IsTrue S.tells → (c : Contents) →
-        Does (plays_made (cells_of (map (λ h. h.known) hooks.now.all.items)) number code.code)
-        c (S.taken out.old) result c (S.taken out.new) }
+    requires hooks { AreServing (known_by hooks.now) }
+    ensures does { IsTrue S.tells → (c : Contents) → Does (plays_made (cells_of (known_by
+        hooks.now)) number code.code) c (S.taken out.old) result c (S.taken out.new) }
     ensures counts { (counts : FileCounts) → Tallies result (Counted counts (S.faults out.old))
         (Counted counts (S.faults out.new)) }
     ensures only { IfErr result (Refusing Status.Limit) }
 {
     match list_one(alloc, b"beat", code) {
         Err(NoMemory) => Err(Status::Memory),
-        Ok(scripts) => play_listed(alloc, table, number, made, &scripts, hooks, out),
+        Ok(scripts) => {
+            let setting = PlaySetting::of(&scripts, table, hooks);
+            play_listed(alloc, &setting, number, made, out)
+        }
     }
 }

@@ -67,8 +67,8 @@ fn put_counted(out: &mut Vec<u8>, words: &[u8], n: u64) -> Result<(), NoMemory>
 /// Appends how much was made and told.
 #[tactic(auto, unfolding(crate::specs::Generated::made_line))]
 fn put_made(out: &mut Vec<u8>, creatures: u32, events: u32, trace: &[u8]) -> Result<(), NoMemory>
-    ensures line { OnOk result (out.new.items
-        ≡ out.old.items ++ made_line creatures events (newlines trace.now) (length trace.now)) }
+    ensures line { OnOk result (out.new.items ≡ out.old.items ++ made_line creatures events
+        (newlines trace.now) (length trace.now)) }
 {
     put_counted(out, b"generated creatures ", u64::from(creatures))?;
     put_counted(out, b" events ", u64::from(events))?;

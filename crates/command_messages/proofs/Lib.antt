@@ -1,1 +1,2 @@
 pub mod UnitTokens
+mod KeptLemmas

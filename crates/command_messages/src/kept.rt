@@ -1,6 +1,8 @@
 //! A sink that keeps the last line that it hands on.
 
-ghost use Rattle.std.specs.Prelude.{◌≡◌, ◌≤◌, length};
+ghost use Rattle.std.specs.Prelude.{◌≡◌, ◌≤◌, [], length, IsTrue};
+ghost use Rattle.nwq_outside.specs.Outside.{CountsDone, Takes};
+ghost use Rattle.command_messages.specs.Kept.{Keeps};
 
 use nwq_outside::{Done, Sink};
 use std::alloc::Global;
@@ -18,6 +20,7 @@ pub struct LastLine<S: Sink> {
 impl<S: Sink> LastLine<S> {
     pub fn new(alloc: Global, inner: S) -> Self
         ensures inner { result.inner ≡ inner }
+        ensures none { result.line.items ≡ [] }
     {
         LastLine {
             inner,
@@ -26,7 +29,9 @@ impl<S: Sink> LastLine<S> {
     }
 
     /// The last piece, unless it was long or there was no memory to keep it.
-    pub fn line(&self) -> &[u8] {
+    pub fn line(&self) -> &[u8]
+        ensures line { result.now ≡ self.now.line.items }
+    {
         self.line.as_slice()
     }
 
@@ -39,11 +44,15 @@ impl<S: Sink> LastLine<S> {
 }
 
 /// Keeps a piece in place of the last one.
-fn keep(line: &mut Vec<u8>, piece: &[u8]) {
+#[tactic(auto, using(crate::proofs::KeptLemmas::piece_kept, crate::proofs::KeptLemmas::none_kept))]
+fn keep(line: &mut Vec<u8>, piece: &[u8])
+    ensures keeps { Keeps piece.now line.new.items }
+{
     line.clear();
-    if piece.len() <= MOST_BYTES {
-        let _kept = line.extend_from_slice(piece);
+    if piece.len() > MOST_BYTES {
+        return;
     }
+    let _kept = line.extend_from_slice(piece);
 }
 
 /// It tells and counts what the sink beneath tells and counts.
@@ -54,7 +63,12 @@ impl<S: Sink> Sink for LastLine<S> {
 
     ghost faults = { λ s. S.faults s.inner };
 
-    fn put(&mut self, piece: &[u8]) -> Done {
+    fn put(&mut self, piece: &[u8]) -> Done
+        ensures taken { IsTrue S.tells →
+            Takes piece.now (S.taken self.old.inner) (S.taken self.new.inner) result }
+        ensures counts { CountsDone result (S.faults self.old.inner) (S.faults self.new.inner) }
+        ensures keeps { Keeps piece.now self.new.line.items }
+    {
         keep(&mut self.line, piece);
         self.inner.put(piece)
     }

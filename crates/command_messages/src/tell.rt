@@ -1,6 +1,6 @@
 //! The message after a command.
 
-ghost use Rattle.std.specs.Prelude.{◌≡◌, ◌≤◌, length, false};
+ghost use Rattle.std.specs.Prelude.{◌≡◌, ◌≤◌, bytes_eq, length, false, IfNone, IfSome};
 ghost use Rattle.nwq_value.specs.Limits.{file_limit};
 
 use crate::asked::{Asking, Lister, include_of, line_of_file};
@@ -54,6 +54,15 @@ fn table_for<F: Files>(
     }
 }
 
+/// Whether the units tell why a token is refused for a cause: by types and counts, the member of
+/// what is none, and a case that stands twice.
+fn is_asked(cause: &[u8], token: &[u8]) -> bool {
+    same(cause, b"mismatch")
+        || same(cause, b"arity")
+        || (same(cause, b"unknown") && same(token, b"."))
+        || (same(cause, b"redeclared") && same(token, b"case"))
+}
+
 /// What a message asks of the units, for causes that are told by them.
 fn ask_of<'a>(spot: Spot<'a>) -> Option<Ask<'a>>
     requires size { length spot.bytes.now ≤ file_limit }
@@ -62,12 +71,9 @@ fn ask_of<'a>(spot: Spot<'a>) -> Option<Ask<'a>>
     if same(spot.cause, b"syntax") {
         return Some(Ask::Following);
     }
-    if !same(spot.cause, b"mismatch") && !same(spot.cause, b"arity") {
-        return None;
-    }
     match token_at(spot.bytes, spot.at) {
-        Some(token) => Some(Ask::Why(token.text)),
-        None => None,
+        Some(token) if is_asked(spot.cause, token.text) => Some(Ask::Why(token.text)),
+        _ => None,
     }
 }
 
@@ -140,7 +146,10 @@ fn put_place_message<F: Files>(
 }
 
 /// Whether a file that a command reads has this name.
-fn is_named(file: Option<&str>, name: &str) -> bool {
+fn is_named(file: Option<&str>, name: &str) -> bool
+    ensures none { IfNone file.entry (result ≡ false) }
+    ensures named { IfSome file.entry (λ f. result ≡ bytes_eq f.now name.now) }
+{
     match file {
         Some(file) => file == name,
         None => false,

@@ -5,5 +5,3 @@ use Rattle.plan_text.specs.Plans.{IsPlan}
 
 pub few_listed : (plan : Plan) (kept : IsPlan plan) (n : ℕ) → n ≡ length plan.scripts → n < 2 ^ 32
 few_listed plan kept n is = omega (arith, is, kept.few_scripts)
-
-pub ruleset keeps = (few_listed)

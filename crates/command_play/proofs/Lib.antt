@@ -1,7 +1,6 @@
 mod FileLemmas
 mod OneGame
 mod PlayLemmas
-mod Steps
 mod StopLemmas
 mod TellLemmas
 mod Examples

@@ -10,6 +10,8 @@ use Rattle.world_rules.specs.Pure.{CellLookup}
 use Rattle.world_rules.specs.Trace.{trace_text}
 use Rattle.machine_rules.specs.Machine.{Script}
 use Rattle.world_rules.specs.Plays.{PlayEnd, Done, OutOfEntries, StoppedInside, Paused, Played}
+use Rattle.world_core.specs.Calls.{cells_of}
+use Rattle.ncs_machine.specs.Settings.{CodeSetting, scripts_in}
 use Rattle.module_player.specs.CodePlays.{code_end_text}
 use Rattle.command_work.specs.declared.status.Status.TheVariants.{Limit}
 use Rattle.command_work.specs.Work.{Work, Ends, Puts, then, Finished, puts}
@@ -44,6 +46,10 @@ unfoldable pub plays_plan : CellLookup → EngineTable → PlainArea → Plan �
     → Work Finished
 plays_plan cell header area plan scripts to = tells to scripts
     (plan_played cell header plan scripts (plan_world area plan))
+
+-- so in a setting
+abbrev pub plays_plan_in : CodeSetting → PlainArea → Plan → List ℕ → Work Finished
+plays_plan_in s area plan to = plays_plan (cells_of s.hooks) s.table area plan (scripts_in s) to
 
 -- ---- the command
 

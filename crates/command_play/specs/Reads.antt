@@ -4,7 +4,7 @@ use Rattle.std.specs.Prelude.{◌≡◌, ℕ, List, Result, Ok, Err, OnOk}
 use Rattle.nwq_outside.specs.Outside.{Contents, next}
 use Rattle.plan_text.specs.declared.plan.Plan.{Plan}
 use Rattle.plan_text.specs.declared.plan.Script.{Script as ScriptLine}
-use Rattle.command_sources.specs.Reads.{header_read, on_ok}
+use Rattle.command_sources.specs.Reads.{header_read}
 use Rattle.play_inputs.specs.Reads.{HasPlanFile, ReadsLines}
 
 -- the scripts of these lines were read, and then the area, once

@@ -2,9 +2,10 @@
 -- proofs of commands that play.
 use mathlib.Core.Path.{sym, subst}
 use mathlib.Core.Logic.{inl, inr}
+use Rattle.std.specs.Prelude.{Result, Ok, Err, IfErr}
 use Rattle.command_work.specs.declared.status.Status.{Status}
 use Rattle.command_work.specs.declared.status.Status.TheVariants.{Done, Words, Script, Code, Area, Limit, Missing, Fault, Memory, Long}
-use Rattle.command_work.specs.Work.{CutsShort}
+use Rattle.command_work.specs.Work.{CutsShort, Finished}
 use Rattle.command_work.specs.Counts.{Refusing, StopsSource, StopsArea}
 use Rattle.play_inputs.specs.Listings.{StopsListing}
 use Rattle.command_play.specs.Tellings.{StopsGame, StopsEnd}
@@ -96,3 +97,7 @@ limit_ends status (inr cut) = cut_ends status cut
 pub large_ends : (status : Status) → Refusing Area status → StopsEnd status
 large_ends status (inl is) = subst StopsEnd (sym is) tt
 large_ends status (inr cut) = cut_ends status cut
+
+pub ends_stop : (r : Result Finished Status) → IfErr r StopsEnd → IfErr r StopsGame
+ends_stop (Ok done) only = tt
+ends_stop (Err status) only = end_stops status only

@@ -1,10 +1,13 @@
 -- What is said of a play's files and statuses.
-use Rattle.std.specs.Prelude.{◌≡◌, ℕ, ◌⊎◌, IsTrue, List}
+use Rattle.std.specs.Prelude.{◌≡◌, ℕ, ◌⊎◌, IsTrue, IfErr, List, Result}
+use Rattle.nwq_outside.specs.declared.counts.FileCounts.{FileCounts}
+use Rattle.nwq_outside.specs.Outside.{Contents}
 use Rattle.nwq_text.specs.Names.{is_script_name}
 use Rattle.command_work.specs.declared.status.Status.{Status}
 use Rattle.command_work.specs.declared.status.Status.TheVariants.{Script, Code, Area, Limit}
-use Rattle.command_work.specs.Counts.{StopsRead}
-use Rattle.command_work.specs.Work.{CutsShort}
+use Rattle.command_work.specs.Calls.{TalliesOn}
+use Rattle.command_work.specs.Counts.{KeepsBut, StopsRead}
+use Rattle.command_work.specs.Work.{CutsShort, Finished}
 use Rattle.command_compile.specs.Files.{code_name}
 
 -- the file of bytecode of some script
@@ -31,3 +34,13 @@ abbrev pub StopsEnd : Status → Type 0
 StopsEnd Area = Unit {0}
 StopsEnd Limit = Unit {0}
 StopsEnd status = CutsShort status
+
+-- What a part of a command keeps to beside its work: how the counts of failures stand, which files
+-- alone it writes, and what stops it.
+pub record KeepsTo {F S : Type 0} (counts_of : F → FileCounts) (faults_of : S → ℕ)
+    (contents_of : F → Contents)
+    (own : List ℕ → Type 0) (stops : Status → Type 0) (r : Result Finished Status) (files : F)
+    (out : S) (files' : F) (out' : S) : Type 0 where
+  pub counts : TalliesOn counts_of faults_of r files out files' out'
+  pub names : KeepsBut own (contents_of files) (contents_of files')
+  pub only : IfErr r stops

@@ -1,13 +1,10 @@
 //! The play of a plan, and what it leaves.
-ghost use Rattle.std.specs.Prelude.{◌≡◌, ◌<◌, ◌^◌, length, map, IsTrue, IfErr};
+ghost use Rattle.std.specs.Prelude.{◌≡◌, IsTrue};
 ghost use Rattle.plan_text.specs.Plans.{IsPlan};
-ghost use Rattle.stack_rules.specs.Laws.{AllMeet};
-ghost use Rattle.world_core.specs.Calls.{AreServing, cells_of};
-ghost use Rattle.ncs_machine.specs.Host.{scripts_of, tables_of};
-ghost use Rattle.command_work.specs.Counts.{KeepsBut};
-ghost use Rattle.command_work.specs.Calls.{DoesOn, TalliesOn, IsName};
-ghost use Rattle.command_play.specs.Games.{plays_plan};
-ghost use Rattle.command_play.specs.Tellings.{StopsGame};
+ghost use Rattle.ncs_machine.specs.InSetting.{seen};
+ghost use Rattle.command_work.specs.Calls.{DoesOn, IsName};
+ghost use Rattle.command_play.specs.Games.{plays_plan_in};
+ghost use Rattle.command_play.specs.Tellings.{KeepsTo, StopsGame};
 
 use crate::remarks::Remarks;
 use crate::telling::tell_end;
@@ -20,10 +17,10 @@ use plan_text::Plan;
 use std::alloc::Global;
 
 /// Plays a plan over an area.
-#[tactic(auto, using(crate::proofs::PlayLemmas::plays_in, crate::proofs::StopLemmas::stops, command_work::specs::KeepsLemmas::keeps_all))]
+#[tactic(auto, using(crate::proofs::PlayLemmas::plays_in))]
 pub(crate) fn play_plan<F: Files, S: Sink>(
     alloc: Global,
-    setting: PlaySetting<'_>,
+    setting: &PlaySetting<'_, '_>,
     area: Area,
     plan: &Plan,
     to: &str,
@@ -31,34 +28,19 @@ pub(crate) fn play_plan<F: Files, S: Sink>(
     out: &mut S,
     remarks: &mut Remarks,
 ) -> Result<(), Status>
-    requires few { length setting.scripts.now < 2 ^ 32 }
-    requires meets { AllMeet setting.table.now
-        (scripts_of setting.scripts.now) (tables_of setting.scripts.now) }
-    requires hooks { AreServing (map (λ h. h.known) setting.hooks.now.all.items) }
     requires plan { IsPlan plan.now }
-    ensures does { IsTrue F.tells → IsTrue S.tells → DoesOn F.contents S.taken (plays_plan
-        (cells_of (map (λ h. h.known) setting.entry.hooks.now.all.items))
-        setting.entry.table.now area plan.now (scripts_of setting.entry.scripts.now) to.now)
-        files.old out.old result files.new out.new }
-    ensures counts { TalliesOn F.counts S.faults result files.old out.old files.new out.new }
-    ensures names { KeepsBut (IsName to.now) (F.contents files.old) (F.contents files.new) }
+    ensures does { IsTrue F.tells → IsTrue S.tells → DoesOn F.contents S.taken (plays_plan_in
+        (seen setting.now) area plan.now to.now) files.old out.old result files.new out.new }
+    ensures keeps { KeepsTo F.counts S.faults F.contents (IsName to.now) StopsGame result files.old
+        out.old files.new out.new }
     ensures unread { F.reads files.new ≡ F.reads files.old }
-    ensures only { IfErr result StopsGame }
 {
-    match play_lines(
-        alloc,
-        setting.table,
-        area,
-        plan,
-        setting.scripts,
-        setting.hooks,
-        out,
-    ) {
+    match play_lines(alloc, setting, area, plan, out) {
         Err(status) => Err(status),
         Ok((world, played)) => tell_end(
             alloc,
             world,
-            setting.scripts,
+            setting.code.scripts(),
             &played,
             to,
             files,

@@ -49,9 +49,9 @@ fn leave_area<F: Files, S: Sink>(
     files: &mut F,
     out: &mut S,
 ) -> Result<(), Status>
-    ensures does { IsTrue F.tells → IsTrue S.tells → DoesOn F.contents S.taken
-        (then (final_written to.now (tree_back area)) (λ done. puts text.items))
-        files.old out.old result files.new out.new }
+    ensures does { IsTrue F.tells → IsTrue S.tells → DoesOn F.contents S.taken (then
+        (final_written to.now (tree_back area)) (λ done. puts text.items)) files.old out.old result
+        files.new out.new }
     ensures counts { TalliesOn F.counts S.faults result files.old out.old files.new out.new }
     ensures names { KeepsBut (IsName to.now) (F.contents files.old) (F.contents files.new) }
     ensures unread { F.reads files.new ≡ F.reads files.old }
@@ -116,11 +116,9 @@ pub fn tell_end<F: Files, S: Sink>(
     remarks: &mut Remarks,
 ) -> Result<(), Status>
     requires told { HasText played.now.how }
-    ensures does { IsTrue F.tells → IsTrue S.tells → (p : PlayedView SavedView) →
-        IsEnding played.now p world.world →
-        Does (tells_end to.now (scripts_of scripts.now) p)
-        (F.contents files.old) (S.taken out.old)
-        result (F.contents files.new) (S.taken out.new) }
+    ensures does { IsTrue F.tells → IsTrue S.tells → (p : PlayedView SavedView) → IsEnding
+        played.now p world.world → DoesOn F.contents S.taken
+        (tells_end to.now (scripts_of scripts.now) p) files.old out.old result files.new out.new }
     ensures counts { TalliesOn F.counts S.faults result files.old out.old files.new out.new }
     ensures names { KeepsBut (IsName to.now) (F.contents files.old) (F.contents files.new) }
     ensures unread { F.reads files.new ≡ F.reads files.old }

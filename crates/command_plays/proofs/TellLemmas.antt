@@ -83,7 +83,8 @@ text_there Pause is whole = absurd (whole refl)
 text_there Fault is whole = absurd cc
 text_there NoMemory is whole = absurd cc
 
-where_told : (how : How) (fact : Type 0) → None ≡ cut_of how → WherePlayed how fact → fact
+-- what an answer tells where the play wasn't cut short holds of a whole one
+pub where_told : (how : How) (fact : Type 0) → None ≡ cut_of how → WherePlayed how fact → fact
 where_told Done fact is h = h
 where_told InstrStop fact is h = h
 where_told EntryStop fact is h = h

@@ -1,5 +1,5 @@
 -- The world of a plan: no state is stored in it, and no line is kept.
-use Rattle.std.proofs.Common.{◌≡◌, ◌<◌, ◌≤◌, ◌+◌, ◌^◌, ℕ, suc, pos, List, [], ◌∷◌, length, map, refl, sym, ap, ◌∙◌, subst, arith}
+use Rattle.std.proofs.Common.{◌≡◌, ◌≤◌, ◌+◌, suc, pos, List, [], ◌∷◌, length, map, refl, sym, ap, ◌∙◌, subst, arith}
 use Rattle.std.specs.Prelude.{Result, Ok, Err, IfOk}
 use Rattle.nwq_value.specs.Limits.{event_limit}
 use Rattle.command_work.specs.declared.status.Status.{Status}
@@ -14,9 +14,13 @@ use Rattle.stack_rules.specs.Fits.{Tables}
 use Rattle.machine_rules.specs.Machine.{Script}
 use Rattle.world_rules.specs.World.{World}
 use Rattle.world_rules.specs.Turns.{Planned, still, with_planned}
+use Rattle.ncs_machine.specs.Settings.{CodeSetting, FitIn, scripts_in, tables_in}
 use Rattle.ncs_machine.specs.Stored.{StatesFit, ThingsFit, EntryFits}
+use Rattle.module_player.specs.declared.played.Played.{Played as Answer}
 use Rattle.play_worlds.specs.Worlds.{begun_by, plan_world}
 use Rattle.ncs_machine.specs.FitLemmas.{put_fits, idle_fit}
+use Rattle.module_player.specs.Premises.{MayPlay}
+use Rattle.command_plays.specs.Plays.{KeepsPart}
 
 -- ---- what a plan's events leave as it was
 
@@ -55,28 +59,23 @@ length_begun : (area : PlainArea) (lines : List Line) → length (map (begun_by 
 length_begun area [] = refl
 length_begun area (line ∷ lines) = ap suc (length_begun area lines)
 
-module _ (area : PlainArea) (plan : Plan) (w : World Saved) (is : w ≡ plan_world area plan) where
-  pub world_fits : (scripts : List Script) (tables : Tables) → StatesFit scripts tables w
-  world_fits scripts tables = subst (StatesFit scripts tables) (sym is) (plan_fits scripts tables area plan)
-
-  pub world_quiet : w.trace ≡ []
-  world_quiet = ap (λ (v : World Saved). v.trace) is ∙ still_quiet (map (begun_by area) plan.events) (still area plan.random plan.version)
-
-  pub world_next : IsPlan plan → w.agenda.next < 2 ^ 61
-  world_next kept =
-      let next : w.agenda.next ≡ 0 + length (map (begun_by area) plan.events) =
-      ap (λ (v : World Saved). v.agenda.next) is ∙ next_number (map (begun_by area) plan.events) (still area plan.random plan.version) in
-      omega (arith, next, length_begun area plan.events, kept.few_events)
-
+module _ (area : PlainArea) (plan : Plan) (kept : IsPlan plan) (w : World Saved) (is : w ≡ plan_world area plan) where
   -- a plan begins few entries
-  world_few : IsPlan plan → w.agenda.next ≤ event_limit
-  world_few kept =
+  world_few : w.agenda.next ≤ event_limit
+  world_few =
       let next : w.agenda.next ≡ 0 + length (map (begun_by area) plan.events) =
       ap (λ (v : World Saved). v.agenda.next) is ∙ next_number (map (begun_by area) plan.events) (still area plan.random plan.version) in
       omega (arith, next, length_begun area plan.events, kept.few_events)
 
-  -- so a part of its play posts few in all
-  pub few_posted : {A : Type 0} → (next : A → ℕ) → IsPlan plan → (r : Result A Status) → IfOk r (λ answer. next answer ≤ w.agenda.next + 2 ^ 45)
-      → IfOk r (λ answer. next answer < 2 ^ 61)
-  few_posted next kept (Ok answer) posted = let few = world_few kept in omega (arith, few, posted)
-  few_posted next kept (Err status) posted = tt
+  pub may_play : (s : CodeSetting) → MayPlay s w
+  may_play s = record {
+    fit = subst (FitIn s) (sym is) (plan_fits (scripts_in s) (tables_in s) area plan);
+    quiet = ap (λ (v : World Saved). v.trace) is ∙ still_quiet (map (begun_by area) plan.events) (still area plan.random plan.version);
+    next = let few = world_few in omega (arith, few);
+  }
+
+  -- so the first part of its play posts few in all
+  pub first_keeps : {A : Type 0} → (told : A → Answer) (after : A → World Saved) (s : CodeSetting) (r : Result A Status)
+      → IfOk r (λ a. KeepsPart s w.agenda.next 0 (told a) (after a)) → IfOk r (λ a. KeepsPart s event_limit 0 (told a) (after a))
+  first_keeps told after s (Ok a) k = record { fit = k.fit; posted = let few = world_few in let p = k.posted in omega (arith, few, p); executed = k.executed }
+  first_keeps told after s (Err status) k = tt

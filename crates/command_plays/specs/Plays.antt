@@ -1,6 +1,6 @@
 -- Plays as commands make them: the play of a plan's lines, and how a command ends by the end of its
 -- play.
-use Rattle.std.specs.Prelude.{ℕ, List, min}
+use Rattle.std.specs.Prelude.{◌≤◌, ◌+◌, ◌^◌, ℕ, List, min}
 use Rattle.nwq_value.specs.Engine.{EngineTable}
 use Rattle.plan_text.specs.declared.plan.Plan.{Plan}
 use Rattle.plan_text.specs.Plans.{Limits, limits_of}
@@ -10,10 +10,12 @@ use Rattle.world_rules.specs.World.{World}
 use Rattle.machine_rules.specs.Machine.{Script, Host}
 use Rattle.world_rules.specs.Plays as plays
 use Rattle.world_rules.specs.Plays.{PlayEnd, Played}
-use Rattle.ncs_machine.specs.Host.{host, scripts_of, tables_of}
-use Rattle.ncs_machine.specs.Stored.{StatesFit}
-use Rattle.ncs_machine.specs.declared.scripts.Loaded.{Loaded}
+use Rattle.world_core.specs.Calls.{cells_of}
+use Rattle.ncs_machine.specs.Host.{host}
+use Rattle.ncs_machine.specs.Settings.{CodeSetting, FitIn, scripts_in}
 use Rattle.module_player.specs.CodePlays.{code_play, code_play_on}
+pub use Rattle.module_player.specs.CodePlays.{played_in, played_on_in}
+use Rattle.module_player.specs.declared.played.Played.{Played as Answer}
 use Rattle.command_work.specs.declared.status.Status.TheVariants.{Limit}
 use Rattle.command_work.specs.Work.{Work, Gives, Ends, Finished}
 
@@ -40,9 +42,25 @@ abbrev pub played_first : CellLookup → EngineTable → Plan → List Script �
 played_first cell header plan scripts n w = played_on cell header (limits_of plan) scripts
     (min n plan.entries) 0 0 w
 
--- the states that a world keeps fit the listed scripts
-abbrev pub FitListed : List Loaded → World Saved → Type 0
-FitListed scripts w = StatesFit (scripts_of scripts) (tables_of scripts) w
+-- ---- the same in a setting, where the cells are those that its hooks look up
+
+abbrev pub plan_played_in : CodeSetting → Plan → World Saved → Played Saved
+plan_played_in s plan w = plan_played (cells_of s.hooks) s.table plan (scripts_in s) w
+
+abbrev pub played_first_in : CodeSetting → Plan → ℕ → World Saved → Played Saved
+played_first_in s plan n w = played_first (cells_of s.hooks) s.table plan (scripts_in s) n w
+
+-- ---- what a part of a play keeps
+
+-- What a part of a play keeps, so that its world can be saved: captured states fit still, and at
+-- most so many entries were posted, and instructions executed, beyond these.
+pub record KeepsPart (s : CodeSetting) (next done : ℕ) (answer : Answer) (w : World Saved)
+    : Type 0 where
+  pub fit : FitIn s w
+  pub posted : w.agenda.next ≤ next + 2 ^ 45
+  pub executed : answer.instructions ≤ done + 2 ^ 45
+
+-- ---- how a command ends
 
 -- a play that a limit ended is told whole, and its command ends with the status of limits
 abbrev pub ends_by : PlayEnd → Work Finished

@@ -14,8 +14,7 @@ use std::alloc::Global;
 
 /// The list of one script.
 fn list_named(alloc: Global, name: Text, code: Checked) -> Result<Scripts, NoMemory>
-    ensures listed { IfOk result
-        (λ scripts. scripts ≡ record { name = name; code = code } ∷ []) }
+    ensures listed { IfOk result (λ scripts. scripts ≡ record { name = name; code = code } ∷ []) }
 {
     let loaded = Loaded::of(alloc, name, code)?;
     let mut scripts = Items::new(alloc);

@@ -1,26 +1,24 @@
 //! A part of a play, between two boundaries of entries.
-ghost use Rattle.std.specs.Prelude.{◌≡◌, ◌≤◌, ◌<◌, ◌+◌, ◌^◌, ℕ, List, [], None, length, map};
-ghost use Rattle.std.specs.Prelude.{IsTrue, IfOk, IfErr, OnOk};
-ghost use Rattle.nwq_value.specs.Limits.{entry_limit, instruction_limit, time_limit};
+ghost use Rattle.std.specs.Prelude.{◌≡◌, ◌≤◌, None, IsTrue, IfOk, IfErr};
+ghost use Rattle.nwq_value.specs.Limits.{event_limit};
 ghost use Rattle.plan_text.specs.Plans.{IsPlan};
-ghost use Rattle.stack_rules.specs.Laws.{AllMeet};
-ghost use Rattle.world_core.specs.Calls.{AreServing, cells_of};
-ghost use Rattle.ncs_machine.specs.Host.{scripts_of, tables_of};
+ghost use Rattle.ncs_machine.specs.InSetting.{seen};
 ghost use Rattle.module_player.specs.EndTexts.{IsEnding};
 ghost use Rattle.command_work.specs.Work.{CutsShort};
 ghost use Rattle.command_work.specs.Calls.{TalliesPuts};
 ghost use Rattle.play_worlds.specs.Worlds.{plan_world};
-ghost use Rattle.command_plays.specs.Plays.{FitListed, played_first, played_on};
+ghost use Rattle.module_player.specs.Premises.{MayGo, MayPlay};
+ghost use Rattle.command_plays.specs.Plays.{KeepsPart, played_first_in, played_on_in};
 ghost use Rattle.command_plays.specs.Tellings.{cut_of, TakesLines};
 
-use crate::telling::told_uncut;
+use crate::limits::limits_of;
+use crate::telling::cut_of;
 use area_tree::Area;
 use command_work::Status;
-use hook_table::Hooks;
 use module_player::{PlayLimits, Played, play_on};
-use ncs_machine::{PlaySetting, Scripts};
+use ncs_machine::PlaySetting;
 use nwq_outside::Sink;
-use nwq_value::{NoMemory, Table};
+use nwq_value::NoMemory;
 use plan_text::Plan;
 use play_worlds::world_of;
 use saved_state::Saved;
@@ -28,151 +26,67 @@ use std::alloc::Global;
 use world_core::World;
 
 /// Plays on in a world, after so many entries and instructions, until `stop` entries were taken in
-/// all. The lines are put as they come.
-fn play_some<S: Sink>(
-    alloc: Global,
-    setting: &PlaySetting<'_>,
-    world: &mut World<Saved>,
-    limits: (u64, u64, u64),
-    stop: u64,
-    taken: u64,
-    done: u64,
-    out: &mut S,
-) -> Result<Played, Status>
-    requires few { length setting.now.scripts.now < 2 ^ 32 }
-    requires meets { AllMeet setting.now.table.now (scripts_of setting.now.scripts.now)
-        (tables_of setting.now.scripts.now) }
-    requires hooks { AreServing (map (λ h. h.known) setting.now.hooks.now.all.items) }
-    requires fit { FitListed setting.now.scripts.now world.old.world }
-    requires quiet { world.old.world.trace ≡ [] }
-    requires next { world.old.world.agenda.next < 2 ^ 61 }
-    requires limit { limits.0 ≤ instruction_limit }
-    requires entries { limits.1 ≤ entry_limit }
-    requires until { limits.2 ≤ time_limit }
-    requires taken { taken < stop }
-    requires within { taken ≤ limits.1 }
-    requires done { done < 2 ^ 61 }
-    ensures told { IfOk result (λ answer. cut_of answer.how ≡ None) }
-    ensures ending { IfOk result (λ answer. IsEnding answer
-        (played_on (cells_of (map (λ h. h.known) setting.now.hooks.now.all.items))
-        setting.now.table.now limits (scripts_of setting.now.scripts.now) stop taken done
-        world.old.world) world.new.world) }
-    ensures trace { IsTrue S.tells → TakesLines S.taken
-        (played_on (cells_of (map (λ h. h.known) setting.now.hooks.now.all.items))
-        setting.now.table.now limits (scripts_of setting.now.scripts.now) stop taken done
-        world.old.world) out.old result out.new }
-    ensures counts { TalliesPuts S.faults result out.old out.new }
-    ensures fit { OnOk result (FitListed setting.now.scripts.now world.new.world) }
-    ensures posted { OnOk result
-        (world.new.world.agenda.next ≤ world.old.world.agenda.next + 2 ^ 45) }
-    ensures executed { IfOk result (λ answer. answer.instructions ≤ done + 2 ^ 45) }
-    ensures only { IfErr result CutsShort }
-{
-    let (instructions, entries, until) = limits;
-    let limits = PlayLimits {
-        instructions,
-        entries,
-        until,
-    };
-    let played = play_on(alloc, setting, world, limits, stop, taken, done, out);
-    told_uncut(played)
-}
-
-/// Plays on in a world, after so many entries and instructions, until `stop` entries were taken in
-/// all. The lines are put as they come; the answer is the last world, and how this part ended.
+/// all. The trace is put as it comes, all of it or a prefix where this part is cut short; the answer
+/// is the last world, which keeps what a saved one needs, and how this part ended.
 pub fn play_part<S: Sink>(
     alloc: Global,
-    setting: &PlaySetting<'_>,
+    setting: &PlaySetting<'_, '_>,
     world: World<Saved>,
-    limits: (u64, u64, u64),
+    limits: PlayLimits,
     stop: u64,
     taken: u64,
     done: u64,
     out: &mut S,
 ) -> Result<(World<Saved>, Played), Status>
-    requires few { length setting.now.scripts.now < 2 ^ 32 }
-    requires meets { AllMeet setting.now.table.now (scripts_of setting.now.scripts.now)
-        (tables_of setting.now.scripts.now) }
-    requires hooks { AreServing (map (λ h. h.known) setting.now.hooks.now.all.items) }
-    requires fit { FitListed setting.now.scripts.now world.world }
-    requires quiet { world.world.trace ≡ [] }
-    requires next { world.world.agenda.next < 2 ^ 61 }
-    requires limit { limits.0 ≤ instruction_limit }
-    requires entries { limits.1 ≤ entry_limit }
-    requires until { limits.2 ≤ time_limit }
-    requires taken { taken < stop }
-    requires within { taken ≤ limits.1 }
-    requires done { done < 2 ^ 61 }
+    requires world { MayPlay (seen setting.now) world.world }
+    requires goes { MayGo limits.entries stop taken done }
     ensures told { IfOk result (λ answer. cut_of answer.1.how ≡ None) }
-    ensures ending { IfOk result (λ answer. IsEnding answer.1
-        (played_on (cells_of (map (λ h. h.known) setting.now.hooks.now.all.items))
-        setting.now.table.now limits (scripts_of setting.now.scripts.now) stop taken done
-        world.world) answer.0.world) }
-    // The sink took this part's lines, or a prefix of them where it was cut short.
-    ensures trace { IsTrue S.tells → TakesLines S.taken
-        (played_on (cells_of (map (λ h. h.known) setting.now.hooks.now.all.items))
-        setting.now.table.now limits (scripts_of setting.now.scripts.now) stop taken done
-        world.world) out.old result out.new }
+    ensures ending { IfOk result (λ answer. IsEnding answer.1 (played_on_in (seen setting.now)
+        limits stop taken done world.world) answer.0.world) }
+    ensures trace { IsTrue S.tells → TakesLines S.taken (played_on_in (seen setting.now) limits stop
+        taken done world.world) out.old result out.new }
     ensures counts { TalliesPuts S.faults result out.old out.new }
-    // What the world keeps, so that it can be saved: how much at most was posted, and executed.
-    ensures fit { IfOk result (λ answer. FitListed setting.now.scripts.now answer.0.world) }
-    ensures posted { IfOk result (λ answer.
-        answer.0.world.agenda.next ≤ world.world.agenda.next + 2 ^ 45) }
-    ensures executed { IfOk result (λ answer. answer.1.instructions ≤ done + 2 ^ 45) }
+    ensures kept { IfOk result (λ answer. KeepsPart (seen setting.now) world.world.agenda.next done
+        answer.1 answer.0.world) }
     ensures only { IfErr result CutsShort }
 {
     let mut world = world;
-    match play_some(alloc, setting, &mut world, limits, stop, taken, done, out) {
-        Err(status) => {
+    let played = play_on(alloc, setting, &mut world, limits, stop, taken, done, out);
+    match cut_of(played.how) {
+        Some(status) => {
             drop(world);
             Err(status)
         }
-        Ok(played) => Ok((world, played)),
+        None => Ok((world, played)),
     }
 }
 
-/// Plays so many entries of a plan over an area, or as many as it may take. The lines are put as
-/// they come; the answer is the last world, and how this part ended.
-#[tactic(auto, using(crate::proofs::LineLemmas::plays_out, crate::proofs::LineLemmas::no_lines))]
+/// Plays so many entries of a plan over an area, or as many as it may take.
+#[tactic(auto, using(crate::proofs::LineLemmas::lines))]
 pub fn play_first<S: Sink>(
     alloc: Global,
-    table: &Table,
+    setting: &PlaySetting<'_, '_>,
     area: Area,
     plan: &Plan,
-    scripts: &Scripts,
-    hooks: &Hooks,
     entries: u64,
     out: &mut S,
 ) -> Result<(World<Saved>, Played), Status>
-    requires few { length scripts.now < 2 ^ 32 }
-    requires meets { AllMeet table.now (scripts_of scripts.now) (tables_of scripts.now) }
-    requires hooks { AreServing (map (λ h. h.known) hooks.now.all.items) }
     requires plan { IsPlan plan.now }
     requires some { 1 ≤ entries }
     ensures told { IfOk result (λ answer. cut_of answer.1.how ≡ None) }
-    ensures ending { IfOk result (λ answer. IsEnding answer.1 (played_first
-        (cells_of (map (λ h. h.known) hooks.now.all.items)) table.now plan.now
-        (scripts_of scripts.now) entries (plan_world area plan.now)) answer.0.world) }
-    // The sink took this part's lines, or a prefix of them where it was cut short.
-    ensures trace { IsTrue S.tells → TakesLines S.taken (played_first
-        (cells_of (map (λ h. h.known) hooks.now.all.items)) table.now plan.now
-        (scripts_of scripts.now) entries (plan_world area plan.now)) out.old result out.new }
+    ensures ending { IfOk result (λ answer. IsEnding answer.1 (played_first_in (seen setting.now)
+        plan.now entries (plan_world area plan.now)) answer.0.world) }
+    ensures trace { IsTrue S.tells → TakesLines S.taken (played_first_in (seen setting.now) plan.now
+        entries (plan_world area plan.now)) out.old result out.new }
     ensures counts { TalliesPuts S.faults result out.old out.new }
-    // What the world keeps, so that it can be saved.
-    ensures fit { IfOk result (λ answer. FitListed scripts.now answer.0.world) }
-    ensures next { IfOk result (λ answer. answer.0.world.agenda.next < 2 ^ 61) }
-    ensures executed { IfOk result (λ answer. answer.1.instructions < 2 ^ 61) }
+    ensures kept { IfOk result (λ answer. KeepsPart (seen setting.now) event_limit 0 answer.1
+        answer.0.world) }
     ensures only { IfErr result CutsShort }
 {
-    let limits = (plan.limit, plan.entries, plan.until);
+    let limits = limits_of(plan);
     let stop = entries.min(plan.entries);
-    let setting = PlaySetting {
-        scripts,
-        table,
-        hooks,
-    };
     match world_of(alloc, area, plan) {
         Err(NoMemory) => Err(Status::Memory),
-        Ok(world) => play_part(alloc, &setting, world, limits, stop, 0, 0, out),
+        Ok(world) => play_part(alloc, setting, world, limits, stop, 0, 0, out),
     }
 }

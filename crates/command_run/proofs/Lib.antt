@@ -1,6 +1,5 @@
 mod OneRun
 mod RunLemmas
-mod Steps
 mod StopLemmas
 mod PlayLemmas
 mod TellLemmas

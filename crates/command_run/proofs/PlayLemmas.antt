@@ -16,7 +16,7 @@ use Rattle.command_work.specs.Parts.{cut_here}
 use Rattle.play_worlds.specs.Worlds.{first_world}
 use Rattle.command_plays.specs.Scripts.{listed, run_played, tells, plays_code}
 use Rattle.command_run.specs.Tellings.{StopsPlay}
-use Rattle.command_run.proofs.WorldLemmas.{first_fits, first_quiet, first_next}
+use Rattle.command_run.proofs.WorldLemmas.{may_start}
 
 module _ (cell : CellLookup) (header : EngineTable) (name : List ℕ) (ops : List PlainOp) (c : Contents) where
   pub code_cut : (t : List ℕ) → Does (plays_code cell header name ops) c t (Err Memory) c t
@@ -30,7 +30,7 @@ module _ (cell : CellLookup) (header : EngineTable) (name : List ℕ) (ops : Lis
       subst (λ v. Does (tells (listed name ops) (run_played cell header (listed name ops) v)) c t r c t') first
       (subst (λ s. Does (tells s (run_played cell header s w)) c t r c t') is does)
 
-pub ruleset starts = (first_fits, first_quiet, first_next, code_does, code_cut)
+pub ruleset starts = (may_start, code_does, code_cut)
 
 -- ---- what stops a play
 

@@ -33,6 +33,10 @@ pub limit_counts : (r : Result Finished Status) (before now : Counts) → IfErr 
 limit_counts (Ok done) before now only same = same
 limit_counts (Err s) before now only same = subst (λ x. TalliesEnd x before now) (sym only) same
 
+-- the counts of a part that was done go on to those of the next
+pub counted_on : (r : Result Finished Status) (before between after : Counts) → between ≡ before → Tallies r between after → Tallies r before after
+counted_on r before between after same tallies = subst (λ x. Tallies r x after) same tallies
+
 pub ruleset ends = (limit_counts, end_whole, end_cut, limit_refuses, cut_refuses)
 
 -- ---- the trace, and what follows

@@ -1,33 +1,32 @@
 //! The play of a compiled file.
-ghost use Rattle.std.specs.Prelude.{◌≡◌, ◌≤◌, ◌<◌, ◌^◌, ℕ, List, [], length, map, IsTrue, IfErr};
+ghost use Rattle.std.specs.Prelude.{◌≡◌, ◌≤◌, List, length, IsTrue, IfErr};
 ghost use Rattle.nwq_value.specs.Limits.{file_limit};
 ghost use Rattle.ncs_code.specs.Plain.{PlainOp};
+ghost use Rattle.hook_table.specs.InHooks.{known_by};
 ghost use Rattle.stack_rules.specs.Rules.{MeetsRules};
-ghost use Rattle.stack_rules.specs.Laws.{AllMeet};
 ghost use Rattle.stack_check.specs.Checked.{kept_table};
 ghost use Rattle.world_core.specs.Calls.{AreServing, cells_of};
-ghost use Rattle.ncs_machine.specs.Host.{scripts_of, tables_of};
-ghost use Rattle.ncs_machine.specs.Stored.{StatesFit};
+ghost use Rattle.ncs_machine.specs.InSetting.{seen};
+ghost use Rattle.ncs_machine.specs.Settings.{scripts_in};
+ghost use Rattle.module_player.specs.Limits.{limits_in};
 ghost use Rattle.command_work.specs.Counts.{Refusing};
 ghost use Rattle.command_work.specs.Calls.{TalliesPuts, DoesPuts};
 ghost use Rattle.command_files.specs.Checks.{IsStackedFile};
-ghost use Rattle.command_plays.specs.Scripts.{listed, run_played, tells, plays_code, plays_file};
-ghost use Rattle.command_run.specs.Tellings.{StopsPlay};
+ghost use Rattle.command_plays.specs.Scripts.{listed, plays_code, plays_file};
+ghost use Rattle.command_run.specs.Tellings.{default_limits, StopsPlay};
 
 use crate::telling::tell_end;
 use command_files::load_checked;
-use command_plays::{list_one, told_whole};
+use command_plays::{list_one, play_world};
 use command_work::Status;
 use hook_table::Hooks;
-use module_player::{PlayLimits, play};
-use ncs_machine::{PlaySetting, Scripts};
+use module_player::PlayLimits;
+use ncs_machine::PlaySetting;
 use nwq_outside::Sink;
 use nwq_value::{NoMemory, Table};
 use play_worlds::first_world;
-use saved_state::Saved;
 use stack_check::Checked;
 use std::alloc::Global;
-use world_core::World;
 
 /// The instructions that an entry may take.
 const INSTRUCTIONS: u64 = 131_072;
@@ -38,72 +37,37 @@ const ENTRIES: u64 = 10_000;
 /// The milliseconds after which no entry is taken.
 const UNTIL: u64 = 60_000;
 
-/// Plays listed scripts in a world, and tells the play.
-#[tactic(auto, using(crate::proofs::TellLemmas::cut_refuses))]
-fn play_world<S: Sink>(
-    alloc: Global,
-    table: &Table,
-    scripts: &Scripts,
-    world: World<Saved>,
-    hooks: &Hooks,
-    out: &mut S,
-) -> Result<(), Status>
-    requires few { length scripts.now < 2 ^ 32 }
-    requires meets { AllMeet table.now (scripts_of scripts.now) (tables_of scripts.now) }
-    requires hooks { AreServing (map (λ h. h.known) hooks.now.all.items) }
-    requires fit { StatesFit (scripts_of scripts.now) (tables_of scripts.now) world.world }
-    requires quiet { world.world.trace ≡ [] }
-    requires next { world.world.agenda.next < 2 ^ 61 }
-    ensures does { IsTrue S.tells → DoesPuts S.taken (tells (scripts_of scripts.now) (run_played
-        (cells_of (map (λ h. h.known) hooks.now.all.items)) table.now (scripts_of scripts.now)
-        world.world)) out.old result out.new }
-    ensures counts { TalliesPuts S.faults result out.old out.new }
-    ensures only { IfErr result (Refusing Status.Limit) }
+/// How far a play may go where nothing is set.
+fn limits() -> PlayLimits
+    ensures default { limits_in result ≡ default_limits }
 {
-    let mut world = world;
-    let setting = PlaySetting {
-        scripts,
-        table,
-        hooks,
-    };
-    let limits = PlayLimits {
+    PlayLimits {
         instructions: INSTRUCTIONS,
         entries: ENTRIES,
         until: UNTIL,
-    };
-    let played = play(alloc, &setting, &mut world, limits, out);
-    match told_whole(played) {
-        Err(status) => {
-            drop(world);
-            Err(status)
-        }
-        Ok(played) => tell_end(alloc, world, scripts, &played, out),
     }
 }
 
-/// Plays the one listed script from a start of it.
-#[tactic(auto, using(crate::proofs::PlayLemmas::starts))]
+/// Plays the one listed script from a start of it, and tells the play.
+#[tactic(auto, using(crate::proofs::PlayLemmas::starts, crate::proofs::TellLemmas::cut_refuses))]
 fn play_listed<S: Sink>(
     alloc: Global,
-    table: &Table,
+    setting: &PlaySetting<'_, '_>,
     name: &[u8],
-    scripts: &Scripts,
-    hooks: &Hooks,
     out: &mut S,
 ) -> Result<(), Status>
-    requires few { length scripts.now < 2 ^ 32 }
-    requires meets { AllMeet table.now (scripts_of scripts.now) (tables_of scripts.now) }
-    requires hooks { AreServing (map (λ h. h.known) hooks.now.all.items) }
-    ensures does { IsTrue S.tells → (ops : List PlainOp) → scripts_of scripts.now ≡ listed name.now
-        ops → DoesPuts S.taken
-        (plays_code (cells_of (map (λ h. h.known) hooks.now.all.items)) table.now name.now ops)
-        out.old result out.new }
+    ensures does { IsTrue S.tells → (ops : List PlainOp) → scripts_in (seen setting.now) ≡ listed
+        name.now ops → DoesPuts S.taken (plays_code (cells_of (seen setting.now).hooks)
+        setting.now.code.table name.now ops) out.old result out.new }
     ensures counts { TalliesPuts S.faults result out.old out.new }
     ensures only { IfErr result (Refusing Status.Limit) }
 {
     match first_world(alloc, name) {
         Err(NoMemory) => Err(Status::Memory),
-        Ok(world) => play_world(alloc, table, scripts, world, hooks, out),
+        Ok(world) => match play_world(alloc, setting, world, limits(), out) {
+            Err(status) => Err(status),
+            Ok((world, played)) => tell_end(alloc, world, setting.code.scripts(), &played, out),
+        },
     }
 }
 
@@ -118,21 +82,23 @@ fn play_code<S: Sink>(
     out: &mut S,
 ) -> Result<(), Status>
     requires meets { MeetsRules table.now code.code (kept_table code) }
-    requires hooks { AreServing (map (λ h. h.known) hooks.now.all.items) }
-    ensures does { IsTrue S.tells → DoesPuts S.taken (plays_code
-        (cells_of (map (λ h. h.known) hooks.now.all.items)) table.now name.now code.code)
-        out.old result out.new }
+    requires hooks { AreServing (known_by hooks.now) }
+    ensures does { IsTrue S.tells → DoesPuts S.taken (plays_code (cells_of (known_by hooks.now))
+        table.now name.now code.code) out.old result out.new }
     ensures counts { TalliesPuts S.faults result out.old out.new }
     ensures only { IfErr result (Refusing Status.Limit) }
 {
     match list_one(alloc, name, code) {
         Err(NoMemory) => Err(Status::Memory),
-        Ok(scripts) => play_listed(alloc, table, name, &scripts, hooks, out),
+        Ok(scripts) => {
+            let setting = PlaySetting::of(&scripts, table, hooks);
+            play_listed(alloc, &setting, name, out)
+        }
     }
 }
 
 /// Loads the bytes of the file of a compiled script, checks its code and plays it.
-#[tactic(auto, using(crate::proofs::Steps::steps, crate::proofs::PlayLemmas::stops), unfolding(command_plays::specs::Scripts::plays_file))]
+#[tactic(auto, using(crate::proofs::PlayLemmas::stops))]
 pub fn play_file<S: Sink>(
     alloc: Global,
     table: &Table,
@@ -143,10 +109,9 @@ pub fn play_file<S: Sink>(
     out: &mut S,
 ) -> Result<(), Status>
     requires small { length bytes.items ≤ file_limit }
-    requires hooks { AreServing (map (λ h. h.known) hooks.now.all.items) }
-    ensures does { IsTrue S.tells → DoesPuts S.taken (plays_file
-        (cells_of (map (λ h. h.known) hooks.now.all.items)) table.now name.now file.now bytes.items)
-        out.old result out.new }
+    requires hooks { AreServing (known_by hooks.now) }
+    ensures does { IsTrue S.tells → DoesPuts S.taken (plays_file (cells_of (known_by hooks.now))
+        table.now name.now file.now bytes.items) out.old result out.new }
     ensures counts { TalliesPuts S.faults result out.old out.new }
     ensures only { IfErr result StopsPlay }
     // A file of well stacked instructions is never refused.

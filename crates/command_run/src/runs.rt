@@ -1,5 +1,6 @@
-ghost use Rattle.std.specs.Prelude.{◌≡◌, ◌≤◌, ℕ, length, map, IsTrue, IfErr, OnOk};
+ghost use Rattle.std.specs.Prelude.{◌≡◌, ◌≤◌, ℕ, length, IsTrue, IfErr, OnOk};
 ghost use Rattle.nwq_value.specs.Limits.{file_limit};
+ghost use Rattle.hook_table.specs.InHooks.{known_by};
 ghost use Rattle.world_core.specs.Calls.{AreServing, cells_of};
 ghost use Rattle.command_work.specs.Counts.{Refusing};
 ghost use Rattle.command_work.specs.Calls.{DoesOn, TalliesOn, TalliesPuts, DoesPuts};
@@ -7,7 +8,7 @@ ghost use Rattle.command_sources.specs.Reads.{ReadsUnit, header_read};
 ghost use Rattle.command_files.specs.Checks.{IsStackedFile};
 ghost use Rattle.command_compile.specs.Files.{code_name};
 ghost use Rattle.command_plays.specs.Scripts.{plays_file};
-ghost use Rattle.command_run.specs.Runs.{runs_under, runs, StopsRun};
+ghost use Rattle.command_run.specs.Runs.{runs, StopsRun};
 
 use crate::play::play_file;
 use command_compile::{code_name, read_compiled};
@@ -30,10 +31,9 @@ fn play_compiled<S: Sink>(
 ) -> Result<(), Status>
     requires small { length bytes ≤ file_limit }
     requires stacked { IsStackedFile table.now bytes }
-    requires hooks { AreServing (map (λ h. h.known) hooks.now.all.items) }
-    ensures does { IsTrue S.tells → DoesPuts S.taken (plays_file
-        (cells_of (map (λ h. h.known) hooks.now.all.items)) table.now script.now
-        (code_name script.now) bytes) out.old result out.new }
+    requires hooks { AreServing (known_by hooks.now) }
+    ensures does { IsTrue S.tells → DoesPuts S.taken (plays_file (cells_of (known_by hooks.now))
+        table.now script.now (code_name script.now) bytes) out.old result out.new }
     ensures counts { TalliesPuts S.faults result out.old out.new }
     ensures only { IfErr result (Refusing Status.Limit) }
 {
@@ -51,34 +51,8 @@ fn play_compiled<S: Sink>(
     }
 }
 
-/// Plays one start entry of the script of this name under a header.
-#[tactic(auto, using(crate::proofs::Steps::steps, crate::proofs::StopLemmas::runs_stop), unfolding(crate::specs::Runs::runs_under))]
-fn run_under<F: Files, S: Sink>(
-    alloc: Global,
-    table: &Table,
-    script: &str,
-    files: &mut F,
-    out: &mut S,
-    hooks: &Hooks,
-) -> Result<(), Status>
-    requires hooks { AreServing (map (λ h. h.known) hooks.now.all.items) }
-    ensures does { IsTrue F.tells → IsTrue S.tells → DoesOn F.contents S.taken
-        (runs_under (cells_of (map (λ h. h.known) hooks.now.all.items)) script.now table.now)
-        files.old out.old result files.new out.new }
-    ensures counts { TalliesOn F.counts S.faults result files.old out.old files.new out.new }
-    ensures same { F.contents files.new ≡ F.contents files.old }
-    ensures once { IsTrue F.tells → OnOk result (ReadsUnit (F.contents files.old) script.now
-        (F.reads files.old) (F.reads files.new)) }
-    ensures only { IfErr result StopsRun }
-{
-    match read_compiled(alloc, table, script, files, out) {
-        Err(status) => Err(status),
-        Ok(bytes) => play_compiled(alloc, table, script, bytes, hooks, out),
-    }
-}
-
 /// Plays one start entry of the script of this name, under the header that a word names.
-#[tactic(auto, using(crate::proofs::Steps::steps, crate::proofs::StopLemmas::runs_stop), unfolding(crate::specs::Runs::runs))]
+#[tactic(auto, using(crate::proofs::StopLemmas::runs_stop))]
 pub fn run<F: Files, S: Sink>(
     alloc: Global,
     header: &str,
@@ -87,10 +61,9 @@ pub fn run<F: Files, S: Sink>(
     out: &mut S,
     hooks: &Hooks,
 ) -> Result<(), Status>
-    requires hooks { AreServing (map (λ h. h.known) hooks.now.all.items) }
-    ensures does { IsTrue F.tells → IsTrue S.tells → DoesOn F.contents S.taken
-        (runs (cells_of (map (λ h. h.known) hooks.now.all.items)) header.now script.now)
-        files.old out.old result files.new out.new }
+    requires hooks { AreServing (known_by hooks.now) }
+    ensures does { IsTrue F.tells → IsTrue S.tells → DoesOn F.contents S.taken (runs (cells_of
+        (known_by hooks.now)) header.now script.now) files.old out.old result files.new out.new }
     ensures counts { TalliesOn F.counts S.faults result files.old out.old files.new out.new }
     ensures same { F.contents files.new ≡ F.contents files.old }
     // The header is read, unless it is the built-in one, and each file of the script's unit, once.
@@ -100,6 +73,12 @@ pub fn run<F: Files, S: Sink>(
 {
     match read_table(alloc, header, files, out) {
         Err(status) => Err(status),
-        Ok(table) => run_under(alloc, &table, script, files, out, hooks),
+        Ok(table) => match read_compiled(alloc, &table, script, files, out) {
+            Err(status) => {
+                drop(table);
+                Err(status)
+            }
+            Ok(bytes) => play_compiled(alloc, &table, script, bytes, hooks, out),
+        },
     }
 }

@@ -1,12 +1,10 @@
 //! The text at the end of a play, and the status that comes of it.
-ghost use Rattle.std.specs.Prelude.{◌≡◌, ℕ, IsTrue, IfOk, IfErr};
+ghost use Rattle.std.specs.Prelude.{◌≡◌, IsTrue, IfOk, IfErr};
 ghost use Rattle.saved_state.specs.declared.saved.Saved.{Saved as SavedView};
 ghost use Rattle.world_rules.specs.Plays.{Played as PlayedView};
 ghost use Rattle.ncs_machine.specs.Host.{scripts_of};
 ghost use Rattle.module_player.specs.CodePlays.{code_end_text};
 ghost use Rattle.module_player.specs.EndTexts.{HasText, IsEnding};
-ghost use Rattle.command_work.specs.Work.{CutsShort};
-ghost use Rattle.command_work.specs.Parts.{PutsWhole};
 ghost use Rattle.command_work.specs.Counts.{Refusing};
 ghost use Rattle.command_work.specs.Calls.{TalliesPuts, DoesPuts};
 ghost use Rattle.command_plays.specs.Scripts.{tells_end};
@@ -42,24 +40,6 @@ fn text_of(
     }
 }
 
-/// Puts the text at the end of a play.
-fn put_end<S: Sink>(
-    alloc: Global,
-    world: World<Saved>,
-    scripts: &Scripts,
-    played: &Played,
-    out: &mut S,
-) -> Result<(), Status>
-    requires told { HasText played.now.how }
-    ensures puts { IsTrue S.tells → (p : PlayedView SavedView) → IsEnding played.now p world.world →
-        PutsWhole (code_end_text (scripts_of scripts.now) p)
-        (S.taken out.old) result (S.taken out.new) }
-    ensures counts { TalliesPuts S.faults result out.old out.new }
-    ensures only { IfErr result CutsShort }
-{
-    put(text_of(alloc, world, scripts, played), out)
-}
-
 /// Puts the text at the end of a play, and ends as the play did.
 #[tactic(auto, using(crate::proofs::TellLemmas::ends))]
 pub(crate) fn tell_end<S: Sink>(
@@ -75,7 +55,7 @@ pub(crate) fn tell_end<S: Sink>(
     ensures counts { TalliesPuts S.faults result out.old out.new }
     ensures only { IfErr result (Refusing Status.Limit) }
 {
-    match put_end(alloc, world, scripts, played, out) {
+    match put(text_of(alloc, world, scripts, played), out) {
         Err(status) => Err(status),
         Ok(()) => ending_of(played.how),
     }

@@ -1,6 +1,6 @@
 -- The state after more entries is the state of the play that goes on from the one before.
-use Rattle.std.proofs.Common.{arith, ◌≡◌, ◌≢◌, ◌≤◌, ◌+◌, ◌-◌, ℕ, List, [], Option, refl, ap, sym, subst, ◌∙◌}
-use Rattle.std.specs.Prelude.{pos, min, ◌↔◌}
+use Rattle.std.proofs.Common.{arith, ◌≡◌, ◌≢◌, ◌≤◌, ◌+◌, ◌-◌, ℕ, List, [], ap, sym, subst, ◌∙◌}
+use Rattle.std.specs.Prelude.{min}
 use Rattle.nwq_value.specs.Engine.{EngineTable}
 use Rattle.plan_text.specs.declared.plan.Plan.{Plan}
 use Rattle.saved_state.specs.declared.saved.Saved.{Saved}
@@ -8,7 +8,7 @@ use Rattle.world_rules.specs.Pure.{CellLookup}
 use Rattle.world_rules.specs.World.{World}
 use Rattle.world_rules.specs.Plays as plays
 use Rattle.world_rules.specs.Plays.{Bounds, Runner, Progress, Played, plays as plays_from, unplayed}
-use Rattle.machine_rules.specs.Machine.{Script, Host}
+use Rattle.machine_rules.specs.Machine.{Script}
 use Rattle.module_player.specs.CodePlays.{code_runner, code_play_on}
 use Rattle.state_format.specs.Fields.{parts_bytes}
 use Rattle.state_format.specs.declared.parts.Parts.{Parts}

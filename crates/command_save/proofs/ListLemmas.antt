@@ -63,7 +63,8 @@ may_list header plan lines scripts headed kept same count names meets stand =
       stand = stand;
     }
 
-pub few_listed : (plan : Plan) (kept : IsPlan plan) (n : ℕ) → n ≡ length plan.scripts → n < 2 ^ 32
-few_listed plan kept n is = omega (arith, is, kept.few_scripts)
-
-pub ruleset keeps = (few_listed)
+pub few_listed : (plan : Plan) (kept : IsPlan plan) (lines : List ScriptLine) (scripts : List Loaded) → lines ≡ plan.scripts → length scripts ≡ length lines
+    → length scripts < 2 ^ 32
+few_listed plan kept lines scripts same count =
+    let few : length lines ≤ script_limit = subst (λ (l : List ScriptLine). length l ≤ script_limit) (sym same) kept.few_scripts in
+    omega (arith, few, count)

@@ -1,6 +1,7 @@
 -- The first part of a play ends in a world that can be saved.
-use Rattle.std.proofs.Common.{arith, ◌≡◌, ◌≢◌, ◌<◌, ◌≤◌, ◌^◌, ◌+◌, ℕ, inl, inr, List, ◌++◌, min, Result, Err, sym, ◌∙◌, subst}
+use Rattle.std.proofs.Common.{arith, ◌≡◌, ◌≢◌, ◌<◌, ◌≤◌, ◌+◌, ◌^◌, ℕ, inl, inr, List, ◌++◌, min, Result, Err, sym, ◌∙◌, subst}
 use Rattle.nwq_value.specs.Engine.{EngineTable}
+use Rattle.nwq_value.specs.Limits.{event_limit}
 use Rattle.nwq_outside.specs.Outside.{Contents, TookPrefix}
 use Rattle.gff_tree.specs.Whole.{PlainGff}
 use Rattle.area_rules.specs.Area.{PlainArea}
@@ -17,6 +18,7 @@ use Rattle.machine_rules.specs.Machine.{Script}
 use Rattle.world_core.specs.Calls.{cells_of}
 use Rattle.ncs_machine.specs.declared.scripts.Loaded.{Loaded}
 use Rattle.ncs_machine.specs.Host.{scripts_of, tables_of}
+use Rattle.ncs_machine.specs.Settings.{CodeSetting, checked_listing, code_setting, scripts_in}
 use Rattle.ncs_machine.specs.Stored.{StatesFit}
 use Rattle.module_player.specs.Answers.{EndsAs}
 use Rattle.module_player.specs.EndTexts.{IsEnding}
@@ -35,6 +37,11 @@ use Rattle.command_save.specs.declared.inputs.HeaderFile.{HeaderFile}
 use Rattle.command_save.specs.declared.inputs.AreaFile.{AreaFile}
 use Rattle.command_save.specs.Saves.{saves_by, saves_plan}
 use Rattle.command_save.specs.Tellings.{MaySave, WhereBroken}
+
+-- the play in the setting that is made
+pub first_in : (s : CodeSetting) (scripts : List Loaded) (table : EngineTable) (hooks : List Known) → s ≡ code_setting (checked_listing scripts table) hooks → (plan : Plan) (n : ℕ) (w : World Saved)
+    (P : Played Saved → Type 0) → P (played_first (cells_of s.hooks) s.table plan (scripts_in s) n w) → P (played_first (cells_of hooks) table plan (scripts_of scripts) n w)
+first_in s scripts table hooks same plan n w P h = subst (λ (t : CodeSetting). P (played_first (cells_of t.hooks) t.table plan (scripts_in t) n w)) same h
 
 where_broken : (how : How) (fact : Type 0) (ending : PlayEnd) → EndsAs how ending → (ending ≢ plays.StoppedInside → fact) → WhereBroken how fact
 where_broken Done fact ending is so = so (λ e. absurd (let a = is in let b = e in cc))
@@ -75,10 +82,11 @@ module _ (rest : PlaysCanRest) (fresh : PlanWorldsAreFresh) (scripts : List Load
         come = record { entries = subst (λ (k : ℕ). k ≤ plan.entries) (sym ends.entries) there.entries; clock = there.clock; instructions = executed };
       }
 
-  pub may_save : IsEnding answer first w → StatesFit (scripts_of scripts) (tables_of scripts) w → w.agenda.next < 2 ^ 61 → answer.instructions < 2 ^ 61
-      → WhereBroken answer.how (MaySave scripts file (limits_of plan) w answer)
-  may_save ends fit next executed =
-      where_broken answer.how (MaySave scripts file (limits_of plan) w answer) first.ending ends.ending (λ broken. saved_of ends fit next executed (can_rest broken))
+  pub may_save : IsEnding answer first w → StatesFit (scripts_of scripts) (tables_of scripts) w → w.agenda.next ≤ event_limit + 2 ^ 45
+      → answer.instructions ≤ 2 ^ 45 → WhereBroken answer.how (MaySave scripts file (limits_of plan) w answer)
+  may_save ends fit posted executed =
+      where_broken answer.how (MaySave scripts file (limits_of plan) w answer) first.ending ends.ending
+      (λ broken. saved_of ends fit (let p = posted in omega (arith, p)) (let e = executed in omega (arith, e)) (can_rest broken))
 
 -- ---- the work
 

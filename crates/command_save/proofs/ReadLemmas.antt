@@ -1,6 +1,6 @@
 -- What a play that is saved found of its header and its area, a play finds too.
 use Rattle.std.proofs.Common.{◌≡◌, ℕ, Bool, true, false, inl, inr, List, Some, Ok, refl, ap, sym, subst, ◌∙◌}
-use Rattle.std.specs.Prelude.{codes, bytes_eq, cond}
+use Rattle.std.specs.Prelude.{codes, bytes_eq}
 use Rattle.nwq_value.specs.Engine.{EngineTable}
 use Rattle.nwq_value.specs.HeaderTable.{header_table}
 use Rattle.nwq_text.specs.Line.{line_number}

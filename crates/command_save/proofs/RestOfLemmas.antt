@@ -5,18 +5,22 @@ use Rattle.nwq_outside.specs.Outside.{Contents, TookPrefix}
 use Rattle.ncs_code.specs.File.{IsCode}
 use Rattle.saved_state.specs.declared.saved.Saved.{Saved}
 use Rattle.stack_rules.specs.Laws.{AllMeet}
+use Rattle.hook_table.specs.declared.hook.Known.{Known}
 use Rattle.world_rules.specs.World.{World}
 use Rattle.world_rules.specs.Pure.{CellLookup}
 use Rattle.world_rules.specs.Trace.{trace_text}
 use Rattle.world_rules.specs.Plays as plays
 use Rattle.world_rules.specs.Plays.{PlayEnd, Played}
 use Rattle.machine_rules.specs.Machine.{Script}
+use Rattle.world_core.specs.Calls.{cells_of}
 use Rattle.ncs_machine.specs.declared.scripts.Loaded.{Loaded}
 use Rattle.ncs_machine.specs.Host.{scripts_of, tables_of}
+use Rattle.ncs_machine.specs.Settings.{CodeSetting, checked_listing, code_setting}
 use Rattle.ncs_machine.specs.Stored.{StatesFit}
 use Rattle.module_player.specs.Answers.{EndsAs}
 use Rattle.module_player.specs.CodePlays.{code_runner, played_before}
 use Rattle.module_player.specs.EndTexts.{HasText}
+use Rattle.module_player.specs.Limits.{limits_in}
 use Rattle.module_player.specs.declared.played.How.{How}
 use Rattle.module_player.specs.declared.played.How.TheVariants.{Done, InstrStop, EntryStop, Pause, Fault, NoMemory}
 use Rattle.state_format.specs.declared.parts.Parts.{Parts}
@@ -29,13 +33,20 @@ use Rattle.command_work.specs.declared.status.Status.{Status}
 use Rattle.command_work.specs.declared.status.Status.TheVariants.{Memory}
 use Rattle.command_work.specs.Work.{Does, CutsShort, Finished}
 use Rattle.command_work.specs.Parts.{cut_here, finds_one}
-use Rattle.command_plays.specs.Plays.{host_of, played_on}
+use Rattle.command_plays.specs.Plays.{host_of, played_on, played_on_in}
 use Rattle.command_plays.specs.Tellings.{cut_of}
 use Rattle.command_play.specs.Games.{tells_end, tells}
 use Rattle.command_save.specs.Resumes.{Going, GoesFrom, played_rest, resumes_from, resumes_state}
 use Rattle.command_save.specs.Tellings.{MayGoOn, rest_of}
 use Rattle.command_save.proofs.GoingLemmas.{on_ends}
 use Rattle.command_save.proofs.StateLemmas.{parts_are, are_spelled}
+
+-- ---- the play in the setting that is made of what is opened
+
+pub rest_in : (s : CodeSetting) (o : Opened) (hooks : List Known) → s ≡ code_setting (checked_listing o.scripts o.table) hooks → (P : Played Saved → Type 0)
+    → P (played_on_in s o.limits (o.limits.entries + 1) o.taken o.done o.world.world) → P (rest_of (cells_of hooks) o)
+rest_in s o hooks same P h =
+    subst (λ (t : CodeSetting). P (played_on_in t o.limits (o.limits.entries + 1) o.taken o.done o.world.world)) same h
 
 -- ---- the end is told
 
@@ -47,12 +58,13 @@ text_told Pause ending told is ends = absurd (ends is)
 text_told Fault ending told is ends = absurd cc
 text_told NoMemory ending told is ends = absurd cc
 
-rest_ends : (cell : CellLookup) (o : Opened) → o.taken ≤ o.limits.1 → (rest_of cell o).ending ≢ plays.Paused
+rest_ends : (cell : CellLookup) (o : Opened) → o.taken ≤ o.limits.entries → (rest_of cell o).ending ≢ plays.Paused
 rest_ends cell o within =
-    on_ends (code_runner (host_of cell o.table (scripts_of o.scripts)) o.limits.0) (record { entries = o.limits.1; until = o.limits.2; stop = o.limits.1 + 1 })
+    on_ends (code_runner (host_of cell o.table (scripts_of o.scripts)) o.limits.instructions)
+    (record { entries = o.limits.entries; until = o.limits.until; stop = o.limits.entries + 1 })
     (played_before o.taken o.done o.world.world) within
 
-pub has_text : (cell : CellLookup) (o : Opened) (how : How) → o.taken ≤ o.limits.1 → cut_of how ≡ None → EndsAs how (rest_of cell o).ending → HasText how
+pub has_text : (cell : CellLookup) (o : Opened) (how : How) → o.taken ≤ o.limits.entries → cut_of how ≡ None → EndsAs how (rest_of cell o).ending → HasText how
 has_text cell o how within told ends = text_told how (rest_of cell o).ending told ends (rest_ends cell o within)
 
 -- ---- the work of what is told
@@ -69,7 +81,7 @@ pub ruleset rests = (told_cut, told_whole)
 
 -- ---- what a state opens
 
-pub may_go_on : (s : Parts) (o : Opened) → IsAccepted s → IsPlayOf s s.header (script_parts o.scripts) s.area o.limits → HasCome s o.taken o.done
+pub may_go_on : (s : Parts) (o : Opened) → IsAccepted s → IsPlayOf s s.header (script_parts o.scripts) s.area (limits_in o.limits) → HasCome s o.taken o.done
     → IsWorldOf s o.world.world → length o.scripts < 2 ^ 32 → AllMeet o.table (scripts_of o.scripts) (tables_of o.scripts)
     → StatesFit (scripts_of o.scripts) (tables_of o.scripts) o.world.world → MayGoOn o
 may_go_on s o accepted play come world few meets fit =
@@ -81,14 +93,11 @@ may_go_on s o accepted play come world few meets fit =
       fit = fit;
       quiet = ap (λ (w : World Saved). w.trace) world.world;
       next = let most = limits.counts.next in omega (arith, next, most);
-      limit = let most = limits.bounds.limit.1 in let same = play.limit in omega (arith, same, most);
-      entries = let most = limits.bounds.entries.1 in let same = play.entries in omega (arith, same, most);
-      until = let most = limits.bounds.until in let same = play.until in omega (arith, same, most);
       taken = let most = limits.counts.taken in let same = play.entries in let count = come.taken in omega (arith, same, count, most);
       done = let most = limits.counts.done in let count = come.done in omega (arith, count, most);
     }
 
-module _ (cell : CellLookup) (to : List ℕ) (s : Parts) (o : Opened) (play : IsPlayOf s s.header (script_parts o.scripts) s.area o.limits) (come : HasCome s o.taken o.done) where
+module _ (cell : CellLookup) (to : List ℕ) (s : Parts) (o : Opened) (play : IsPlayOf s s.header (script_parts o.scripts) s.area (limits_in o.limits)) (come : HasCome s o.taken o.done) where
   abbrev going : Going
   going = record { table = o.table; scripts = scripts_of o.scripts; world = o.world.world }
 
@@ -97,8 +106,8 @@ module _ (cell : CellLookup) (to : List ℕ) (s : Parts) (o : Opened) (play : Is
 
   same_rest : rest_of cell o ≡ played_rest cell s going
   same_rest =
-      ap (λ (n : ℕ). part (n, o.limits.1, o.limits.2) o.taken o.done) (sym play.limit)
-      ∙ ap (λ (n : ℕ). part (s.limit, n, o.limits.2) o.taken o.done) (sym play.entries)
+      ap (λ (n : ℕ). part (n, o.limits.entries, o.limits.until) o.taken o.done) (sym play.limit)
+      ∙ ap (λ (n : ℕ). part (s.limit, n, o.limits.until) o.taken o.done) (sym play.entries)
       ∙ ap (λ (n : ℕ). part (s.limit, s.entries, n) o.taken o.done) (sym play.until)
       ∙ ap (λ (n : ℕ). part (s.limit, s.entries, s.until) n o.done) (sym come.taken)
       ∙ ap (λ (n : ℕ). part (s.limit, s.entries, s.until) s.taken n) (sym come.done)

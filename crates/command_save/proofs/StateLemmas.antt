@@ -1,13 +1,13 @@
 -- The state that is taken of a play is the one in which it stands.
 use Rattle.std.proofs.Common.{◌≡◌, ◌≢◌, ℕ, List, [], ◌∷◌, map, ◌⊎◌, inl, inr, Option, None, Result, Err, refl, sym, ap, ◌∙◌, subst}
 use Rattle.std.specs.List.{AllByRecursion}
+use Rattle.std.specs.Prelude.{MatchResult}
 use Rattle.nwq_outside.specs.Outside.{Contents}
 use Rattle.ncs_code.specs.File.{IsCode, file_bytes}
 use Rattle.plan_text.specs.declared.plan.Plan.{Plan}
-use Rattle.plan_text.specs.Plans.{IsPlan, limits_of}
+use Rattle.plan_text.specs.Plans.{Limits, limits_of}
 use Rattle.saved_state.specs.declared.saved.Saved.{Saved}
 use Rattle.world_rules.specs.World.{World}
-use Rattle.world_rules.specs.Plays as plays
 use Rattle.world_rules.specs.Plays.{PlayEnd, Progress, Played}
 use Rattle.machine_rules.specs.Machine.{Script}
 use Rattle.ncs_machine.specs.declared.scripts.Loaded.{Loaded}
@@ -25,7 +25,7 @@ use Rattle.state_format.specs.declared.parts.Parts.{Parts}
 use Rattle.state_format.specs.Parts.{HasForm}
 use Rattle.play_save.specs.Scripts.{script_parts}
 use Rattle.play_save.specs.Rules.{IsAccepted}
-use Rattle.play_save.specs.States.{resting, MayLimit, IsPlayOf, HasCome, IsWorldOf, IsStateFor, IsWrittenState, IsLargeState}
+use Rattle.play_save.specs.States.{resting, IsPlayOf, HasCome, IsWorldOf, IsStateFor, IsWrittenState, IsLargeState}
 use Rattle.command_work.specs.declared.status.Status.{Status}
 use Rattle.command_work.specs.declared.status.Status.TheVariants as status
 use Rattle.command_work.specs.Work.{Does, Puts, Ends, Finished}
@@ -51,9 +51,6 @@ are_spelled (l ∷ scripts) all = (all.0, are_spelled scripts all.1)
 
 -- ---- the state
 
-pub may_limit : (plan : Plan) → IsPlan plan → MayLimit (limits_of plan)
-may_limit plan kept = record { limit = kept.limit; entries = kept.entries; until = kept.until.1 }
-
 pub state_at : (header : HeaderFile) (text : Option (List ℕ)) (file area : List ℕ) (plan : Plan) (scripts : List Loaded) (w : World Saved) (answer : Answer) (s : Parts)
     → text ≡ header.text → area ≡ file → IsPlayOf s text (script_parts scripts) area (limits_of plan) → HasCome s answer.entries answer.instructions
     → IsWorldOf s (resting w) → AllByRecursion (λ (l : Loaded). IsCode l.code.code) scripts → HasForm s → IsAccepted s
@@ -73,6 +70,14 @@ state_at header text file area plan scripts w answer s same_text same_area play 
   come = record { taken = come.taken ∙ is.entries; done = come.done ∙ is.instructions };
   world = subst (λ (v : World Saved). IsWorldOf s (resting v)) is.world world;
 }
+
+-- by limits that are the plan's
+pub for_limits : {A : Type 0} (items : A → List ℕ) (text : Option (List ℕ)) (scripts : List Loaded) (file : List ℕ) {limits own : Limits} (taken done : ℕ) (w : World Saved) (r : Result A SaveFault)
+    → limits ≡ own
+    → MatchResult r (λ v. IsWrittenState (IsStateFor text scripts file limits taken done w) (items v)) (IsLargeState (IsStateFor text scripts file limits taken done w))
+    → MatchResult r (λ v. IsWrittenState (IsStateFor text scripts file own taken done w) (items v)) (IsLargeState (IsStateFor text scripts file own taken done w))
+for_limits items text scripts file taken done w r same exact =
+    subst (λ (l : Limits). MatchResult r (λ v. IsWrittenState (IsStateFor text scripts file l taken done w) (items v)) (IsLargeState (IsStateFor text scripts file l taken done w))) same exact
 
 -- the state of a play is the one in which it stands
 pub state_for : (header : HeaderFile) (text : Option (List ℕ)) (file area : List ℕ) (plan : Plan) (scripts : List Loaded) (w : World Saved) (answer : Answer) → text ≡ header.text → area ≡ file
@@ -158,4 +163,4 @@ memory_limits = inr tt
 
 pub ruleset stopped = (end_told, end_cut, memory_limits)
 
-pub ruleset states = (may_limit, state_at)
+pub ruleset states = (state_at)

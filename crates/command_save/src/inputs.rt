@@ -41,8 +41,8 @@ fn header_of_text<S: Sink>(
     out: &mut S,
 ) -> Result<HeaderFile, Status>
     requires small { length text ≤ file_limit }
-    ensures does { IsTrue S.tells → DoesPuts S.taken (header_in name.now text)
-        out.old result out.new }
+    ensures does { IsTrue S.tells → DoesPuts S.taken (header_in name.now text) out.old result
+        out.new }
     ensures counts { TalliesPuts S.faults result out.old out.new }
     ensures header { IfOk result (λ h. IsHeaderOf h.text h.table) }
     ensures only { IfErr result (Refusing Status.Script) }
@@ -115,8 +115,7 @@ fn area_with<S: Sink>(
     out: &mut S,
 ) -> Result<AreaFile, Status>
     requires small { length bytes ≤ file_limit }
-    ensures does { IsTrue S.tells → DoesPuts S.taken (area_in name.now bytes)
-        out.old result out.new }
+    ensures does { IsTrue S.tells → DoesPuts S.taken (area_in name.now bytes) out.old result out.new }
     ensures counts { TalliesPuts S.faults result out.old out.new }
     ensures area { IfOk result (λ a. IsAreaOf a.area.tree a.bytes) }
     ensures only { IfErr result (Refusing Status.Area) }

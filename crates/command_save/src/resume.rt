@@ -1,7 +1,8 @@
 //! The command that resumes: a state is read, and its play goes on.
-ghost use Rattle.std.specs.Prelude.{◌≡◌, ◌≤◌, ℕ, length, map, IsTrue, IfErr};
+ghost use Rattle.std.specs.Prelude.{◌≡◌, ◌≤◌, ℕ, length, IsTrue, IfErr};
 ghost use Rattle.nwq_value.specs.Limits.{file_limit};
 ghost use Rattle.nwq_outside.specs.Outside.{next};
+ghost use Rattle.hook_table.specs.InHooks.{known_by};
 ghost use Rattle.world_core.specs.Calls.{AreServing, cells_of};
 ghost use Rattle.ncs_machine.specs.Host.{scripts_of};
 ghost use Rattle.command_work.specs.Counts.{KeepsBut, Refusing, StopsArea};
@@ -30,8 +31,8 @@ fn state_of_bytes<S: Sink>(
     out: &mut S,
 ) -> Result<State, Status>
     requires small { length bytes.now ≤ file_limit }
-    ensures does { IsTrue S.tells → DoesPuts S.taken (state_in name.now bytes.now)
-        out.old result out.new }
+    ensures does { IsTrue S.tells → DoesPuts S.taken (state_in name.now bytes.now) out.old result
+        out.new }
     ensures counts { TalliesPuts S.faults result out.old out.new }
     ensures only { IfErr result (Refusing Status.Area) }
 {
@@ -80,12 +81,11 @@ fn play_rest<F: Files, S: Sink>(
     out: &mut S,
     remarks: &mut Remarks,
 ) -> Result<(), Status>
-    requires hooks { AreServing (map (λ h. h.known) hooks.now.all.items) }
+    requires hooks { AreServing (known_by hooks.now) }
     requires opened { MayGoOn opened }
     ensures does { IsTrue F.tells → IsTrue S.tells → DoesOn F.contents S.taken (tells to.now
-        (scripts_of opened.scripts)
-        (rest_of (cells_of (map (λ h. h.known) hooks.now.all.items)) opened))
-        files.old out.old result files.new out.new }
+        (scripts_of opened.scripts) (rest_of (cells_of (known_by hooks.now)) opened)) files.old
+        out.old result files.new out.new }
     ensures counts { TalliesOn F.counts S.faults result files.old out.old files.new out.new }
     ensures names { KeepsBut (IsName to.now) (F.contents files.old) (F.contents files.new) }
     ensures unread { F.reads files.new ≡ F.reads files.old }
@@ -99,12 +99,8 @@ fn play_rest<F: Files, S: Sink>(
         taken,
         done,
     } = opened;
-    let stop = limits.1 + 1;
-    let setting = PlaySetting {
-        scripts: &scripts,
-        table: &table,
-        hooks,
-    };
+    let stop = limits.entries + 1;
+    let setting = PlaySetting::of(&scripts, &table, hooks);
     match play_part(alloc, &setting, world, limits, stop, taken, done, out) {
         Err(status) => {
             drop(table);
@@ -131,10 +127,9 @@ fn resume_state<F: Files, S: Sink>(
     out: &mut S,
     remarks: &mut Remarks,
 ) -> Result<(), Status>
-    requires hooks { AreServing (map (λ h. h.known) hooks.now.all.items) }
-    ensures does { IsTrue F.tells → IsTrue S.tells → DoesOn F.contents S.taken
-        (resumes_state (cells_of (map (λ h. h.known) hooks.now.all.items)) to.now state)
-        files.old out.old result files.new out.new }
+    requires hooks { AreServing (known_by hooks.now) }
+    ensures does { IsTrue F.tells → IsTrue S.tells → DoesOn F.contents S.taken (resumes_state
+        (cells_of (known_by hooks.now)) to.now state) files.old out.old result files.new out.new }
     ensures counts { TalliesOn F.counts S.faults result files.old out.old files.new out.new }
     ensures names { KeepsBut (IsName to.now) (F.contents files.old) (F.contents files.new) }
     ensures unread { F.reads files.new ≡ F.reads files.old }
@@ -159,10 +154,9 @@ pub fn resume_play<F: Files, S: Sink>(
     out: &mut S,
     remarks: &mut Remarks,
 ) -> Result<(), Status>
-    requires hooks { AreServing (map (λ h. h.known) hooks.now.all.items) }
-    ensures does { IsTrue F.tells → IsTrue S.tells → DoesOn F.contents S.taken
-        (resumes (cells_of (map (λ h. h.known) hooks.now.all.items)) state.now to.now)
-        files.old out.old result files.new out.new }
+    requires hooks { AreServing (known_by hooks.now) }
+    ensures does { IsTrue F.tells → IsTrue S.tells → DoesOn F.contents S.taken (resumes (cells_of
+        (known_by hooks.now)) state.now to.now) files.old out.old result files.new out.new }
     ensures counts { TalliesOn F.counts S.faults result files.old out.old files.new out.new }
     // The file of the area that is left alone is written.
     ensures names { KeepsBut (IsName to.now) (F.contents files.old) (F.contents files.new) }

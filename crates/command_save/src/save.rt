@@ -1,20 +1,19 @@
 //! The command that saves: what a play needs is read, in order, and some entries of the plan are
 //! played.
-ghost use Rattle.std.specs.Prelude.{◌≡◌, ◌<◌, ◌≤◌, ◌^◌, length, map, IsTrue, IfErr, OnOk};
+ghost use Rattle.std.specs.Prelude.{◌≡◌, ◌≤◌, IsTrue, IfErr, OnOk};
 ghost use Rattle.nwq_outside.specs.Outside.{next};
-ghost use Rattle.plan_text.specs.Plans.{IsPlan};
-ghost use Rattle.stack_rules.specs.Laws.{AllMeet};
+ghost use Rattle.hook_table.specs.InHooks.{known_by};
 ghost use Rattle.world_core.specs.Calls.{AreServing, cells_of};
-ghost use Rattle.ncs_machine.specs.Host.{scripts_of, tables_of};
+ghost use Rattle.ncs_machine.specs.Host.{scripts_of};
 ghost use Rattle.play_save.specs.Rules.{IsAreaOf, IsHeaderOf};
-ghost use Rattle.play_save.specs.States.{MayList};
 ghost use Rattle.command_work.specs.Counts.{KeepsBut};
 ghost use Rattle.command_work.specs.Calls.{DoesOn, TalliesOn, IsName};
 ghost use Rattle.command_sources.specs.Reads.{header_read};
 ghost use Rattle.command_play.specs.Reads.{ReadsArea, ReadsGame};
-ghost use Rattle.command_play.specs.Tellings.{IsGameFile, StopsGame};
+ghost use Rattle.command_play.specs.Tellings.{IsGameFile, KeepsTo, StopsGame};
 ghost use Rattle.command_save.specs.Saves.{saves, saves_area, saves_plan, saves_scripts};
 ghost use Rattle.command_save.specs.Saves.{saves_under};
+ghost use Rattle.command_save.specs.Tellings.{MayBegin, TakesSome};
 
 use crate::inputs::{AreaFile, HeaderFile, read_area_file, read_header};
 use crate::saving::{BrokenPlay, ListedPlan, save_broken};
@@ -22,6 +21,7 @@ use command_plays::play_first;
 use command_work::Status;
 use hook_table::Hooks;
 use module_player::plays_can_rest;
+use ncs_machine::PlaySetting;
 use nwq_outside::{Files, Sink};
 use plan_text::Plan;
 use play_inputs::{list_scripts, read_plan_file};
@@ -40,7 +40,7 @@ pub struct SaveWords<'a> {
 }
 
 /// Plays so many entries of a plan over an area, and saves the play.
-#[tactic(auto, using(crate::proofs::PartLemmas::parts, command_work::specs::KeepsLemmas::keeps_all))]
+#[tactic(auto, using(crate::proofs::PartLemmas::parts))]
 fn save_plan<F: Files, S: Sink>(
     alloc: Global,
     header: HeaderFile,
@@ -51,37 +51,21 @@ fn save_plan<F: Files, S: Sink>(
     files: &mut F,
     out: &mut S,
 ) -> Result<(), Status>
-    requires few { length listed.now.scripts.now < 2 ^ 32 }
-    requires meets { AllMeet header.table (scripts_of listed.now.scripts.now)
-        (tables_of listed.now.scripts.now) }
-    requires listed { MayList header.text listed.now.scripts.now }
-    requires hooks { AreServing (map (λ h. h.known) hooks.now.all.items) }
-    requires plan { IsPlan listed.now.plan.now }
-    requires some { 1 ≤ words.entries }
+    requires begins { MayBegin header listed.now.plan.now listed.now.scripts.now words.entries }
+    requires hooks { AreServing (known_by hooks.now) }
     requires area { IsAreaOf area.area.tree area.bytes }
-    ensures does { IsTrue F.tells → IsTrue S.tells → DoesOn F.contents S.taken
-        (saves_plan (cells_of (map (λ h. h.known) hooks.now.all.items)) header listed.now.plan.now
-        (scripts_of listed.now.scripts.now) words.entry.entries words.entry.state.now area)
-        files.old out.old result files.new out.new }
-    ensures counts { TalliesOn F.counts S.faults result files.old out.old files.new out.new }
-    ensures names { KeepsBut (IsName words.entry.state.now) (F.contents files.old)
-        (F.contents files.new) }
+    ensures does { IsTrue F.tells → IsTrue S.tells → DoesOn F.contents S.taken (saves_plan (cells_of
+        (known_by hooks.now)) header listed.now.plan.now (scripts_of listed.now.scripts.now)
+        words.entry.entries words.entry.state.now area) files.old out.old result files.new out.new }
+    ensures keeps { KeepsTo F.counts S.faults F.contents (IsName words.entry.state.now) StopsGame
+        result files.old out.old files.new out.new }
     ensures unread { F.reads files.new ≡ F.reads files.old }
-    ensures only { IfErr result StopsGame }
 {
     plays_can_rest();
     plan_worlds_are_fresh();
     let AreaFile { bytes, area } = area;
-    match play_first(
-        alloc,
-        &header.table,
-        area,
-        listed.plan,
-        listed.scripts,
-        hooks,
-        words.entries,
-        out,
-    ) {
+    let setting = PlaySetting::of(listed.scripts, &header.table, hooks);
+    match play_first(alloc, &setting, area, listed.plan, words.entries, out) {
         Err(status) => {
             drop(header);
             drop(bytes);
@@ -104,7 +88,6 @@ fn save_plan<F: Files, S: Sink>(
 }
 
 /// Reads the area, plays so many entries of a plan over it, and saves the play.
-#[tactic(auto, using(crate::proofs::StepLemmas::steps, crate::proofs::StopLemmas::stops), unfolding(crate::specs::Saves::saves_area))]
 fn save_area<F: Files, S: Sink>(
     alloc: Global,
     header: HeaderFile,
@@ -114,22 +97,15 @@ fn save_area<F: Files, S: Sink>(
     files: &mut F,
     out: &mut S,
 ) -> Result<(), Status>
-    requires few { length listed.now.scripts.now < 2 ^ 32 }
-    requires meets { AllMeet header.table (scripts_of listed.now.scripts.now)
-        (tables_of listed.now.scripts.now) }
-    requires listed { MayList header.text listed.now.scripts.now }
-    requires hooks { AreServing (map (λ h. h.known) hooks.now.all.items) }
-    requires plan { IsPlan listed.now.plan.now }
-    requires some { 1 ≤ words.entries }
-    ensures does { IsTrue F.tells → IsTrue S.tells → DoesOn F.contents S.taken
-        (saves_area (cells_of (map (λ h. h.known) hooks.now.all.items)) header words.entry.area.now
-        listed.now.plan.now words.entry.entries words.entry.state.now
-        (scripts_of listed.now.scripts.now)) files.old out.old result files.new out.new }
-    ensures counts { TalliesOn F.counts S.faults result files.old out.old files.new out.new }
-    ensures names { KeepsBut (IsName words.entry.state.now) (F.contents files.old)
-        (F.contents files.new) }
+    requires begins { MayBegin header listed.now.plan.now listed.now.scripts.now words.entries }
+    requires hooks { AreServing (known_by hooks.now) }
+    ensures does { IsTrue F.tells → IsTrue S.tells → DoesOn F.contents S.taken (saves_area
+        (cells_of (known_by hooks.now)) header words.entry.area.now listed.now.plan.now
+        words.entry.entries words.entry.state.now (scripts_of listed.now.scripts.now)) files.old
+        out.old result files.new out.new }
+    ensures keeps { KeepsTo F.counts S.faults F.contents (IsName words.entry.state.now) StopsGame
+        result files.old out.old files.new out.new }
     ensures once { F.reads files.new ≡ next (F.reads files.old) }
-    ensures only { IfErr result StopsGame }
 {
     match read_area_file(alloc, words.area, files, out) {
         Err(status) => {
@@ -142,7 +118,6 @@ fn save_area<F: Files, S: Sink>(
 
 /// Lists the scripts of a plan, plays so many of its entries over the area of this name, and saves
 /// the play.
-#[tactic(auto, using(crate::proofs::StepLemmas::steps, crate::proofs::StopLemmas::stops, crate::proofs::ListLemmas::keeps), unfolding(crate::specs::Saves::saves_scripts))]
 fn save_scripts<F: Files, S: Sink>(
     alloc: Global,
     words: SaveWords<'_>,
@@ -153,19 +128,15 @@ fn save_scripts<F: Files, S: Sink>(
     out: &mut S,
 ) -> Result<(), Status>
     requires header { IsHeaderOf header.text header.table }
-    requires hooks { AreServing (map (λ h. h.known) hooks.now.all.items) }
-    requires plan { IsPlan plan.now }
-    requires some { 1 ≤ words.entries }
-    ensures does { IsTrue F.tells → IsTrue S.tells → DoesOn F.contents S.taken
-        (saves_scripts (cells_of (map (λ h. h.known) hooks.now.all.items)) words.entry.area.now
-        plan.now words.entry.entries words.entry.state.now header) files.old out.old result
-        files.new out.new }
-    ensures counts { TalliesOn F.counts S.faults result files.old out.old files.new out.new }
-    ensures names { KeepsBut (IsGameFile words.entry.state.now) (F.contents files.old)
-        (F.contents files.new) }
-    ensures once { IsTrue F.tells → OnOk result (ReadsArea plan.now.scripts
-        (F.contents files.old) (F.reads files.old) (F.reads files.new)) }
-    ensures only { IfErr result StopsGame }
+    requires hooks { AreServing (known_by hooks.now) }
+    requires takes { TakesSome plan.now words.entries }
+    ensures does { IsTrue F.tells → IsTrue S.tells → DoesOn F.contents S.taken (saves_scripts
+        (cells_of (known_by hooks.now)) words.entry.area.now plan.now words.entry.entries
+        words.entry.state.now header) files.old out.old result files.new out.new }
+    ensures keeps { KeepsTo F.counts S.faults F.contents (IsGameFile words.entry.state.now)
+        StopsGame result files.old out.old files.new out.new }
+    ensures once { IsTrue F.tells → OnOk result (ReadsArea plan.now.scripts (F.contents files.old)
+        (F.reads files.old) (F.reads files.new)) }
 {
     match list_scripts(alloc, &header.table, plan.scripts.as_slice(), files, out) {
         Err(status) => {
@@ -184,7 +155,6 @@ fn save_scripts<F: Files, S: Sink>(
 
 /// Reads the header that a word names, plays so many entries of a plan under it, and saves the
 /// play.
-#[tactic(auto, using(crate::proofs::StepLemmas::steps, crate::proofs::StopLemmas::stops), unfolding(crate::specs::Saves::saves_under))]
 fn save_under<F: Files, S: Sink>(
     alloc: Global,
     words: SaveWords<'_>,
@@ -193,20 +163,16 @@ fn save_under<F: Files, S: Sink>(
     files: &mut F,
     out: &mut S,
 ) -> Result<(), Status>
-    requires hooks { AreServing (map (λ h. h.known) hooks.now.all.items) }
-    requires plan { IsPlan plan.now }
-    requires some { 1 ≤ words.entries }
-    ensures does { IsTrue F.tells → IsTrue S.tells → DoesOn F.contents S.taken
-        (saves_under (cells_of (map (λ h. h.known) hooks.now.all.items)) words.entry.header.now
-        words.entry.area.now words.entry.entries words.entry.state.now plan.now) files.old out.old
-        result files.new out.new }
-    ensures counts { TalliesOn F.counts S.faults result files.old out.old files.new out.new }
-    ensures names { KeepsBut (IsGameFile words.entry.state.now) (F.contents files.old)
-        (F.contents files.new) }
-    ensures once { IsTrue F.tells → OnOk result (ReadsArea plan.now.scripts
-        (F.contents files.old) (header_read words.entry.header.now (F.reads files.old))
-        (F.reads files.new)) }
-    ensures only { IfErr result StopsGame }
+    requires hooks { AreServing (known_by hooks.now) }
+    requires takes { TakesSome plan.now words.entries }
+    ensures does { IsTrue F.tells → IsTrue S.tells → DoesOn F.contents S.taken (saves_under
+        (cells_of (known_by hooks.now)) words.entry.header.now words.entry.area.now
+        words.entry.entries words.entry.state.now plan.now) files.old out.old result files.new
+        out.new }
+    ensures keeps { KeepsTo F.counts S.faults F.contents (IsGameFile words.entry.state.now)
+        StopsGame result files.old out.old files.new out.new }
+    ensures once { IsTrue F.tells → OnOk result (ReadsArea plan.now.scripts (F.contents files.old)
+        (header_read words.entry.header.now (F.reads files.old)) (F.reads files.new)) }
 {
     match read_header(alloc, words.header, files, out) {
         Err(status) => Err(status),
@@ -216,7 +182,7 @@ fn save_under<F: Files, S: Sink>(
 
 /// Plays so many entries of a plan over an area, under the header that a word names, and saves the
 /// play in the file of the state.
-#[tactic(auto, using(crate::proofs::StepLemmas::steps, crate::proofs::StopLemmas::stops), unfolding(crate::specs::Saves::saves))]
+#[tactic(auto, using(crate::proofs::StopLemmas::stops))]
 pub fn save_play<F: Files, S: Sink>(
     alloc: Global,
     words: SaveWords<'_>,
@@ -224,20 +190,18 @@ pub fn save_play<F: Files, S: Sink>(
     files: &mut F,
     out: &mut S,
 ) -> Result<(), Status>
-    requires hooks { AreServing (map (λ h. h.known) hooks.now.all.items) }
+    requires hooks { AreServing (known_by hooks.now) }
     requires some { 1 ≤ words.entries }
-    ensures does { IsTrue F.tells → IsTrue S.tells → DoesOn F.contents S.taken
-        (saves (cells_of (map (λ h. h.known) hooks.now.all.items)) words.entry.header.now
-        words.entry.area.now words.entry.plan.now words.entry.entries words.entry.state.now)
-        files.old out.old result files.new out.new }
+    ensures does { IsTrue F.tells → IsTrue S.tells → DoesOn F.contents S.taken (saves (cells_of
+        (known_by hooks.now)) words.entry.header.now words.entry.area.now words.entry.plan.now
+        words.entry.entries words.entry.state.now) files.old out.old result files.new out.new }
     ensures counts { TalliesOn F.counts S.faults result files.old out.old files.new out.new }
     // The files of bytecode of scripts, and the file of the state, alone are written.
     ensures names { KeepsBut (IsGameFile words.entry.state.now)
         (F.contents files.old) (F.contents files.new) }
     // Each file is read once: the plan, the header, those of each script, and the area.
-    ensures once { IsTrue F.tells → IsTrue S.tells → OnOk result
-        (ReadsGame words.entry.header.now words.entry.plan.now (F.contents files.old)
-        (F.reads files.old) (F.reads files.new)) }
+    ensures once { IsTrue F.tells → IsTrue S.tells → OnOk result (ReadsGame words.entry.header.now
+        words.entry.plan.now (F.contents files.old) (F.reads files.old) (F.reads files.new)) }
     ensures only { IfErr result StopsGame }
 {
     match read_plan_file(alloc, words.plan, files, out) {

@@ -2,13 +2,13 @@
 ghost use Rattle.std.specs.Prelude.{◌≡◌, ◌<◌, ◌≤◌, ◌^◌, ℕ, None, map, length, IsTrue, IfErr};
 ghost use Rattle.std.specs.Prelude.{MatchResult};
 ghost use Rattle.std.specs.Option.{option_map};
-ghost use Rattle.plan_text.specs.Plans.{IsPlan, limits_of};
+ghost use Rattle.plan_text.specs.Plans.{limits_of};
 ghost use Rattle.saved_state.specs.declared.saved.Saved.{Saved as SavedView};
 ghost use Rattle.world_rules.specs.Plays.{Progress, Played as PlayedView};
 ghost use Rattle.ncs_machine.specs.Host.{scripts_of};
 ghost use Rattle.module_player.specs.CodePlays.{code_end_text};
 ghost use Rattle.module_player.specs.EndTexts.{HasText, IsEnding};
-ghost use Rattle.play_save.specs.States.{IsLargeState, IsWrittenState, MayCount, MayList, MayRest};
+ghost use Rattle.play_save.specs.States.{IsLargeState, IsWrittenState};
 ghost use Rattle.nwq_outside.specs.Outside.{Contents};
 ghost use Rattle.command_work.specs.Work.{Does, Ends, Puts};
 ghost use Rattle.command_work.specs.Counts.{Refusing, KeepsBut};
@@ -16,11 +16,12 @@ ghost use Rattle.command_work.specs.Calls.{TalliesOn, TalliesPuts, IsName};
 ghost use Rattle.command_plays.specs.Tellings.{cut_of};
 ghost use Rattle.command_play.specs.Tellings.{StopsGame};
 ghost use Rattle.command_save.specs.Saves.{IsStateAt, saves_at, saves_by};
-ghost use Rattle.command_save.specs.Tellings.{IsProgress, WhereBroken, MaySave};
+ghost use Rattle.command_save.specs.Tellings.{IsListing, IsProgress, MaySave, WhereBroken};
 
 use crate::inputs::HeaderFile;
 use crate::written::write_bytes;
 use command_play::tell_limit;
+use command_plays::limits_of;
 use command_work::{AreaFlaw, Status, refuse_area};
 use module_player::{How, Played, end_text};
 use ncs_machine::Scripts;
@@ -67,11 +68,9 @@ fn play_bytes(
     listed: &ListedPlan<'_>,
     broken: BrokenPlay,
 ) -> Result<Vec<u8>, SaveFault>
-    requires plan { IsPlan listed.now.plan.now }
-    requires listed { MayList header.text listed.now.scripts.now }
-    requires rests { MayRest listed.now.scripts.now file broken.world.world }
-    requires come { MayCount (limits_of listed.now.plan.now) broken.world.world
-        broken.played.entries broken.played.instructions }
+    requires listing { IsListing header.text listed.now.plan.now listed.now.scripts.now }
+    requires saves { MaySave listed.now.scripts.now file (limits_of listed.now.plan.now)
+        broken.world.world broken.played }
     ensures saved { (p : Progress SavedView) → IsProgress broken.played broken.world.world p →
         MatchResult result
         (λ v. IsWrittenState (IsStateAt header file listed.now.plan.now
@@ -80,8 +79,7 @@ fn play_bytes(
         (scripts_of listed.now.scripts.now) p)) }
 {
     let BrokenPlay { world, played } = broken;
-    let plan = listed.plan;
-    let limits = (plan.limit, plan.entries, plan.until);
+    let limits = limits_of(listed.plan);
     let header = text_of(header);
     put_play(
         alloc,
@@ -107,11 +105,9 @@ fn save_state<F: Files, S: Sink>(
     files: &mut F,
     out: &mut S,
 ) -> Result<(), Status>
-    requires plan { IsPlan listed.now.plan.now }
-    requires listed { MayList header.text listed.now.scripts.now }
-    requires rests { MayRest listed.now.scripts.now file broken.world.world }
-    requires come { MayCount (limits_of listed.now.plan.now) broken.world.world
-        broken.played.entries broken.played.instructions }
+    requires listing { IsListing header.text listed.now.plan.now listed.now.scripts.now }
+    requires saves { MaySave listed.now.scripts.now file (limits_of listed.now.plan.now)
+        broken.world.world broken.played }
     ensures does { IsTrue F.tells → IsTrue S.tells → (p : Progress SavedView) → IsProgress
         broken.played broken.world.world p → Does (saves_at header file listed.now.plan.now
         (scripts_of listed.now.scripts.now) name.now p) (F.contents files.old) (S.taken out.old)
@@ -169,8 +165,7 @@ pub(crate) fn save_broken<F: Files, S: Sink>(
     files: &mut F,
     out: &mut S,
 ) -> Result<(), Status>
-    requires plan { IsPlan listed.now.plan.now }
-    requires listed { MayList header.text listed.now.scripts.now }
+    requires listing { IsListing header.text listed.now.plan.now listed.now.scripts.now }
     requires told { cut_of broken.played.how ≡ None }
     requires broken { WhereBroken broken.played.how (MaySave listed.now.scripts.now file
         (limits_of listed.now.plan.now) broken.world.world broken.played) }

@@ -1,7 +1,7 @@
 //! Plays that are saved and resumed: what they print and leave in all is what the unbroken play
 //! does.
 
-ghost use Rattle.std.specs.Prelude.{map};
+ghost use Rattle.hook_table.specs.InHooks.{known_by};
 ghost use Rattle.world_core.specs.Calls.{AreServing};
 
 use crate::{example, long};
@@ -119,7 +119,7 @@ fn goes_on(
     area: Option<&[u8]>,
     hooks: &Hooks,
 ) -> Result<bool, NoMemory>
-    requires hooks { AreServing (map (λ h. h.known) hooks.now.all.items) }
+    requires hooks { AreServing (known_by hooks.now) }
 {
     let [save, resume] = lines;
     found.out = MemSink::new(alloc);
@@ -159,7 +159,7 @@ fn goes_as(
     area: &[u8],
     hooks: &Hooks,
 ) -> Result<bool, NoMemory>
-    requires hooks { AreServing (map (λ h. h.known) hooks.now.all.items) }
+    requires hooks { AreServing (known_by hooks.now) }
 {
     renew(alloc, game, found)?;
     let save = format!(in alloc; "save {} {plan} {n} s.nwq {}", game.given, game.tables)?;
@@ -179,7 +179,7 @@ fn first_apart(
     area: &[u8],
     hooks: &Hooks,
 ) -> Result<Option<usize>, NoMemory>
-    requires hooks { AreServing (map (λ h. h.known) hooks.now.all.items) }
+    requires hooks { AreServing (known_by hooks.now) }
 {
     for n in 1..game.below {
         if !goes_as(alloc, game, plan, n, found, text, area, hooks)? {
@@ -198,7 +198,7 @@ fn first_plan_apart(
     area: &[u8],
     hooks: &Hooks,
 ) -> Result<Option<(usize, usize)>, NoMemory>
-    requires hooks { AreServing (map (λ h. h.known) hooks.now.all.items) }
+    requires hooks { AreServing (known_by hooks.now) }
 {
     for (place, plan) in game.plans.iter().enumerate() {
         if let Some(n) = first_apart(alloc, game, plan, found, text, area, hooks)? {
@@ -214,7 +214,7 @@ fn do_lines(
     found: &mut Outcome,
     hooks: &Hooks,
 ) -> Result<(), NoMemory>
-    requires hooks { AreServing (map (λ h. h.known) hooks.now.all.items) }
+    requires hooks { AreServing (known_by hooks.now) }
 {
     for line in lines {
         carry_on(alloc, line, found, hooks)?;
@@ -224,7 +224,7 @@ fn do_lines(
 
 /// Plays the first plan without a break.
 fn play(alloc: Global, game: &Game, found: &mut Outcome, hooks: &Hooks) -> Result<(), NoMemory>
-    requires hooks { AreServing (map (λ h. h.known) hooks.now.all.items) }
+    requires hooks { AreServing (known_by hooks.now) }
 {
     begin(alloc, game.base, game.own, found)?;
     do_lines(alloc, game.lines, found, hooks)?;
@@ -251,7 +251,7 @@ fn first_other(
     found: &mut Outcome,
     hooks: &Hooks,
 ) -> Result<Option<(usize, usize)>, NoMemory>
-    requires hooks { AreServing (map (λ h. h.known) hooks.now.all.items) }
+    requires hooks { AreServing (known_by hooks.now) }
 {
     play(alloc, game, found, hooks)?;
     if !is_played(found, game) {
@@ -270,7 +270,7 @@ pub fn first_broken(
     found: &mut Outcome,
     hooks: &Hooks,
 ) -> Result<Option<(usize, usize, usize)>, NoMemory>
-    requires hooks { AreServing (map (λ h. h.known) hooks.now.all.items) }
+    requires hooks { AreServing (known_by hooks.now) }
 {
     for (place, game) in games.iter().enumerate() {
         if let Some((plan, n)) = first_other(alloc, game, found, hooks)? {

@@ -1,3 +1,4 @@
 pub mod Sets
 pub mod Standard
 pub mod Served
+pub mod InHooks

@@ -1,8 +1,9 @@
-ghost use Rattle.std.specs.Prelude.{◌≡◌, ◌<◌, [], ◌∷◌, ◌++◌, length, map, position, slice_get};
+ghost use Rattle.std.specs.Prelude.{◌≡◌, ◌<◌, [], ◌∷◌, ◌++◌, length, position, slice_get};
 ghost use Rattle.std.specs.Prelude.{IfOk, IfSome, OnOk, OnErr};
 ghost use Rattle.std.specs.Option.{ForSome};
 ghost use Rattle.std.specs.Str.{bytes_eq};
 ghost use Rattle.hook_table.specs.Standard.{types_of_values, IsAnswer};
+ghost use Rattle.hook_table.specs.InHooks.{known_by};
 
 use crate::hook::{Call, Hook};
 use nwq_value::{Args, NoMemory, Value};
@@ -46,8 +47,7 @@ impl Hooks {
     /// Puts a hook last. After `NoMemory` it is dropped and the hooks are as before.
     pub fn push(&mut self, hook: Hook) -> Result<(), NoMemory>
         ensures ok { OnOk result (self.new.all.items ≡ self.old.all.items ++ hook ∷ []) }
-        ensures known { OnOk result (map (λ h. h.known) self.new.all.items
-            ≡ map (λ h. h.known) self.old.all.items ++ hook.known ∷ []) }
+        ensures known { OnOk result (known_by self.new ≡ known_by self.old ++ hook.known ∷ []) }
         ensures err { OnErr result (self.new.all.items ≡ self.old.all.items) }
     {
         self.all.push(hook)?;

@@ -1,21 +1,18 @@
-//! A variable as it is kept, and how one is found and put last. Its name leads to its stamp, and
-//! the stamp, by a binary search, to its slot, so that no names or numbers make a search longer. A
-//! variable that is taken out leaves its slot empty, and renumbers no other.
+//! A variable as it is kept, and how one is found, put last and changed. Its name leads to its
+//! stamp, and the stamp, by a binary search, to the variable, so that no names or numbers make a
+//! search longer.
 
-ghost use Rattle.std.specs.Prelude.{◌≡◌, [], ◌∷◌, ◌++◌, ◌<◌, length, Some, OnOk, OnErr, IfOk};
-ghost use Rattle.std.specs.Prelude.{IfSome, MatchOption};
-ghost use Rattle.std.specs.List.{AllByRecursion};
-ghost use Rattle.std.specs.Option.{option_map};
-ghost use Rattle.indexmap.specs.IndexMap.{keys};
+ghost use Rattle.std.specs.Prelude.{◌≡◌, [], ◌∷◌, ◌++◌, Some, OnOk, OnErr, IfOk, MatchOption};
+ghost use Rattle.std.specs.Option.{option_copied};
+ghost use Rattle.stamped_slots.specs.Stamps.{AreUnder};
 ghost use Rattle.nwq_value.specs.Index.{number_under, Puts};
 ghost use Rattle.local_variables.specs.Variables.{IntVar, TextVar, variable_of, int_of, text_of};
-ghost use Rattle.local_variables.specs.Kept.{variable_in, variable_at, with_content, at_stamp};
-ghost use Rattle.local_variables.specs.Kept.{Ascend};
+ghost use Rattle.local_variables.specs.Kept.{variable_in, held_at, rewritten};
 
 use crate::vars::Var;
-use indexmap::IndexMap;
 use nwq_value::{Items, NameIndex, NoMemory};
 use shared_bytes::SharedBytes;
+use stamped_slots::Stamped;
 use std::alloc::Global;
 
 /// What a variable holds.
@@ -29,10 +26,6 @@ pub struct Held {
     pub name: Items<u8>,
     pub content: Content,
 }
-
-/// The variables under their stamps, in the order of their first sight. The slot of one that was
-/// taken out is empty.
-pub type Slots = IndexMap<usize, Option<Held>>;
 
 impl Drop for Content {
     fn drop(self) {
@@ -52,6 +45,14 @@ impl Drop for Held {
 }
 
 impl Held {
+    /// What stands in the place of a variable while its content changes; takes no memory.
+    fn nameless(alloc: Global) -> Held {
+        Held {
+            name: Items::new(alloc),
+            content: Content::Int(0),
+        }
+    }
+
     /// An int under a name.
     pub fn of_int(alloc: Global, name: &[u8], n: i32) -> Result<Held, NoMemory>
         ensures variable { IfOk result (λ h. variable_in h ≡ IntVar name.now n) }
@@ -88,7 +89,7 @@ impl Held {
     }
 
     /// Its int, or 0 where it is a string.
-    fn int(&self) -> i32
+    pub fn int(&self) -> i32
         ensures { result ≡ int_of (Some (variable_in self.now)) }
     {
         match &self.content {
@@ -98,7 +99,7 @@ impl Held {
     }
 
     /// Its string, unless it is an int.
-    fn string(&self) -> Option<&SharedBytes>
+    pub fn string(&self) -> Option<&SharedBytes>
         ensures { MatchOption result (text_of (Some (variable_in self.now)) ≡ [])
             (λ text. text.now ≡ text_of (Some (variable_in self.now))) }
     {
@@ -109,65 +110,46 @@ impl Held {
     }
 }
 
-/// The int in a slot, or 0 where there is none.
-pub fn int_in(slot: &Option<Held>) -> i32
-    ensures { result ≡ int_of (variable_at slot.now) }
-{
-    match slot {
-        Some(held) => held.int(),
-        None => 0,
-    }
-}
-
-/// The string in a slot, if there is one.
-pub fn string_in(slot: &Option<Held>) -> Option<&SharedBytes>
-    ensures { MatchOption result (text_of (variable_at slot.now) ≡ [])
-        (λ text. text.now ≡ text_of (variable_at slot.now)) }
-{
-    match slot {
-        Some(held) => held.string(),
-        None => None,
-    }
-}
-
-/// Gives the variable in a slot another content.
-pub fn write(slot: &mut Option<Held>, content: Content)
-    ensures { slot.new ≡ option_map (with_content content) slot.old }
-{
-    match slot {
-        Some(held) => held.content = content,
-        None => drop(content),
-    }
-}
-
-/// The place of the slot whose stamp stands under a name.
-pub fn find(slots: &Slots, stamps: &NameIndex, name: &[u8]) -> Option<usize>
-    requires ascend { Ascend 0 (keys slots.now) }
-    ensures place { result ≡ at_stamp (number_under name.now stamps.now) (keys slots.now) }
-    ensures inside { IfSome result (λ i. i < length slots.now.entries) }
+/// The variable whose stamp stands under a name.
+pub fn find<'a>(held: &'a Stamped<Held>, stamps: &NameIndex, name: &[u8]) -> Option<&'a Held>
+    ensures { option_copied result ≡ held_at (number_under name.now stamps.now) held.now.items }
 {
     let stamp = stamps.get(name)?;
-    slots.binary_search_keys(&stamp).ok()
+    held.get(stamp as u64)
+}
+
+/// Gives the variable of a stamp another content, which takes no memory.
+pub fn write(alloc: Global, held: &mut Stamped<Held>, stamp: u64, content: Content)
+    ensures { held.new.items ≡ rewritten content stamp held.old.items }
+{
+    match held.replace(stamp, Held::nameless(alloc)) {
+        None => drop(content),
+        Some(mut variable) => {
+            variable.content = content;
+            drop(held.replace(stamp, variable));
+        }
+    }
 }
 
 /// Puts a variable last under a stamp, and the stamp under its name.
+#[tactic(auto, using(crate::proofs::KeptLemmas::new_stamp))]
 pub fn add(
-    slots: &mut Slots,
+    held: &mut Stamped<Held>,
     stamps: &mut NameIndex,
     name: &[u8],
     stamp: usize,
-    held: Held,
+    variable: Held,
 ) -> Result<(), NoMemory>
-    requires above { AllByRecursion (λ s. s < stamp) (keys slots.old) }
-    ensures all { OnOk result (slots.new.entries ≡ slots.old.entries ++ (stamp, Some held) ∷ []) }
+    requires above { AreUnder stamp held.old.items }
+    ensures all { OnOk result (held.new.items ≡ held.old.items ++ (stamp, variable) ∷ []) }
     ensures stamps { OnOk result (Puts name.now (Some stamp) stamps.old stamps.new) }
-    ensures same_all { OnErr result (slots.new.entries ≡ slots.old.entries) }
+    ensures same_all { OnErr result (held.new.items ≡ held.old.items) }
     ensures same_stamps { OnErr result (stamps.new ≡ stamps.old) }
 {
-    slots.insert(stamp, Some(held))?;
+    held.insert(stamp as u64, variable)?;
     if stamps.set(name, stamp).is_ok() {
         return Ok(());
     }
-    slots.pop();
+    drop(held.take(stamp as u64));
     Err(NoMemory)
 }

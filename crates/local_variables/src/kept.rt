@@ -1,16 +1,17 @@
 //! The variables of an object that has some.
 
 ghost use Rattle.std.specs.Prelude.{◌≡◌, [], ◌∷◌, ◌++◌, not, false, filter, length};
-ghost use Rattle.std.specs.Prelude.{is_some, OnOk, OnErr, MatchOption};
+ghost use Rattle.std.specs.Prelude.{OnOk, OnErr, MatchOption};
 ghost use Rattle.std.specs.List.{list_any, IsDistinct};
 ghost use Rattle.local_variables.specs.Variables.{IntVar, TextVar, variable_of, is_int, is_text};
 ghost use Rattle.local_variables.specs.Variables.{same_variable, int_named, text_named, put};
+ghost use Rattle.local_variables.specs.Kept.{seen};
 
-use crate::held::{Content, Held, Slots, add, find, int_in, string_in, write};
-use crate::slot_walk::SlotWalk;
+use crate::held::{Content, Held, add, find, write};
 use crate::vars::Var;
 use nwq_value::{NameIndex, NoMemory};
 use shared_bytes::SharedBytes;
+use stamped_slots::{Stamped, Walk};
 use std::alloc::Global;
 use std::marker::Model;
 
@@ -20,9 +21,8 @@ pub(crate) struct Kept {
     alloc: Global,
     /// The stamp of the next new variable.
     next: usize,
-    slots: Slots,
-    /// How many slots aren't empty.
-    live: usize,
+    /// The variables under their stamps.
+    held: Stamped<Held>,
     /// The stamps of the ints by their names, and below those of the strings.
     ints: NameIndex,
     texts: NameIndex,
@@ -30,14 +30,14 @@ pub(crate) struct Kept {
 
 impl Model for Kept {
     ghost use Rattle.std.specs.Prelude.{List};
-    ghost use Rattle.local_variables.specs.Variables.{Variable};
+    ghost use Rattle.local_variables.specs.Variables.{Variable, is_int, is_text};
     ghost use Rattle.local_variables.specs.Kept.{seen, AreKept};
 
     ghost Value = { List Variable };
 
-    ghost view = { λ v. seen v.slots.entries };
+    ghost view = { λ v. seen v.held.items };
 
-    ghost invariant = { λ v. AreKept v.next v.live v.slots.entries v.ints v.texts };
+    ghost invariant = { λ v. AreKept is_int is_text v.next v.held.items v.ints v.texts };
 }
 
 impl Drop for Kept {
@@ -45,12 +45,11 @@ impl Drop for Kept {
         let Kept {
             alloc: _,
             next: _,
-            slots,
-            live: _,
+            held,
             ints,
             texts,
         } = self;
-        drop(slots);
+        drop(held);
         drop(ints);
         drop(texts);
     }
@@ -64,24 +63,24 @@ impl Kept {
         Kept {
             alloc,
             next: 0,
-            slots: Slots::new(alloc),
-            live: 0,
+            held: Stamped::new(alloc),
             ints: NameIndex::new(alloc),
             texts: NameIndex::new(alloc),
         }
     }
 
+    #[tactic(auto, using(crate::proofs::KeptLemmas::long_seen))]
     pub(crate) fn len(&self) -> usize
         ensures len { result ≡ length self.now }
     {
-        self.live
+        self.held.len()
     }
 
     /// A walk over all variables, each in constant time.
-    pub(crate) fn walk(&self) -> SlotWalk<'_>
-        ensures all { result ≡ self.now }
+    pub(crate) fn walk(&self) -> Walk<'_, Held>
+        ensures all { seen result ≡ self.now }
     {
-        SlotWalk::over(&self.slots)
+        self.held.walk()
     }
 
     /// Is there a variable of this type and name?
@@ -98,8 +97,9 @@ impl Kept {
     pub(crate) fn int(&self, name: &[u8]) -> i32
         ensures value { result ≡ int_named name.now self.now }
     {
-        match find(&self.slots, &self.ints, name) {
-            Some(i) => int_in(&self.slots[i]),
+        self.held.keeps();
+        match find(&self.held, &self.ints, name) {
+            Some(held) => held.int(),
             None => 0,
         }
     }
@@ -109,8 +109,9 @@ impl Kept {
         ensures value { MatchOption result (text_named name.now self.now ≡ [])
             (λ text. text.now ≡ text_named name.now self.now) }
     {
-        match find(&self.slots, &self.texts, name) {
-            Some(i) => string_in(&self.slots[i]),
+        self.held.keeps();
+        match find(&self.held, &self.texts, name) {
+            Some(held) => held.string(),
             None => None,
         }
     }
@@ -123,9 +124,8 @@ impl Kept {
     {
         let next = self.next.checked_add(1).ok_or(NoMemory)?;
         let held = Held::of_int(self.alloc, name, n)?;
-        add(&mut self.slots, &mut self.ints, name, self.next, held)?;
+        add(&mut self.held, &mut self.ints, name, self.next, held)?;
         self.next = next;
-        self.live += 1;
         Ok(())
     }
 
@@ -137,9 +137,8 @@ impl Kept {
     {
         let next = self.next.checked_add(1).ok_or(NoMemory)?;
         let held = Held::of_text(self.alloc, name, text)?;
-        add(&mut self.slots, &mut self.texts, name, self.next, held)?;
+        add(&mut self.held, &mut self.texts, name, self.next, held)?;
         self.next = next;
-        self.live += 1;
         Ok(())
     }
 
@@ -164,10 +163,11 @@ impl Kept {
         ensures ok { OnOk result (self.new ≡ put (IntVar name.now n) self.old) }
         ensures err { OnErr result (self.new ≡ self.old) }
     {
-        match find(&self.slots, &self.ints, name) {
+        match self.ints.get(name) {
             None => self.push_int(name, n),
-            Some(i) => {
-                write(&mut self.slots[i], Content::Int(n));
+            Some(stamp) => {
+                self.held.keeps();
+                write(self.alloc, &mut self.held, stamp as u64, Content::Int(n));
                 Ok(())
             }
         }
@@ -178,10 +178,16 @@ impl Kept {
         ensures ok { OnOk result (self.new ≡ put (TextVar name.now text) self.old) }
         ensures err { OnErr result (self.new ≡ self.old) }
     {
-        match find(&self.slots, &self.texts, name) {
+        match self.texts.get(name) {
             None => self.push_text(name, text),
-            Some(i) => {
-                write(&mut self.slots[i], Content::Text(text));
+            Some(stamp) => {
+                self.held.keeps();
+                write(
+                    self.alloc,
+                    &mut self.held,
+                    stamp as u64,
+                    Content::Text(text),
+                );
                 Ok(())
             }
         }
@@ -202,29 +208,14 @@ impl Kept {
         }
     }
 
-    /// Lets the empty slots go where they are more than half of all, so that they cost no more than
-    /// the variables that were taken out.
-    fn settle(&mut self)
-        ensures same { self.new ≡ self.old }
-    {
-        if self.live < self.slots.len() / 2 {
-            self.slots.retain(
-                |_stamp: &usize, slot: &mut Option<Held>| -> bool
-                    ensures { (result ≡ is_some slot.old) × (slot.new ≡ slot.old) }
-                { slot.is_some() },
-            );
-        }
-    }
-
     /// Takes the int of a name out; the others keep their order.
     pub(crate) fn delete_int(&mut self, name: &[u8])
         ensures gone { self.new ≡ filter (λ v. not (is_int name.now v)) self.old }
     {
-        if let Some(i) = find(&self.slots, &self.ints, name) {
+        if let Some(stamp) = self.ints.get(name) {
+            self.held.keeps();
             self.ints.remove(name);
-            self.slots[i] = None;
-            self.live -= 1;
-            self.settle();
+            drop(self.held.take(stamp as u64));
         }
     }
 
@@ -232,11 +223,10 @@ impl Kept {
     pub(crate) fn delete_text(&mut self, name: &[u8])
         ensures gone { self.new ≡ filter (λ v. not (is_text name.now v)) self.old }
     {
-        if let Some(i) = find(&self.slots, &self.texts, name) {
+        if let Some(stamp) = self.texts.get(name) {
+            self.held.keeps();
             self.texts.remove(name);
-            self.slots[i] = None;
-            self.live -= 1;
-            self.settle();
+            drop(self.held.take(stamp as u64));
         }
     }
 
@@ -244,6 +234,6 @@ impl Kept {
     pub(crate) fn keeps(&self)
         ensures distinct { IsDistinct same_variable self.now }
     {
-        let _ = &self.slots;
+        let _ = &self.held;
     }
 }

@@ -9,7 +9,6 @@
 mod held;
 mod kept;
 mod laws;
-mod slot_walk;
 mod vars;
 mod walk;
 

@@ -1,6 +1,6 @@
 -- Values on top of cells.
-use Rattle.std.proofs.Common.{arith, ◌≡◌, ◌≢◌, ◌<◌, ◌≤◌, ◌+◌, ◌++◌, ℕ, suc, List, [], ◌∷◌, length, take, drop, replicate, Option, Some, None, Bool, true, inl, inr, sym, ap, ◌∙◌, refl}
-use Rattle.std.specs.Prelude.{ℤ, pos, slice_get, slice_set, nat_lt, if◌then◌else◌}
+use Rattle.std.proofs.Common.{arith, ◌≡◌, ◌≢◌, ◌<◌, ◌≤◌, ◌+◌, ◌++◌, ℕ, suc, List, [], ◌∷◌, length, take, drop, replicate, Option, Some, None, Bool, true, false, inl, inr, sym, ap, ◌∙◌, refl}
+use Rattle.std.specs.Prelude.{ℤ, pos, slice_get, slice_set, nat_lt, if◌then◌else◌, ◌==◌}
 use Rattle.std.proofs.lemmas.Bool.{cases_lt}
 use Rattle.std.proofs.lemmas.Bool.Decides.{nat_tests}
 use Rattle.std.proofs.lemmas.List.{append-nil, take_all, take_at}
@@ -13,7 +13,7 @@ use Rattle.saved_state.specs.declared.cell.Cell.TheVariants.{Value as Holds, Bas
 use Rattle.machine_rules.specs.Cells.{on_int, on_text, of_int, of_ints, of_texts, value_pushed, zero_on_top}
 use Rattle.machine_rules.specs.Values.{starting_value}
 use Rattle.stack_shape.specs.StackEffects.{type_of_one}
-use Rattle.machine_rules.specs.Act.{int_dropped}
+use Rattle.machine_rules.specs.Act.{if_ints, int_dropped}
 use Rattle.machine_frames.specs.Tops.{HasValue, HasInt, HasText}
 
 -- ---- an int on top
@@ -93,6 +93,26 @@ pub fold_is : (f : ℤ → ℤ → ℤ) (cells : List Cell) (x y : ℤ) → slic
 fold_is f cells x y a b = two_is f cells x y a b ∙ sym (ap Some (set_lower cells (Holds (Int x)) (Holds (Int (f x y))) b))
 
 pub ruleset fold_lemmas = (fold_value, fold_lies, fold_is, zero_is)
+
+-- the same where the answer is written before the upper one goes
+pub near_is : (f : ℤ → ℤ → ℤ) (cells : List Cell) (x y : ℤ) → slice_get cells 0 ≡ Some (Holds (Int y)) → slice_get cells 1 ≡ Some (Holds (Int x))
+    → of_ints f cells ≡ Some (drop 1 (slice_set cells 1 (Holds (Int (f x y)))))
+near_is f cells x y a b = two_is f cells x y a b ∙ sym (ap Some (set_upper cells (Holds (Int x)) (Holds (Int (f x y))) b))
+  where
+    set_upper : (cells : List Cell) (c new : Cell) → slice_get cells 1 ≡ Some c → drop 1 (slice_set cells 1 new) ≡ new ∷ drop 2 cells
+    set_upper [] c new h = absurd cc
+    set_upper (a ∷ []) c new h = absurd cc
+    set_upper (a ∷ b ∷ cells) c new h = refl
+
+pub ruleset near_lemmas = (near_is, zero_is)
+
+-- an instruction that has a case is of ints
+pub of_kind : (kind : ℕ) (o : Option (List Cell)) → if_ints kind o ≢ None → if_ints kind o ≡ o
+of_kind kind o h = of_test (kind == 0x20) o h
+  where
+    of_test : (b : Bool) (o : Option (List Cell)) → (if b then o else None) ≢ None → (if b then o else None) ≡ o
+    of_test true o h = refl
+    of_test false o h = absurd (h refl)
 
 -- ---- one int
 

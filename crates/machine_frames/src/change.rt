@@ -4,8 +4,9 @@ ghost use Rattle.std.specs.Prelude.{slice_get};
 ghost use Rattle.ncs_code.specs.Spelling.{op_size};
 ghost use Rattle.ncs_code.specs.File.{jump_place};
 ghost use Rattle.nwq_value.specs.Limits.{file_limit};
-ghost use Rattle.machine_rules.specs.Act.{cells_after, if_ints, is_division, place_after};
-ghost use Rattle.machine_rules.specs.Cells.{of_ints, zero_on_top};
+ghost use Rattle.machine_rules.specs.Act.{added, cells_after, if_ints, is_division, place_after};
+ghost use Rattle.machine_rules.specs.Cells.{of_ints, value_pushed, zero_on_top};
+ghost use Rattle.machine_rules.specs.Values.{starting_value};
 ghost use Rattle.decoded_code.specs.Steps.{op_of};
 ghost use Rattle.machine_frames.specs.Operations.{binary_of, divides};
 
@@ -16,7 +17,8 @@ use crate::ranges::{
 };
 use crate::top::cell;
 use crate::values::{
-    add, complement, kind_ints, negate, one_int, push_object, push_start, push_text, take_zero,
+    add, complement, ints_near, kind_ints, negate, one_int, push_object, push_start, push_text,
+    take_zero,
 };
 use decoded_code::Step;
 use nwq_value::{NoMemory, Value};
@@ -56,8 +58,10 @@ pub fn jump(at: u32, offset: i32) -> u32
 }
 
 /// An operation of the two ints on top, by an instruction with this type byte. Gives the place that
-/// follows.
+/// follows. Where both can be read at once, no call is made, and no type is asked for: an
+/// instruction of other types has no case.
 #[inline(always)]
+#[tactic(auto, using(crate::proofs::Popped::of_kind))]
 pub fn operate(stack: &mut Stack, kind: u8, op: Binary, at: u32) -> Result<u32, NoMemory>
     requires case { if_ints kind (of_ints (binary_of op) stack.old.cells) ≢ None }
     requires divisor { (divides op && zero_on_top stack.old.cells) ≡ false }
@@ -67,8 +71,11 @@ pub fn operate(stack: &mut Stack, kind: u8, op: Binary, at: u32) -> Result<u32, 
     ensures bp { OnOk result (stack.new.bp ≡ stack.old.bp) }
     ensures place { IfOk result (λ place. place ≡ at + 2) }
 {
-    kind_ints(stack, kind, op)?;
-    Ok(at + 2)
+    if ints_near(stack, op) {
+        Ok(at + 2)
+    } else {
+        operate_apart(stack, kind, op, at)
+    }
 }
 
 /// The same by a call of its own, for those that are rare: the way of the others stays short.
@@ -82,7 +89,71 @@ fn operate_apart(stack: &mut Stack, kind: u8, op: Binary, at: u32) -> Result<u32
     ensures bp { OnOk result (stack.new.bp ≡ stack.old.bp) }
     ensures place { IfOk result (λ place. place ≡ at + 2) }
 {
-    operate(stack, kind, op, at)
+    kind_ints(stack, kind, op)?;
+    Ok(at + 2)
+}
+
+/// RSADD. An int is pushed here. Gives the place that follows.
+#[inline(always)]
+#[tactic(auto, using(crate::proofs::Popped::int_started))]
+fn start(alloc: Global, stack: &mut Stack, kind: u8, at: u32) -> Result<u32, NoMemory>
+    requires case { value_pushed (starting_value kind) stack.old.cells ≢ None }
+    requires small { at + 2 ≤ file_limit }
+    ensures cells { OnOk result
+        (value_pushed (starting_value kind) stack.old.cells ≡ Some stack.new.cells) }
+    ensures bp { OnOk result (stack.new.bp ≡ stack.old.bp) }
+    ensures place { IfOk result (λ place. place ≡ at + 2) }
+{
+    if kind == 0x03 {
+        stack.push(Cell::Value(Value::Int(0)))?;
+        Ok(at + 2)
+    } else {
+        start_apart(alloc, stack, kind, at)
+    }
+}
+
+/// The same by a call of its own.
+#[inline(never)]
+fn start_apart(alloc: Global, stack: &mut Stack, kind: u8, at: u32) -> Result<u32, NoMemory>
+    requires case { value_pushed (starting_value kind) stack.old.cells ≢ None }
+    requires small { at + 2 ≤ file_limit }
+    ensures cells { OnOk result
+        (value_pushed (starting_value kind) stack.old.cells ≡ Some stack.new.cells) }
+    ensures bp { OnOk result (stack.new.bp ≡ stack.old.bp) }
+    ensures place { IfOk result (λ place. place ≡ at + 2) }
+{
+    push_start(alloc, stack, kind)?;
+    Ok(at + 2)
+}
+
+/// ADD.
+#[inline(always)]
+#[tactic(auto, using(crate::proofs::Popped::of_kind))]
+fn sum(alloc: Global, stack: &mut Stack, kind: u8, at: u32) -> Result<u32, NoMemory>
+    requires case { added kind stack.old.cells ≢ None }
+    requires small { at + 2 ≤ file_limit }
+    ensures cells { OnOk result (added kind stack.old.cells ≡ Some stack.new.cells) }
+    ensures bp { OnOk result (stack.new.bp ≡ stack.old.bp) }
+    ensures place { IfOk result (λ place. place ≡ at + 2) }
+{
+    if kind == 0x20 && ints_near(stack, Binary::Add) {
+        Ok(at + 2)
+    } else {
+        sum_apart(alloc, stack, kind, at)
+    }
+}
+
+/// The same by a call of its own.
+#[inline(never)]
+fn sum_apart(alloc: Global, stack: &mut Stack, kind: u8, at: u32) -> Result<u32, NoMemory>
+    requires case { added kind stack.old.cells ≢ None }
+    requires small { at + 2 ≤ file_limit }
+    ensures cells { OnOk result (added kind stack.old.cells ≡ Some stack.new.cells) }
+    ensures bp { OnOk result (stack.new.bp ≡ stack.old.bp) }
+    ensures place { IfOk result (λ place. place ≡ at + 2) }
+{
+    add(alloc, stack, kind)?;
+    Ok(at + 2)
 }
 
 /// The cells after an instruction at a place that doesn't divide, in a script that runs with the
@@ -144,10 +215,7 @@ pub fn change(
             write_sp(alloc, stack, *offset, *size)?;
             Ok(at + 8)
         }
-        Step::RsAdd { kind } => {
-            push_start(alloc, stack, *kind)?;
-            Ok(at + 2)
-        }
+        Step::RsAdd { kind } => start(alloc, stack, *kind, at),
         Step::CpTopSp { offset, size } => {
             push_sp(alloc, stack, *offset, *size)?;
             Ok(at + 8)
@@ -164,18 +232,9 @@ pub fn change(
             push_object(stack, own, *n)?;
             Ok(at + 6)
         }
-        Step::Equal { kind, size } => {
-            compare(stack, *kind, *size, false)?;
-            Ok(at + step.size())
-        }
-        Step::Nequal { kind, size } => {
-            compare(stack, *kind, *size, true)?;
-            Ok(at + step.size())
-        }
-        Step::Add { kind } => {
-            add(alloc, stack, *kind)?;
-            Ok(at + 2)
-        }
+        Step::Equal { kind, size } => { compare(stack, *kind, *size, false, at + step.size()) }
+        Step::Nequal { kind, size } => { compare(stack, *kind, *size, true, at + step.size()) }
+        Step::Add { kind } => sum(alloc, stack, *kind, at),
         Step::Neg { kind } => {
             negate(stack, *kind)?;
             Ok(at + 2)

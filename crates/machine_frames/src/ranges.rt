@@ -1,6 +1,6 @@
 //! Instructions that name cells by offsets and sizes.
 ghost use Rattle.std.specs.Prelude.{◌≡◌, ◌≢◌, ◌+◌, ◌≤◌, ◌<◌, ◌^◌, None, Some, OnOk, IfSome, drop};
-ghost use Rattle.std.specs.Prelude.{length, slice_get};
+ghost use Rattle.std.specs.Prelude.{length, slice_get, true, false, IfOk};
 ghost use Rattle.nwq_value.specs.Operators.{values_eq};
 ghost use Rattle.nwq_value.specs.declared.value.Ty.TheVariants.{Int as IntTy};
 ghost use Rattle.nwq_value.specs.declared.value.Value.TheVariants.{Int as IntValue};
@@ -18,7 +18,7 @@ ghost use Rattle.machine_frames.specs.Tops.{AreValues, answer_of, int_at, reache
 use crate::operation::{Binary, Unary, as_int, of_one};
 use crate::runs::{copy_down, push_copies};
 use crate::top::{int, put, value};
-use crate::values::two_ints;
+use crate::values::ints_near;
 use machine_rules::equality_is_tested;
 use nwq_value::{NoMemory, Value};
 use saved_state::{Cell, Stack};
@@ -339,42 +339,67 @@ fn compare_runs(stack: &mut Stack, count: usize, negated: bool) -> Result<(), No
     stack.push(Cell::Value(Value::Int(as_int(same != negated))))
 }
 
-/// EQUAL and NEQUAL of ints.
+/// EQUAL and NEQUAL of ints, where both can be read at once. `false` says that nothing was done.
 #[inline(always)]
 #[tactic(auto, using(crate::proofs::IntPairs::pair_lemmas))]
-fn compare_ints(stack: &mut Stack, negated: bool) -> Result<(), NoMemory>
-    requires case { pair_compared (answer_of negated) (Some IntTy) stack.old.cells ≢ None }
-    ensures cells { OnOk result (pair_compared (answer_of negated) (Some IntTy) stack.old.cells
-        ≡ Some stack.new.cells) }
-    ensures bp { OnOk result (stack.new.bp ≡ stack.old.bp) }
+fn compare_near(stack: &mut Stack, negated: bool) -> bool
+    ensures cells { result ≡ true → pair_compared (answer_of negated) (Some IntTy) stack.old.cells
+        ≡ Some stack.new.cells }
+    ensures bp { stack.new.bp ≡ stack.old.bp }
+    ensures same { result ≡ false → stack.new ≡ stack.old }
 {
     if negated {
-        two_ints(stack, Binary::Differs)
+        ints_near(stack, Binary::Differs)
     } else {
-        two_ints(stack, Binary::Same)
+        ints_near(stack, Binary::Same)
     }
 }
 
-/// EQUAL and NEQUAL. Ints are compared here.
+/// EQUAL and NEQUAL. Ints are compared here. Gives the place that follows, which is known.
 #[inline(always)]
 #[tactic(auto, using(crate::proofs::IntPairs::kind_lemmas))]
-pub fn compare(stack: &mut Stack, kind: u8, size: u16, negated: bool) -> Result<(), NoMemory>
+pub fn compare(
+    stack: &mut Stack,
+    kind: u8,
+    size: u16,
+    negated: bool,
+    next: u32,
+) -> Result<u32, NoMemory>
     requires case { compared (answer_of negated) kind size stack.old.cells ≢ None }
     ensures cells { OnOk result
         (compared (answer_of negated) kind size stack.old.cells ≡ Some stack.new.cells) }
     ensures bp { OnOk result (stack.new.bp ≡ stack.old.bp) }
+    ensures place { IfOk result (λ place. place ≡ next) }
 {
-    if kind == 0x20 {
-        compare_ints(stack, negated)
+    if kind == 0x20 && compare_near(stack, negated) {
+        Ok(next)
     } else {
-        compare_apart(stack, kind, size, negated)
+        compare_apart(stack, kind, size, negated, next)
     }
 }
 
-/// EQUAL and NEQUAL of any values.
+/// The same by a call of its own.
 #[inline(never)]
+fn compare_apart(
+    stack: &mut Stack,
+    kind: u8,
+    size: u16,
+    negated: bool,
+    next: u32,
+) -> Result<u32, NoMemory>
+    requires case { compared (answer_of negated) kind size stack.old.cells ≢ None }
+    ensures cells { OnOk result
+        (compared (answer_of negated) kind size stack.old.cells ≡ Some stack.new.cells) }
+    ensures bp { OnOk result (stack.new.bp ≡ stack.old.bp) }
+    ensures place { IfOk result (λ place. place ≡ next) }
+{
+    compare_values(stack, kind, size, negated)?;
+    Ok(next)
+}
+
+/// EQUAL and NEQUAL of any values.
 #[tactic(auto, using(crate::proofs::RangeLemmas::pair_lemmas))]
-fn compare_apart(stack: &mut Stack, kind: u8, size: u16, negated: bool) -> Result<(), NoMemory>
+fn compare_values(stack: &mut Stack, kind: u8, size: u16, negated: bool) -> Result<(), NoMemory>
     requires case { compared (answer_of negated) kind size stack.old.cells ≢ None }
     ensures cells { OnOk result
         (compared (answer_of negated) kind size stack.old.cells ≡ Some stack.new.cells) }

@@ -1,5 +1,5 @@
 //! Instructions that pop and push values.
-ghost use Rattle.std.specs.Prelude.{◌≡◌, ◌≢◌, ◌&&◌, false, None, Some, OnOk, slice_get};
+ghost use Rattle.std.specs.Prelude.{◌≡◌, ◌≢◌, ◌&&◌, false, true, None, Some, OnOk, slice_get};
 ghost use Rattle.nwq_value.specs.Operators.{complement, opposite, joined_texts};
 ghost use Rattle.nwq_value.specs.declared.value.Value.TheVariants.{Int as IntValue};
 ghost use Rattle.saved_state.specs.declared.cell.Cell.TheVariants.{Value as Holds};
@@ -18,6 +18,25 @@ use saved_state::{Cell, Stack};
 use stack_shape::type_of_one;
 use std::alloc::Global;
 
+/// An operation of the two ints on top, where both can be read at once. `false` says that nothing
+/// was done.
+#[inline(always)]
+#[tactic(auto, using(crate::proofs::Popped::near_lemmas))]
+pub fn ints_near(stack: &mut Stack, op: Binary) -> bool
+    requires divisor { (divides op && zero_on_top stack.old.cells) ≡ false }
+    ensures cells { result ≡ true → of_ints (binary_of op) stack.old.cells ≡ Some stack.new.cells }
+    ensures bp { stack.new.bp ≡ stack.old.bp }
+    ensures same { result ≡ false → stack.new ≡ stack.old }
+{
+    let Some(y) = stack.int_near(0) else {
+        return false;
+    };
+    let Some(x) = stack.int_near(1) else {
+        return false;
+    };
+    stack.fold_near(y, Value::Int(of_two(op, x, y)))
+}
+
 /// An operation of the two ints on top. Where both can be read at once, no call is made.
 #[inline(always)]
 pub fn two_ints(stack: &mut Stack, op: Binary) -> Result<(), NoMemory>
@@ -26,13 +45,11 @@ pub fn two_ints(stack: &mut Stack, op: Binary) -> Result<(), NoMemory>
     ensures cells { OnOk result (of_ints (binary_of op) stack.old.cells ≡ Some stack.new.cells) }
     ensures bp { OnOk result (stack.new.bp ≡ stack.old.bp) }
 {
-    let Some(y) = stack.int_near(0) else {
-        return two_ints_apart(stack, op);
-    };
-    let Some(x) = stack.int_near(1) else {
-        return two_ints_apart(stack, op);
-    };
-    fold_ints(stack, op, x, y)
+    if ints_near(stack, op) {
+        Ok(())
+    } else {
+        two_ints_apart(stack, op)
+    }
 }
 
 /// The same by a call of its own, wherever the ints lie.
@@ -176,25 +193,8 @@ fn take_zero_apart(stack: &mut Stack) -> bool
     n == 0
 }
 
-/// RSADD. An int is pushed here.
-#[inline(always)]
-#[tactic(auto, using(crate::proofs::Popped::int_started))]
+/// RSADD.
 pub fn push_start(alloc: Global, stack: &mut Stack, kind: u8) -> Result<(), NoMemory>
-    requires case { value_pushed (starting_value kind) stack.old.cells ≢ None }
-    ensures cells { OnOk result
-        (value_pushed (starting_value kind) stack.old.cells ≡ Some stack.new.cells) }
-    ensures bp { OnOk result (stack.new.bp ≡ stack.old.bp) }
-{
-    if kind == 0x03 {
-        stack.push(Cell::Value(Value::Int(0)))
-    } else {
-        push_start_apart(alloc, stack, kind)
-    }
-}
-
-/// RSADD of any value.
-#[inline(never)]
-fn push_start_apart(alloc: Global, stack: &mut Stack, kind: u8) -> Result<(), NoMemory>
     requires case { value_pushed (starting_value kind) stack.old.cells ≢ None }
     ensures cells { OnOk result
         (value_pushed (starting_value kind) stack.old.cells ≡ Some stack.new.cells) }

@@ -1,9 +1,11 @@
 //! The notes on a plan and its area.
 
-ghost use Rattle.std.specs.Prelude.{◌≤◌, ◌<◌, length};
+ghost use Rattle.std.specs.Prelude.{◌≡◌, ◌≤◌, ◌<◌, length, OnOk};
 ghost use Rattle.nwq_value.specs.Limits.{file_limit};
 ghost use Rattle.gff_tree.specs.Count.{node_count};
 ghost use Rattle.gff_tree.specs.Whole.{plain_gff};
+ghost use Rattle.message_text.specs.Shown.{Appends};
+ghost use Rattle.message_notes.specs.Under.{field_place, IsUnder, ShowsLack};
 
 use crate::lacks::{Aim, Lack, aims, lack_of};
 use crate::objects::{has_lists, tree_in};
@@ -43,7 +45,10 @@ fn planned_lines(alloc: Global, text: &[u8]) -> Result<Vec<TextLine<'_>>, NoMemo
 }
 
 /// Where a field of a line begins, counted from 0.
-fn field_at(line: &[u8], field: u32) -> usize {
+#[tactic(auto, using(crate::proofs::UnderLemmas::blank_passed, crate::proofs::UnderLemmas::other_passed, crate::proofs::UnderLemmas::field_here, crate::proofs::UnderLemmas::field_end))]
+fn field_at(line: &[u8], field: u32) -> usize
+    ensures { result ≡ field_place field line.now }
+{
     let mut passed = 0u32;
     for (i, byte) in line.iter().enumerate() {
         if passed == field {
@@ -56,12 +61,15 @@ fn field_at(line: &[u8], field: u32) -> usize {
     line.len()
 }
 
-/// The field of a line that asks in vain.
-fn field_of(lack: Lack) -> u32 {
+/// Where in a line the field begins that asks in vain.
+#[tactic(auto, using(crate::proofs::UnderLemmas::tag_under, crate::proofs::UnderLemmas::number_under, crate::proofs::UnderLemmas::label_under))]
+fn lack_at(line: &[u8], lack: Lack) -> usize
+    ensures under { IsUnder lack line.now result }
+{
     match lack {
-        Lack::Tag => 4,
-        Lack::Number => 2,
-        Lack::Label => 3,
+        Lack::Tag => field_at(line, 4),
+        Lack::Number => field_at(line, 2),
+        Lack::Label => field_at(line, 3),
     }
 }
 
@@ -104,8 +112,11 @@ fn put_lack(
     lack: Lack,
 ) -> Result<(), NoMemory>
     requires size { length plan.bytes.now ≤ file_limit }
+    ensures shows { OnOk result (Appends
+        (ShowsLack plan.entry.name.now plan.entry.bytes.now text.entry.place text.entry.bytes.now
+        lack) out.old.items out.new.items) }
 {
-    let field = field_at(text.bytes, field_of(lack));
+    let field = lack_at(text.bytes, lack);
     let at = text.place.saturating_add(field).min(plan.bytes.len());
     put_note_at(
         out,

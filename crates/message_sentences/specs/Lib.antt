@@ -1,1 +1,4 @@
 pub mod Template
+pub mod Form
+pub mod Told
+pub mod Rules

@@ -1,5 +1,5 @@
 -- Sentences with a gap for a name or a token.
-use Rattle.std.specs.Prelude.{◌≡◌, ◌⊎◌, ℕ, List, [], ◌∷◌, ◌++◌, ◌==◌, if◌then◌else◌}
+use Rattle.std.specs.Prelude.{ℕ, List, [], ◌∷◌, ◌==◌, if◌then◌else◌}
 use Rattle.std.specs.List.{flat_map}
 use Rattle.nwq_text.specs.Escape.{escaped}
 
@@ -10,7 +10,3 @@ filled_byte piece b = if b == 37 then escaped piece else b ∷ []
 -- the sentence with the escaped piece for each `%`
 abbrev pub filled : List ℕ → List ℕ → List ℕ
 filled piece sentence = flat_map (filled_byte piece) sentence
-
--- the name of a file was appended, as it is or escaped
-abbrev pub ShowsName : (name before after : List ℕ) → Type 0
-ShowsName name before after = (after ≡ before ++ name) ⊎ (after ≡ before ++ escaped name)

@@ -1,6 +1,8 @@
 //! The sentences for flaws of files that are no source texts. A `%` stands for the numbers.
 
-ghost use Rattle.std.specs.Prelude.{◌≤◌, length};
+ghost use Rattle.std.specs.Prelude.{◌≡◌, ◌++◌, ◌≤◌, length, OnOk};
+ghost use Rattle.nwq_text.specs.Number.{number_of};
+ghost use Rattle.message_sentences.specs.Rules.{rule_text, unfit_text};
 
 use crate::form::{put_sentence, put_words};
 use crate::told::{first_word, same, second_word};
@@ -79,17 +81,6 @@ const CODE_FLAWS: [Flaw; 4] = [
         word: b"target",
         sentence: "the instruction at offset % leads to no beginning of one",
     },
-];
-
-/// What is wrong with the state of a play, by the numbers 1 to 7.
-const UNFIT: [&str; 7] = [
-    "the header of the state has no table",
-    "a script of the state is no code, or isn't well stacked under its header",
-    "the area of the state is none, or has another number of objects",
-    "a number of the state passes its limit, a name is none or stands twice, or a text is too long",
-    "the entries of the agenda can't wait so: their order, numbers, times or objects",
-    "a captured state of a script doesn't fit its script",
-    "the busy objects of the state and the Turns of its agenda don't go together",
 ];
 
 const SECTIONS: [&str; 6] = [
@@ -186,11 +177,33 @@ fn put_shape(out: &mut Vec<u8>, numbers: &[u8]) -> Result<(), NoMemory> {
     put_words(out, "or the name and the type of one before it")
 }
 
+/// The rule of the state of a play that is broken, by its number.
+#[tactic(auto, unfolding(crate::specs::Rules::rule_text))]
+fn rule_broken(number: u64) -> &'static str
+    ensures { result.now ≡ rule_text number }
+{
+    match number {
+        1 => "the header of the state has no table",
+        2 => "a script of the state is no code, or isn't well stacked under its header",
+        3 => "the area of the state is none, or has another number of objects",
+        4 => "a number of the state passes its limit, a name is none or stands twice, or a text is \
+            too long",
+        5 => "the entries of the agenda can't wait so: their order, numbers, times or objects",
+        6 => "a captured state of a script doesn't fit its script",
+        7 => "the busy objects of the state and the Turns of its agenda don't go together",
+        _ => "?",
+    }
+}
+
 /// Appends what is wrong with the state of a play, by its number.
-fn put_unfit(out: &mut Vec<u8>, number: &[u8]) -> Result<(), NoMemory> {
+#[tactic(auto, using(crate::proofs::RuleLemmas::rule_told, crate::proofs::RuleLemmas::none_told))]
+fn put_unfit(out: &mut Vec<u8>, number: &[u8]) -> Result<(), NoMemory>
+    ensures appends { OnOk result (out.new.items
+        ≡ out.old.items ++ unfit_text (number_of number.now)) }
+{
     match read_number(number) {
-        Some(n) if n > 0 => put_words(out, name_numbered(&UNFIT, n - 1)),
-        _ => put_words(out, "?"),
+        Some(n) => put_words(out, rule_broken(n)),
+        None => put_words(out, "?"),
     }
 }
 

@@ -1,6 +1,6 @@
-//! The tokens that can stand at a place, and counts of arguments.
+//! The tokens that can stand at a place.
 
-use message_tokens::{candidates, following, given, taken};
+use message_tokens::{candidates, following};
 use nss_lexer::Token;
 use nwq_value::NoMemory;
 use std::alloc::Global;

@@ -257,9 +257,8 @@ const SCRIPTS: &[Refused] = &[
     Refused {
         bytes: b"const object O = OBJECT_SELF; void main() {}",
         line: b"refused p.nss 1 6 mismatch\n",
-        said: "p.nss:1:7: error: the default has another type than its parameter, or a constant is \
-            of the type `object` [mismatch]\nconst object O = OBJECT_SELF; void main() {}\n      \
-            ^\n",
+        said: "p.nss:1:7: error: no constant is of the type `object`: one is an int or a string \
+            [mismatch]\nconst object O = OBJECT_SELF; void main() {}\n      ^\n",
     },
     Refused {
         bytes: b"void f(int a = 1, int b) {} void main() {}",
@@ -270,9 +269,15 @@ const SCRIPTS: &[Refused] = &[
     Refused {
         bytes: b"void main() { int n; n.x = 1; }",
         line: b"refused p.nss 1 22 unknown\n",
-        said: "p.nss:1:23: error: there is no member `x`: the struct has none, or what stands \
-            before the point is no struct [unknown]\nvoid main() { int n; n.x = 1; \
-            }\n                      ^\n",
+        said: "p.nss:1:23: error: what stands before `.` is no struct: int [unknown]\nvoid \
+            main() { int n; n.x = 1; }\n                      ^\n",
+    },
+    Refused {
+        bytes: b"struct S { int n; }; void main() { struct S s; s.x = 1; }",
+        line: b"refused p.nss 1 48 unknown\n",
+        said: "p.nss:1:49: error: there is no member `x`: the struct has none, or what stands \
+            before the point is no struct [unknown]\nstruct S { int n; }; void main() { struct S \
+            s; s.x = 1; }\n                                                ^\n",
     },
     Refused {
         bytes: b"void main() { if (1) { int n = 1; }",
@@ -331,7 +336,7 @@ const SCRIPTS: &[Refused] = &[
     Refused {
         bytes: b"void main() { switch (1) { case 1: ; case 1: ; } }",
         line: b"refused p.nss 1 37 redeclared\n",
-        said: "p.nss:1:38: error: the value of this `case` stands in an earlier one of its switch \
+        said: "p.nss:1:38: error: a `case` of this value stands before in its switch: 1 \
             [redeclared]\nvoid main() { switch (1) { case 1: ; case 1: ; } \
             }\n                                     ^\n",
     },

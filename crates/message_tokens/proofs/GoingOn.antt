@@ -13,7 +13,7 @@ use Rattle.std.proofs.lemmas.Bool.Decides.{nat_tests}
 use Rattle.nss_parser.specs.declared.fault.ParseFault.TheVariants.{Syntax}
 use Rattle.nss_parser.specs.Fault.{Refuses}
 use Rattle.nss_parser.specs.Sentence.{Parses, IsPrefix, IsPlace, IsDead}
-use Rattle.message_tokens.specs.Following.{CanGoOn, CanFollow, Lists, can, cannot, Adds, added, passed}
+use Rattle.message_tokens.specs.Following.{CanGoOn, CanFollow, HasNoPlace, Lists, can, cannot, Adds, added, passed}
 
 -- tokens with a tree are completed
 pub tree_goes_on : (tokens : List Symbol) (x : SourceTree) → Parses tokens x → IsWithinNest tokens → CanGoOn tokens
@@ -100,6 +100,13 @@ refused_follows before all t i same refused = place_follows before all t i same 
 -- a place lies among the tokens
 pub place_within : (tokens : List Token) (i : ℕ) → IsPlace (symbols_of tokens) i → i ≤ length tokens
 place_within tokens i place = let many = as_many symbol_of tokens in let within = place.within in omega (arith, many, within)
+
+-- tokens with a tree have no place, and for tokens that nest too deep none is told
+pub tree_no_place : (tokens : List Symbol) (x : SourceTree) → Parses tokens x → HasNoPlace tokens
+tree_no_place tokens x parses nest i place = place.none x parses
+
+pub deep_no_place : (tokens : List Symbol) (k : ℕ) → IsFirstOver tokens k → HasNoPlace tokens
+deep_no_place tokens k over nest i place = let low = nest k in let high = over.over in omega arith
 
 -- ---- one more of the tokens that are tried
 

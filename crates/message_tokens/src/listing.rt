@@ -1,124 +1,355 @@
 //! The tokens that can stand at a place of a unit.
 
-ghost use Rattle.std.specs.Prelude.{◌≤◌, ◌↔◌, ◌++◌, ◌∷◌, [], length, take, IfOk, IfSome};
-ghost use Rattle.std.specs.Prelude.{IsTrue, OnOk};
+ghost use Rattle.std.specs.Prelude.{◌≡◌, ◌≤◌, ◌↔◌, ◌++◌, ◌∷◌, [], length, map, take, IfOk};
+ghost use Rattle.std.specs.Prelude.{IfNone, IfSome, IsTrue, OnOk};
 ghost use Rattle.std.specs.List.{AllByRecursion};
-ghost use Rattle.nwq_value.specs.Limits.{file_limit, token_limit};
+ghost use Rattle.nwq_value.specs.Limits.{token_limit};
 ghost use Rattle.nss_lexer.specs.Lexemes.{IsToken};
 ghost use Rattle.nss_symbols.specs.Tokens.{symbols_of};
 ghost use Rattle.nss_parser.specs.Sentence.{IsPlace};
-ghost use Rattle.message_tokens.specs.Following.{Adds, CanFollow, Lists};
+ghost use Rattle.message_tokens.specs.Following.{Adds, CanFollow, HasNoPlace, Lists};
+ghost use Rattle.message_tokens.specs.Kinds.{seen, HasEachKind};
+ghost use Rattle.message_tokens.specs.Tries.{spelled};
 
-use nss_lexer::{Lexed, Token, next};
+use nss_lexer::{Token, TokenKind};
 use nss_parser::{ParseFault, parse};
 use nwq_value::NoMemory;
 use std::alloc::Global;
 
+/// A kind of token, and a text of it.
+#[derive(Clone, Copy)]
+pub(crate) struct Tried {
+    kind: TokenKind,
+    text: &'static [u8],
+}
+
 /// What is tried at a place: each kind of token of a unit once, what is told first at the front,
 /// and what the profile leaves out at the end.
-const TRIED: [&[u8]; 74] = [
-    b";",
-    b")",
-    b"a",
-    b"1",
-    b"\"\"",
-    b"(",
-    b",",
-    b"{",
-    b"}",
-    b"=",
-    b"OBJECT_SELF",
-    b"OBJECT_INVALID",
-    b"int",
-    b"string",
-    b"object",
-    b"void",
-    b"struct",
-    b"if",
-    b"while",
-    b"for",
-    b"do",
-    b"switch",
-    b"return",
-    b"else",
-    b"case",
-    b"default",
-    b"break",
-    b"continue",
-    b"const",
-    b"effect",
-    b"event",
-    b":",
-    b".",
-    b"+",
-    b"-",
-    b"*",
-    b"/",
-    b"%",
-    b"==",
-    b"!=",
-    b"<",
-    b">",
-    b"<=",
-    b">=",
-    b"&&",
-    b"||",
-    b"!",
-    b"~",
-    b"++",
-    b"--",
-    b"+=",
-    b"-=",
-    b"*=",
-    b"/=",
-    b"%=",
-    b"&=",
-    b"|=",
-    b"^=",
-    b"<<=",
-    b">>=",
-    b">>>=",
-    b"&",
-    b"|",
-    b"^",
-    b"<<",
-    b">>",
-    b">>>",
-    b"float",
-    b"1.0",
-    b"vector",
-    b"location",
-    b"talent",
-    b"itemproperty",
-    b"action",
+const TRIED: [Tried; 74] = [
+    Tried {
+        kind: TokenKind::Sign,
+        text: b";",
+    },
+    Tried {
+        kind: TokenKind::Sign,
+        text: b")",
+    },
+    Tried {
+        kind: TokenKind::Name,
+        text: b"a",
+    },
+    Tried {
+        kind: TokenKind::Int(1),
+        text: b"1",
+    },
+    Tried {
+        kind: TokenKind::Text,
+        text: b"\"\"",
+    },
+    Tried {
+        kind: TokenKind::Sign,
+        text: b"(",
+    },
+    Tried {
+        kind: TokenKind::Sign,
+        text: b",",
+    },
+    Tried {
+        kind: TokenKind::Sign,
+        text: b"{",
+    },
+    Tried {
+        kind: TokenKind::Sign,
+        text: b"}",
+    },
+    Tried {
+        kind: TokenKind::Sign,
+        text: b"=",
+    },
+    Tried {
+        kind: TokenKind::Word,
+        text: b"OBJECT_SELF",
+    },
+    Tried {
+        kind: TokenKind::Word,
+        text: b"OBJECT_INVALID",
+    },
+    Tried {
+        kind: TokenKind::Word,
+        text: b"int",
+    },
+    Tried {
+        kind: TokenKind::Word,
+        text: b"string",
+    },
+    Tried {
+        kind: TokenKind::Word,
+        text: b"object",
+    },
+    Tried {
+        kind: TokenKind::Word,
+        text: b"void",
+    },
+    Tried {
+        kind: TokenKind::Word,
+        text: b"struct",
+    },
+    Tried {
+        kind: TokenKind::Word,
+        text: b"if",
+    },
+    Tried {
+        kind: TokenKind::Word,
+        text: b"while",
+    },
+    Tried {
+        kind: TokenKind::Word,
+        text: b"for",
+    },
+    Tried {
+        kind: TokenKind::Word,
+        text: b"do",
+    },
+    Tried {
+        kind: TokenKind::Word,
+        text: b"switch",
+    },
+    Tried {
+        kind: TokenKind::Word,
+        text: b"return",
+    },
+    Tried {
+        kind: TokenKind::Word,
+        text: b"else",
+    },
+    Tried {
+        kind: TokenKind::Word,
+        text: b"case",
+    },
+    Tried {
+        kind: TokenKind::Word,
+        text: b"default",
+    },
+    Tried {
+        kind: TokenKind::Word,
+        text: b"break",
+    },
+    Tried {
+        kind: TokenKind::Word,
+        text: b"continue",
+    },
+    Tried {
+        kind: TokenKind::Word,
+        text: b"const",
+    },
+    Tried {
+        kind: TokenKind::Word,
+        text: b"effect",
+    },
+    Tried {
+        kind: TokenKind::Word,
+        text: b"event",
+    },
+    Tried {
+        kind: TokenKind::Sign,
+        text: b":",
+    },
+    Tried {
+        kind: TokenKind::Sign,
+        text: b".",
+    },
+    Tried {
+        kind: TokenKind::Sign,
+        text: b"+",
+    },
+    Tried {
+        kind: TokenKind::Sign,
+        text: b"-",
+    },
+    Tried {
+        kind: TokenKind::Sign,
+        text: b"*",
+    },
+    Tried {
+        kind: TokenKind::Sign,
+        text: b"/",
+    },
+    Tried {
+        kind: TokenKind::Sign,
+        text: b"%",
+    },
+    Tried {
+        kind: TokenKind::Sign,
+        text: b"==",
+    },
+    Tried {
+        kind: TokenKind::Sign,
+        text: b"!=",
+    },
+    Tried {
+        kind: TokenKind::Sign,
+        text: b"<",
+    },
+    Tried {
+        kind: TokenKind::Sign,
+        text: b">",
+    },
+    Tried {
+        kind: TokenKind::Sign,
+        text: b"<=",
+    },
+    Tried {
+        kind: TokenKind::Sign,
+        text: b">=",
+    },
+    Tried {
+        kind: TokenKind::Sign,
+        text: b"&&",
+    },
+    Tried {
+        kind: TokenKind::Sign,
+        text: b"||",
+    },
+    Tried {
+        kind: TokenKind::Sign,
+        text: b"!",
+    },
+    Tried {
+        kind: TokenKind::Sign,
+        text: b"~",
+    },
+    Tried {
+        kind: TokenKind::Sign,
+        text: b"++",
+    },
+    Tried {
+        kind: TokenKind::Sign,
+        text: b"--",
+    },
+    Tried {
+        kind: TokenKind::Sign,
+        text: b"+=",
+    },
+    Tried {
+        kind: TokenKind::Sign,
+        text: b"-=",
+    },
+    Tried {
+        kind: TokenKind::Sign,
+        text: b"*=",
+    },
+    Tried {
+        kind: TokenKind::Sign,
+        text: b"/=",
+    },
+    Tried {
+        kind: TokenKind::Sign,
+        text: b"%=",
+    },
+    Tried {
+        kind: TokenKind::Sign,
+        text: b"&=",
+    },
+    Tried {
+        kind: TokenKind::Sign,
+        text: b"|=",
+    },
+    Tried {
+        kind: TokenKind::Sign,
+        text: b"^=",
+    },
+    Tried {
+        kind: TokenKind::Sign,
+        text: b"<<=",
+    },
+    Tried {
+        kind: TokenKind::Sign,
+        text: b">>=",
+    },
+    Tried {
+        kind: TokenKind::Sign,
+        text: b">>>=",
+    },
+    Tried {
+        kind: TokenKind::Sign,
+        text: b"&",
+    },
+    Tried {
+        kind: TokenKind::Sign,
+        text: b"|",
+    },
+    Tried {
+        kind: TokenKind::Sign,
+        text: b"^",
+    },
+    Tried {
+        kind: TokenKind::Sign,
+        text: b"<<",
+    },
+    Tried {
+        kind: TokenKind::Sign,
+        text: b">>",
+    },
+    Tried {
+        kind: TokenKind::Sign,
+        text: b">>>",
+    },
+    Tried {
+        kind: TokenKind::Word,
+        text: b"float",
+    },
+    Tried {
+        kind: TokenKind::Float,
+        text: b"1.0",
+    },
+    Tried {
+        kind: TokenKind::Word,
+        text: b"vector",
+    },
+    Tried {
+        kind: TokenKind::Word,
+        text: b"location",
+    },
+    Tried {
+        kind: TokenKind::Word,
+        text: b"talent",
+    },
+    Tried {
+        kind: TokenKind::Word,
+        text: b"itemproperty",
+    },
+    Tried {
+        kind: TokenKind::Word,
+        text: b"action",
+    },
 ];
 
-/// The one token of a short text.
-#[tactic(auto, using(crate::proofs::GoingOn::token_is))]
-fn token_in<'a>(text: &'a [u8]) -> Option<Token<'a>>
-    requires { length text.now ≤ file_limit }
-    ensures { IfSome result IsToken }
+/// These tokens, which stand in no file.
+#[tactic(auto, using(crate::proofs::KindLemmas::seen_push, crate::proofs::KindLemmas::seen_whole))]
+fn tokens_tried(alloc: Global, tried: &[Tried]) -> Result<Vec<Token<'static>>, NoMemory>
+    ensures { IfOk result (λ all. map seen all.items ≡ map spelled tried.now) }
 {
-    match next(text, 0, 0) {
-        Lexed::Token(token) => Some(token),
-        _ => None,
+    let mut all = Vec::new(alloc);
+    for one in tried {
+        let token = Token {
+            kind: one.kind,
+            text: one.text,
+            file: 0,
+            start: 0,
+            end: 0,
+        };
+        all.push(token)?;
     }
+    Ok(all)
 }
 
 /// The tokens that are tried at a place.
-#[tactic(auto, using(crate::proofs::GoingOn::all_push))]
+#[tactic(auto, using(crate::proofs::KindLemmas::are_tokens, crate::proofs::KindLemmas::each_kind))]
 pub fn candidates(alloc: Global) -> Result<Vec<Token<'static>>, NoMemory>
     ensures tokens { IfOk result (λ all. AllByRecursion IsToken all.items) }
+    ensures each { IfOk result (λ all. HasEachKind all.items) }
 {
-    let mut all = Vec::new(alloc);
-    for text in TRIED.iter() {
-        if text.len() < 16
-            && let Some(token) = token_in(text)
-        {
-            all.push(token)?;
-        }
-    }
-    Ok(all)
+    tokens_tried(alloc, &TRIED)
 }
 
 /// Whether the token can follow the others.
@@ -198,13 +429,15 @@ pub fn following<'a>(
     able_behind(alloc, &tokens[..at], tried)
 }
 
-/// The place at which the grammar refuses the tokens of a unit.
-#[tactic(auto, using(crate::proofs::GoingOn::place_within))]
+/// The place at which the grammar refuses the tokens of a unit. There is none where they have a
+/// tree, or nest too deep.
+#[tactic(auto, using(crate::proofs::GoingOn::place_within, crate::proofs::GoingOn::deep_no_place))]
 pub fn syntax_fault(alloc: Global, tokens: &[Token<'_>]) -> Result<Option<usize>, NoMemory>
     requires few { length tokens.now ≤ token_limit }
     requires tokens { AllByRecursion IsToken tokens.now }
     ensures place { IfOk result (λ fault. IfSome fault (IsPlace (symbols_of tokens.now))) }
     ensures within { IfOk result (λ fault. IfSome fault (λ i. i ≤ length tokens.now)) }
+    ensures none { IfOk result (λ fault. IfNone fault (HasNoPlace (symbols_of tokens.now))) }
 {
     match parse(alloc, tokens) {
         Ok(tree) => {

@@ -1,11 +1,11 @@
 -- The sentence for each reason that tells types or counts. A `%` stands for the token.
 use Rattle.std.specs.Prelude.{ℕ, ◌==◌, nat_lt, List, [], ◌++◌, bytes_eq, codes, Option, None, Some, if◌then◌else◌}
-use Rattle.std.specs.Fmt.{decimal}
+use Rattle.std.specs.Fmt.{decimal, signed_decimal}
 use Rattle.nwq_value.specs.declared.value.Ty.{Ty}
 use Rattle.nwq_value.specs.declared.value.Ty.TheVariants.{Void, Int, Text, Object, Effect, Event, Action, Struct, Refused}
 use Rattle.message_sentences.specs.Template.{filled}
 use Rattle.nss_reasons.specs.declared.reason.Reason.{Reason}
-use Rattle.nss_reasons.specs.declared.reason.Reason.TheVariants.{Operands, Operand, Arguments, Argument, Condition, Returned, Value, Default, Label}
+use Rattle.nss_reasons.specs.declared.reason.Reason.TheVariants.{Operands, Operand, Arguments, Argument, Condition, Returned, Value, Default, Label, NoMember, Again, NoVariable, NoConstant}
 
 abbrev pub type_word : Ty → List ℕ
 type_word Void = codes "void"
@@ -67,6 +67,16 @@ said t (Default given wanted) =
     ++ wanted_text given wanted)
 said t (Label given) =
     Some (filled t (codes "the value of `%` is no int: ") ++ type_word given)
+said t (NoMember (Struct n)) = None
+said t (NoMember given) =
+    Some (filled t (codes "what stands before `%` is no struct: ") ++ type_word given)
+said t (Again value) =
+    Some (filled t (codes "a `%` of this value stands before in its switch: ")
+    ++ signed_decimal value)
+said t (NoVariable given) =
+    Some (filled t (codes "no variable, parameter or member is of the type `%`"))
+said t (NoConstant given) =
+    Some (filled t (codes "no constant is of the type `%`: one is an int or a string"))
 said t r = None
 
 abbrev pub or_nothing : Option (List ℕ) → List ℕ

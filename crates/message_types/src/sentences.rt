@@ -1,15 +1,15 @@
 //! The sentences for reasons that tell types or counts.
 
-ghost use Rattle.std.specs.Prelude.{◌≡◌, ◌++◌, ℕ, List, codes, is_some, IfOk, OnOk};
-ghost use Rattle.std.specs.Fmt.{decimal};
-ghost use Rattle.nss_reasons.specs.declared.reason.Reason.TheVariants.{Returned};
+ghost use Rattle.std.specs.Prelude.{◌≡◌, ◌++◌, ℕ, List, codes, is_some, not, IfOk, OnOk};
+ghost use Rattle.std.specs.Fmt.{decimal, signed_decimal};
+ghost use Rattle.nss_reasons.specs.declared.reason.Reason.TheVariants.{NoMember, Returned};
 ghost use Rattle.message_types.specs.Sentences.{count_text, or_nothing, range_text, said, sum_text};
 ghost use Rattle.message_types.specs.Sentences.{type_word, wanted_text};
 ghost use Rattle.message_sentences.specs.Template.{filled};
 
 use message_sentences::{put_sentence, put_words, same};
 use nss_reasons::Reason;
-use nwq_text::put_count;
+use nwq_text::{put_count, put_number as put_signed};
 use nwq_value::{NoMemory, Ty};
 
 /// The word for a type.
@@ -212,6 +212,44 @@ fn put_arguments(
     put_counts(out, given, least, most)
 }
 
+/// Appends what a member is asked of, where that is no struct.
+#[tactic(auto, using(crate::proofs::Members::of_struct, crate::proofs::Members::of_other))]
+fn put_member(out: &mut Vec<u8>, piece: &[u8], of: Ty) -> Result<(), NoMemory>
+    ensures appends { OnOk result (out.new.items ≡ out.old.items
+        ++ or_nothing (said piece.now (NoMember of))) }
+{
+    if is_struct(of) {
+        return Ok(());
+    }
+    put_typed(out, "what stands before `%` is no struct: ", piece, of)
+}
+
+fn put_int(out: &mut Vec<u8>, value: i32) -> Result<(), NoMemory>
+    ensures appends { OnOk result (out.new.items ≡ out.old.items ++ signed_decimal value) }
+{
+    put_signed(out, i64::from(value))
+}
+
+/// Appends the value of a case that stands before.
+fn put_again(out: &mut Vec<u8>, piece: &[u8], value: i32) -> Result<(), NoMemory>
+    ensures appends { OnOk result (out.new.items ≡ out.old.items
+        ++ (filled piece.now (codes "a `%` of this value stands before in its switch: ")
+        ++ signed_decimal value)) }
+{
+    put_sentence(
+        out,
+        "a `%` of this value stands before in its switch: ",
+        piece,
+    )?;
+    put_int(out, value)
+}
+
+fn is_struct(ty: Ty) -> bool
+    ensures { (piece : List ℕ) → not result ≡ is_some (said piece (NoMember ty)) }
+{
+    matches!(ty, Ty::Struct(_))
+}
+
 /// Whether a reason has a sentence.
 fn is_said(reason: Reason) -> bool
     ensures { (piece : List ℕ) → result ≡ is_some (said piece reason) }
@@ -226,16 +264,20 @@ fn is_said(reason: Reason) -> bool
         Reason::Value { .. } => true,
         Reason::Default { .. } => true,
         Reason::Label { .. } => true,
+        Reason::NoMember { of } => !is_struct(of),
+        Reason::Again { .. } => true,
+        Reason::NoVariable { .. } => true,
+        Reason::NoConstant { .. } => true,
         Reason::NoPlace => false,
         Reason::Uncallable => false,
         Reason::NoFunction => false,
         Reason::Barred => false,
-        Reason::NoMember { .. } => false,
         Reason::Taken => false,
         Reason::Cells => false,
-        Reason::Again { .. } => false,
         Reason::Misplaced => false,
         Reason::NoDefault => false,
+        Reason::LeftOut => false,
+        Reason::NoStruct => false,
     }
 }
 
@@ -277,16 +319,28 @@ fn put_said(out: &mut Vec<u8>, piece: &[u8], reason: Reason) -> Result<(), NoMem
             wanted,
         ),
         Reason::Label { ty } => put_typed(out, "the value of `%` is no int: ", piece, ty),
+        Reason::NoMember { of } => put_member(out, piece, of),
+        Reason::Again { value } => put_again(out, piece, value),
+        Reason::NoVariable { .. } => put_sentence(
+            out,
+            "no variable, parameter or member is of the type `%`",
+            piece,
+        ),
+        Reason::NoConstant { .. } => put_sentence(
+            out,
+            "no constant is of the type `%`: one is an int or a string",
+            piece,
+        ),
         Reason::NoPlace => Ok(()),
         Reason::Uncallable => Ok(()),
         Reason::NoFunction => Ok(()),
         Reason::Barred => Ok(()),
-        Reason::NoMember { .. } => Ok(()),
         Reason::Taken => Ok(()),
         Reason::Cells => Ok(()),
-        Reason::Again { .. } => Ok(()),
         Reason::Misplaced => Ok(()),
         Reason::NoDefault => Ok(()),
+        Reason::LeftOut => Ok(()),
+        Reason::NoStruct => Ok(()),
     }
 }
 

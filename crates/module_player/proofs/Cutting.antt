@@ -16,6 +16,7 @@ use Rattle.ncs_machine.specs.Endings.{IsCut, WhereCut as WhereRunCut}
 use Rattle.ncs_machine.specs.declared.entry.Ran.{Ran}
 use Rattle.ncs_machine.specs.declared.entry.Ran.TheVariants as ran
 use Rattle.ncs_machine.specs.Host.{first_frame, run_from}
+use Rattle.ncs_machine.specs.Settings.{CodeSetting, host_in, scripts_in}
 use Rattle.ncs_machine.specs.Steps.{IsHalfway, Untouched, Called}
 use Rattle.ncs_machine.specs.declared.scripts.Begin.{Begin}
 use Rattle.ncs_machine.specs.declared.scripts.Begin.TheVariants as begins
@@ -29,9 +30,8 @@ use Rattle.module_player.specs.declared.turn.TurnOutcome.{TurnOutcome}
 use Rattle.module_player.specs.declared.turn.TurnOutcome.TheVariants as next
 use Rattle.module_player.specs.Answers.{IsLastEnd}
 use Rattle.module_player.specs.Cuts.{IsCutAt, IsCutIn, IsDivided, IsRunCut, WhereCut, WhereCutIn, Unbegun, Inside, Over, Told, In}
-use Rattle.module_player.specs.CodePlays.{code_runner, ending_of, run_of}
+use Rattle.module_player.specs.CodePlays.{code_runner, ending_of, run_of, runner_in}
 use Rattle.module_player.specs.Entries.{HasRun, ending, turn_taken}
-use Rattle.module_player.specs.Scenes.{Scene, host_in, runner_in, scripts_in}
 use Rattle.module_player.proofs.Entering.{event_is, runner_stored}
 
 -- ---- runs
@@ -125,7 +125,7 @@ divides runs.ZeroDivisor self (ended.Divided o) d is = refl
 divides runs.OutOfInstructions self (ended.Divided o) d is = absurd cc
 divides runs.StackFault self (ended.Divided o) d is = absurd cc
 
-pub division_cut : (s : Scene) (limit script o : ℕ) (begin : Begin) (told : Ended) (n : ℕ) (w u v : World Saved)
+pub division_cut : (s : CodeSetting) (limit script o : ℕ) (begin : Begin) (told : Ended) (n : ℕ) (w u v : World Saved)
     → HasRun s limit told n (run_of (run_from (host_in s) limit script begin o w)) w u → IsDivided told → v ≡ u
     → IsRunCut (λ m. run_of (run_from (host_in s) m script begin o w)) v
 division_cut s limit script o begin told n w u v h d is =
@@ -162,21 +162,21 @@ cut_behind comes limit w u v stopped first (Inside n halted is) = Inside n halte
 cut_behind comes limit w u v stopped first (Over is) = Over is
 cut_behind comes limit w u v stopped first (Told is) = Told is
 
-pub event_cut : (s : Scene) (limit o n : ℕ) (name : List ℕ) (w v : World Saved) → (length name == 0) ≡ false → script_named (scripts_in s) name ≡ Some n
+pub event_cut : (s : CodeSetting) (limit o n : ℕ) (name : List ℕ) (w v : World Saved) → (length name == 0) ≡ false → script_named (scripts_in s) name ≡ Some n
     → IsCutIn (λ m. finished (λ x. x) (run_of (run_from (host_in s) m n begins.Start o w))) limit w v
     → IsCutIn (λ m. event_entry (runner_in s m) o name w) limit w v
 event_cut s limit o n name w v some is c =
     cut_alike (λ m. finished (λ x. x) (run_of (run_from (host_in s) m n begins.Start o w))) (λ m. event_entry (runner_in s m) o name w) limit w v
     (λ m. event_is s m o n name w some is) c
 
-pub stored_cut : (s : Scene) (limit o n number : ℕ) (x : Saved) (k : Kind Saved) (w v : World Saved) → k ≡ Stored o x
+pub stored_cut : (s : CodeSetting) (limit o n number : ℕ) (x : Saved) (k : Kind Saved) (w v : World Saved) → k ≡ Stored o x
     → IsCutIn (λ m. finished (λ x. x) (run_of (run_from (host_in s) m n (begins.Stored x) o w))) limit w v
     → IsCutIn (λ m. entered_as (runner_in s m) k number w) limit w v
 stored_cut s limit o n number x k w v kind c =
     cut_alike (λ m. finished (λ x. x) (run_of (run_from (host_in s) m n (begins.Stored x) o w))) (λ m. entered_as (runner_in s m) k number w) limit w v
     (λ m. ap (λ q. entered_as (runner_in s m) q number w) kind ∙ ap (finished (λ x. x)) (runner_stored s m x o w)) c
 
-pub turn_cut : (s : Scene) (limit o : ℕ) (x : Saved) (w u v : World Saved) → record { action = Some x; world = u } ≡ turn o w
+pub turn_cut : (s : CodeSetting) (limit o : ℕ) (x : Saved) (w u v : World Saved) → record { action = Some x; world = u } ≡ turn o w
     → IsCutIn (λ m. finished (turn_done o) (run_of (run_stored (host_in s) m x o u))) limit u v
     → IsCutIn (λ m. turn_taken (runner_in s m) o w) limit w v
 turn_cut s limit o x w u v is c =
@@ -192,31 +192,31 @@ pub on_err : {A E : Type 0} (r : Result A E) (fact : Type 0) → fact → OnErr 
 on_err (Ok a) fact f = tt
 on_err (Err e) fact f = f
 
-pub listed_cut : (s : Scene) (limit o n : ℕ) (name : List ℕ) (r : Result EnteredTold NoMemory) (w v : World Saved) → (length name == 0) ≡ false
+pub listed_cut : (s : CodeSetting) (limit o n : ℕ) (name : List ℕ) (r : Result EnteredTold NoMemory) (w v : World Saved) → (length name == 0) ≡ false
     → script_named (scripts_in s) name ≡ Some n
     → OnErr r (IsCutIn (λ m. finished (λ x. x) (run_of (run_from (host_in s) m n begins.Start o w))) limit w v)
     → OnErr r (IsCutIn (λ m. event_entry (runner_in s m) o name w) limit w v)
 listed_cut s limit o n name (Ok e) w v some is c = tt
 listed_cut s limit o n name (Err e) w v some is c = event_cut s limit o n name w v some is c
 
-pub acted_cut : (s : Scene) (limit o : ℕ) (x : Saved) (r : Result EnteredTold NoMemory) (w u v : World Saved) → record { action = Some x; world = u } ≡ turn o w
+pub acted_cut : (s : CodeSetting) (limit o : ℕ) (x : Saved) (r : Result EnteredTold NoMemory) (w u v : World Saved) → record { action = Some x; world = u } ≡ turn o w
     → OnErr r (IsCutIn (λ m. finished (turn_done o) (run_of (run_stored (host_in s) m x o u))) limit u v)
     → OnErr r (IsCutIn (λ m. turn_taken (runner_in s m) o w) limit w v)
 acted_cut s limit o x (Ok e) w u v is c = tt
 acted_cut s limit o x (Err e) w u v is c = turn_cut s limit o x w u v is c
 
-pub stored_entry_cut : (s : Scene) (limit o n number : ℕ) (x : Saved) (k : Kind Saved) (r : Result EnteredTold NoMemory) (w v : World Saved) → k ≡ Stored o x
+pub stored_entry_cut : (s : CodeSetting) (limit o n number : ℕ) (x : Saved) (k : Kind Saved) (r : Result EnteredTold NoMemory) (w v : World Saved) → k ≡ Stored o x
     → OnErr r (IsCutIn (λ m. finished (λ x. x) (run_of (run_from (host_in s) m n (begins.Stored x) o w))) limit w v)
     → OnErr r (IsCutIn (λ m. entered_as (runner_in s m) k number w) limit w v)
 stored_entry_cut s limit o n number x k (Ok e) w v kind c = tt
 stored_entry_cut s limit o n number x k (Err e) w v kind c = stored_cut s limit o n number x k w v kind c
 
-pub event_entry_cut : (s : Scene) (limit o number : ℕ) (name : List ℕ) (user : ℤ) (k : Kind Saved) (r : Result EnteredTold NoMemory) (w v : World Saved)
+pub event_entry_cut : (s : CodeSetting) (limit o number : ℕ) (name : List ℕ) (user : ℤ) (k : Kind Saved) (r : Result EnteredTold NoMemory) (w v : World Saved)
     → k ≡ Event o name user → OnErr r (IsCutIn (λ m. event_entry (runner_in s m) o name w) limit w v)
     → OnErr r (IsCutIn (λ m. entered_as (runner_in s m) k number w) limit w v)
 event_entry_cut s limit o number name user k r w v kind c = subst (λ q. OnErr r (IsCutIn (λ m. entered_as (runner_in s m) q number w) limit w v)) (sym kind) c
 
-pub turn_entry_cut : (s : Scene) (limit o number : ℕ) (k : Kind Saved) (r : Result EnteredTold NoMemory) (w v : World Saved) → k ≡ Turn o
+pub turn_entry_cut : (s : CodeSetting) (limit o number : ℕ) (k : Kind Saved) (r : Result EnteredTold NoMemory) (w v : World Saved) → k ≡ Turn o
     → OnErr r (IsCutIn (λ m. turn_taken (runner_in s m) o w) limit w v) → OnErr r (IsCutIn (λ m. entered_as (runner_in s m) k number w) limit w v)
 turn_entry_cut s limit o number k r w v kind c = subst (λ q. OnErr r (IsCutIn (λ m. entered_as (runner_in s m) q number w) limit w v)) (sym kind) c
 

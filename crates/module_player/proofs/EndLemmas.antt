@@ -1,13 +1,11 @@
 -- The text at a play's end, turn by turn of the loops that put it.
-use Rattle.std.proofs.Common.{arith, ◌≡◌, ◌<◌, ◌≤◌, ◌+◌, ℕ, suc, List, [], ◌∷◌, ◌++◌, drop, length, Option, None, Some, ⊎_elim, sym, subst, ap, ◌∙◌, refl, append_assoc, length-append, drop-cons, add-one}
+use Rattle.std.proofs.Common.{arith, ◌≡◌, ◌<◌, ◌≤◌, ◌+◌, ℕ, suc, List, [], ◌∷◌, ◌++◌, drop, length, None, Some, ⊎_elim, sym, subst, ap, ◌∙◌, refl, append_assoc, length-append, drop-cons, add-one}
 use Rattle.std.specs.Prelude.{slice_get}
 use Rattle.std.specs.List.{flat_map}
-use Rattle.std.specs.Option.{option_map}
 use Rattle.std.proofs.lemmas.List.{drop_all}
 use Rattle.std.proofs.lemmas.Option.{slice_get_within, get_or_from_slice_get, slice_get_cases}
 use Rattle.action_queue.specs.declared.queue.Item.{Item}
 use Rattle.delay_agenda.specs.declared.entry.Entry.{Entry}
-use Rattle.nwq_value.specs.Effect.{Effect}
 use Rattle.saved_state.specs.declared.saved.Saved.{Saved}
 use Rattle.world_rules.specs.declared.data.Stood.{Stood}
 use Rattle.world_rules.specs.declared.data.Things.{Things}

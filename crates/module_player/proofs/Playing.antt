@@ -16,14 +16,14 @@ use Rattle.world_rules.specs.Turns.{Begun, begin, entry_begun, drained, user_num
 use Rattle.world_rules.specs.World.{World}
 use Rattle.world_rules.specs.Plays as plays
 use Rattle.world_rules.specs.Plays.{Runner, Bounds, Progress, Played, Entered, after_entry, entry_entered, full, further, next_entry, play_on, plays as plays_from}
+use Rattle.ncs_machine.specs.Settings.{CodeSetting, FitIn, host_in}
 use Rattle.module_player.specs.declared.turn.TurnOutcome.TheVariants.{Goes, Stops, Rests}
 use Rattle.module_player.specs.declared.played.How.{How}
 use Rattle.module_player.specs.declared.played.How.TheVariants as how
 use Rattle.module_player.specs.declared.played.Played.{Played as Answer}
 use Rattle.module_player.specs.Answers.{HasPlayed, IsLastEnd}
 use Rattle.module_player.specs.Cuts.{IsCutAt, IsCutShort, cut_lines}
-use Rattle.module_player.specs.CodePlays.{played_before}
-use Rattle.module_player.specs.Scenes.{Scene, FitIn, host_in, runner_in}
+use Rattle.module_player.specs.CodePlays.{played_before, runner_in}
 use Rattle.module_player.specs.Turns.{IsInside, IsTaken, Turns, lines_of}
 use Rattle.module_player.proofs.Pausing.{further_on, paused}
 
@@ -73,7 +73,7 @@ module _ (runner : Runner Saved) (bounds : Bounds) where
 
 -- ---- what was played so far
 
-pub record SoFar (s : Scene) (limit : ℕ) (bounds : Bounds) (first : Progress Saved) (tells : Bool) (t0 t : List ℕ) (f0 f number count : ℕ) (w : World Saved) : Type 0 where
+pub record SoFar (s : CodeSetting) (limit : ℕ) (bounds : Bounds) (first : Progress Saved) (tells : Bool) (t0 t : List ℕ) (f0 f number count : ℕ) (w : World Saved) : Type 0 where
   pub lines : List Line
   pub same : plays_from (runner_in s limit) bounds (bounds.stop - number) (record { entries = number; count = count; trace = lines; world = w }) ≡ play_on (runner_in s limit) bounds first
   pub text : IsTrue tells → t ≡ t0 ++ trace_text lines
@@ -90,7 +90,7 @@ pub record SoFar (s : Scene) (limit : ℕ) (bounds : Bounds) (first : Progress S
   pub finished : (stop : ℕ) → plays_from (runner_in s limit) (record { entries = bounds.entries; until = bounds.until; stop = stop }) (number - first.entries) first
       ≡ paused (record { entries = number; count = count; trace = lines; world = w })
 
-module _ (s : Scene) (limit : ℕ) (bounds : Bounds) (first : Progress Saved) where
+module _ (s : CodeSetting) (limit : ℕ) (bounds : Bounds) (first : Progress Saved) where
   abbrev Run : Runner Saved
   Run = runner_in s limit
 
@@ -405,7 +405,7 @@ module _ (s : Scene) (limit : ℕ) (bounds : Bounds) (first : Progress Saved) wh
         subst (λ (q : Played Saved). TookPrefix (cut_lines (host_in s) limit bounds.until q) (t0 ++ trace_text q.last.trace) t') is
         (subst (λ y. TookPrefix (trace_text More) y t') (x.text can) (told can))
 
-pub play_begins : (s : Scene) (limit : ℕ) (bounds : Bounds) (taken done : ℕ) (w : World Saved) (tells : Bool) (t : List ℕ) (f : ℕ)
+pub play_begins : (s : CodeSetting) (limit : ℕ) (bounds : Bounds) (taken done : ℕ) (w : World Saved) (tells : Bool) (t : List ℕ) (f : ℕ)
     → FitIn s w → w.trace ≡ [] → taken ≤ bounds.entries → w.agenda.next < 2 ^ 61 → done < 2 ^ 61
     → SoFar s limit bounds (played_before taken done w) tells t t f f taken done w
 unfolding trace_text

@@ -6,6 +6,7 @@ use Rattle.machine_rules.specs.Runs as runs
 use Rattle.world_rules.specs.World.{World}
 use Rattle.ncs_machine.specs.Endings.{IsLeft, IsRunOf}
 use Rattle.ncs_machine.specs.Host.{run_from}
+use Rattle.ncs_machine.specs.Settings.{CodeSetting, FitIn, host_in, scripts_in, tables_in}
 use Rattle.ncs_machine.specs.declared.scripts.Begin.{Begin}
 use Rattle.ncs_machine.specs.declared.scripts.Begin.TheVariants.{Start, Stored}
 use Rattle.ncs_machine.specs.declared.entry.Ran.{Ran}
@@ -13,7 +14,6 @@ use Rattle.ncs_machine.specs.declared.entry.Ran.TheVariants as ran
 use Rattle.module_player.specs.declared.scripts.Ended.TheVariants.{Over, Divided, Stopped}
 use Rattle.module_player.specs.CodePlays.{ending_of, run_of}
 use Rattle.module_player.specs.Entries.{HasRun}
-use Rattle.module_player.specs.Scenes.{Scene, FitIn, host_in, scripts_in, tables_in}
 
 -- ---- a run takes no more instructions than it may
 
@@ -29,7 +29,7 @@ module _ {W : Type 0} (h : Host W) where
   run_within zero s = omega arith
   run_within (suc limit) s = step_within (step h s) s limit (runs.run h limit) (run_within limit)
 
-entry_within : (s : Scene) (limit script o : ℕ) (begin : Begin) (w : World Saved) → (run_from (host_in s) limit script begin o w).count ≤ limit
+entry_within : (s : CodeSetting) (limit script o : ℕ) (begin : Begin) (w : World Saved) → (run_from (host_in s) limit script begin o w).count ≤ limit
 entry_within s limit script o Start w = run_within (host_in s) limit _
 entry_within s limit script o (Stored x) w = run_within (host_in s) limit _
 
@@ -48,7 +48,7 @@ told_is : (r : runs.Ran (World Saved)) (ending : runs.Ending) (n self : ℕ) (v 
     → run_of r ≡ record { ending = ending_of ending self; count = n; world = v }
 told_is r ending n self v a b c d = rw (b, c, d) (ap (λ e. record { ending = ending_of e r.last.running.self; count = r.count; world = r.last.world }) a)
 
-module _ (s : Scene) (limit script o : ℕ) (begin : Begin) (n self : ℕ) (w v : World Saved) where
+module _ (s : CodeSetting) (limit script o : ℕ) (begin : Begin) (n self : ℕ) (w v : World Saved) where
   abbrev Told : Ran → Type 0
   Told answer = IsRunOf answer n self (run_from (host_in s) limit script begin o w) (scripts_in s) (tables_in s) w v
 

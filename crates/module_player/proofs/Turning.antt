@@ -2,23 +2,24 @@
 use Rattle.std.proofs.Common.{arith, ◌≡◌, ◌≤◌, ◌<◌, ◌+◌, ℕ, Bool, true, false, List, [], ◌∷◌, ◌++◌, Option, None, Some, sym, subst, ap, ◌∙◌, refl}
 use Rattle.std.specs.Prelude.{◌^◌}
 use Rattle.delay_agenda.specs.declared.entry.Entry.{Entry}
-use Rattle.delay_agenda.specs.declared.entry.Kind.TheVariants.{Turn}
 use Rattle.nwq_outside.specs.Outside.{Takes as TakesPiece, TookPrefix}
 use Rattle.nwq_outside.specs.declared.answer.Done.TheVariants as done
 use Rattle.nwq_value.specs.Limits.{time_limit}
 use Rattle.saved_state.specs.declared.saved.Saved.{Saved}
-use Rattle.world_rules.specs.Kept.{IsActing, IsBegun, IsPlaced}
+use Rattle.world_rules.specs.Kept.{IsBegun, IsPlaced}
 use Rattle.world_rules.specs.Trace.{trace_text}
 use Rattle.world_rules.specs.Turns.{Begun, begin, drained}
-use Rattle.world_rules.specs.World.{World, count as object_count}
+use Rattle.world_rules.specs.World.{World}
 use Rattle.world_rules.specs.Plays as plays
 use Rattle.world_rules.specs.Plays.{entered_as}
-use Rattle.ncs_machine.specs.Stored.{BeginKeepsFits, BegunFits, KindFits}
+use Rattle.ncs_machine.specs.Settings.{CodeSetting, FitIn, scripts_in, tables_in}
+use Rattle.ncs_machine.specs.Stored.{BeginKeepsFits, BegunFits}
 use Rattle.module_player.specs.declared.entry.Entered.{Entered}
 use Rattle.module_player.specs.declared.turn.TurnOutcome.{TurnOutcome}
 use Rattle.module_player.specs.declared.turn.TurnOutcome.TheVariants.{Goes, Stops, Rests, Fault, NoMemory}
-use Rattle.module_player.specs.Entries.{HasEntered, CanRunEntry}
-use Rattle.module_player.specs.Scenes.{Scene, FitIn, runner_in, scripts_in, tables_in}
+use Rattle.module_player.specs.Entries.{HasEntered}
+use Rattle.module_player.specs.Premises.{IsReady, MayTake}
+use Rattle.module_player.specs.CodePlays.{runner_in}
 use Rattle.module_player.specs.Turns.{IsInside, IsTaken, Takes, TakesText, Turns, lines_of}
 
 -- ---- prefixes
@@ -41,7 +42,7 @@ put_none text t t' none same = same ∙ appended_none t ∙ ap (λ xs. t ++ xs) 
 
 -- ---- an entry that was taken
 
-module _ (s : Scene) (limit : ℕ) (e : Entered) (p : plays.Entered Saved) (w u v : World Saved) where
+module _ (s : CodeSetting) (limit : ℕ) (e : Entered) (p : plays.Entered Saved) (w u v : World Saved) where
   abbrev TakenAs : Bool → Type 0
   TakenAs stopped = IsTaken stopped e.count p v × IsInside s limit e.count w v
 
@@ -71,30 +72,28 @@ module _ (s : Scene) (limit : ℕ) (e : Entered) (p : plays.Entered Saved) (w u 
 -- ---- an entry that is begun
 
 -- what is asked before it is taken
-pub record CanTake (s : Scene) (e : Entry Saved) (w : World Saved) : Type 0 where
-  pub ready : CanRunEntry w
-  pub fit : FitIn s w
-  pub placed : IsPlaced (object_count w) e.kind
-  pub acting : (o : ℕ) → e.kind ≡ Turn o → IsActing o w
-  pub stored : KindFits (scripts_in s) (tables_in s) e.kind
+module _ (s : CodeSetting) (until : ℕ) (e : Entry Saved) (w u : World Saved) where
+  begun_fits : BeginKeepsFits → FitIn s w → begin until w ≡ Some (record { entry = e; world = u }) → BegunFits (scripts_in s) (tables_in s) (Some (record { entry = e; world = u }))
+  begun_fits keeps f is = subst (BegunFits (scripts_in s) (tables_in s)) is (keeps (scripts_in s) (tables_in s) until w f)
 
-pub can_take : (s : Scene) (until : ℕ) (e : Entry Saved) (w u : World Saved) → BeginKeepsFits → FitIn s w → w.agenda.next + 1 < 2 ^ 62 → until ≤ time_limit
-    → begin until w ≡ Some (record { entry = e; world = u }) → IsBegun until w (record { entry = e; world = u }) → CanTake s e u
-can_take s until e w u keeps f next less is b =
-    let fits = subst (BegunFits (scripts_in s) (tables_in s)) is (keeps (scripts_in s) (tables_in s) until w f) in
-    record {
-      ready = record {
-        clock = let k = b.clock in let m = b.due in omega arith;
-        next = let k = b.next in omega arith;
-      };
-      fit = fits.1;
-      placed = subst (λ n. IsPlaced n e.kind) (sym b.objects) b.placed;
-      acting = b.acting;
-      stored = fits.0;
-    }
+  pub is_ready : (room : ℕ) → BeginKeepsFits → FitIn s w → w.agenda.next + 1 < 2 ^ 62 → until ≤ time_limit
+      → begin until w ≡ Some (record { entry = e; world = u }) → IsBegun until w (record { entry = e; world = u }) → 1 ≤ room → IsReady s 1 u room
+  is_ready room keeps f next less is b some = record {
+    fit = (begun_fits keeps f is).1;
+    clock = let k = b.clock in let m = b.due in omega arith;
+    next = let k = b.next in omega arith;
+    room = some;
+  }
+
+  pub may_take : BeginKeepsFits → FitIn s w → begin until w ≡ Some (record { entry = e; world = u }) → IsBegun until w (record { entry = e; world = u }) → MayTake s e.kind u
+  may_take keeps f is b = record {
+    placed = subst (λ n. IsPlaced n e.kind) (sym b.objects) b.placed;
+    acting = b.acting;
+    stored = (begun_fits keeps f is).0;
+  }
 
 -- the turn is that entry
-module _ (s : Scene) (limit : ℕ) (b : Option (Begun Saved)) (e : Entry Saved) (w u v : World Saved) where
+module _ (s : CodeSetting) (limit : ℕ) (b : Option (Begun Saved)) (e : Entry Saved) (w u v : World Saved) where
   inside_from : (n : ℕ) → u.agenda.next ≡ w.agenda.next → IsInside s limit n u v → IsInside s limit n w v
   inside_from n same h = record { within = h.within; fit = h.fit; few = let k = h.few in omega arith }
 
@@ -111,11 +110,11 @@ module _ (s : Scene) (limit : ℕ) (b : Option (Begun Saved)) (e : Entry Saved) 
       → TakesText next (trace_text (lines_of (runner_in s limit) b)) t t'
   turn_text next t t' is h = subst (λ x. TakesText next (trace_text (lines_of (runner_in s limit) x)) t t') (sym is) h
 
-pub turn_rests : (s : Scene) (limit : ℕ) (b : Option (Begun Saved)) (w v : World Saved) → b ≡ None → v ≡ w → Turns Rests s limit (runner_in s limit) b w v
+pub turn_rests : (s : CodeSetting) (limit : ℕ) (b : Option (Begun Saved)) (w v : World Saved) → b ≡ None → v ≡ w → Turns Rests s limit (runner_in s limit) b w v
 turn_rests s limit b w v none same = subst (λ x. Turns Rests s limit (runner_in s limit) x w v) (sym none) same
 
 pub ruleset put_lemmas = (took_none, drained_empty, put_none)
 
 pub ruleset take_lemmas = (took_none, goes_taken, stops_taken, text_is)
 
-pub ruleset turn_lemmas = (took_none, can_take, turn_goes, turn_text, turn_rests)
+pub ruleset turn_lemmas = (took_none, is_ready, may_take, turn_goes, turn_text, turn_rests)

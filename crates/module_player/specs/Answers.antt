@@ -6,9 +6,9 @@ use Rattle.world_rules.specs.Trace.{trace_text}
 use Rattle.world_rules.specs.World.{World}
 use Rattle.world_rules.specs.Plays as plays
 use Rattle.world_rules.specs.Plays.{PlayEnd, Progress}
+use Rattle.ncs_machine.specs.Settings.{CodeSetting, FitIn}
 use Rattle.module_player.specs.declared.played.How.{How}
 use Rattle.module_player.specs.declared.played.Played.{Played}
-use Rattle.module_player.specs.Scenes.{Scene, FitIn}
 use Rattle.module_player.specs.declared.played.How.TheVariants.{Done, InstrStop, EntryStop, Pause, Fault, NoMemory}
 
 -- how the play ends
@@ -48,7 +48,8 @@ CountsPlay Fault before now = Rises before now
 CountsPlay NoMemory before now = now ≡ before
 
 -- An answer tells of this play, which went on from there and led to this world.
-pub record IsPlayed (s : Scene) (answer : Played) (first : Progress Saved) (p : plays.Played Saved)
+pub record IsPlayed (s : CodeSetting) (answer : Played) (first : Progress Saved)
+    (p : plays.Played Saved)
     (v : World Saved) : Type 0 where
   pub ending : EndsAs answer.how p.ending
   pub entries : WherePlayed answer.how (answer.entries ≡ p.last.entries)
@@ -61,7 +62,8 @@ pub record IsPlayed (s : Scene) (answer : Played) (first : Progress Saved) (p : 
   pub executed : WherePlayed answer.how (answer.instructions ≤ first.count + 2 ^ 45)
 
 -- the same with what a sink took, and its faults
-pub record HasPlayed (s : Scene) (answer : Played) (first : Progress Saved) (p : plays.Played Saved)
+pub record HasPlayed (s : CodeSetting) (answer : Played) (first : Progress Saved)
+    (p : plays.Played Saved)
     (tells : Bool) (before after : List ℕ) (faults now : ℕ) (v : World Saved) : Type 0 where
   pub played : IsPlayed s answer first p v
   pub text : IsTrue tells → TakesTrace answer.how (trace_text p.last.trace) before after

@@ -10,6 +10,8 @@ use Rattle.world_rules.specs.Plays.{Ending, Over, Divided, Stopped, Run, Runner,
 use Rattle.world_rules.specs.EndText.{end_text}
 use Rattle.ncs_machine.specs.declared.scripts.Loaded.{Loaded}
 use Rattle.ncs_machine.specs.Host.{engine_view, host, scripts_of}
+use Rattle.ncs_machine.specs.Settings.{CodeSetting, host_in}
+use Rattle.module_player.specs.declared.limits.PlayLimits.{PlayLimits}
 
 -- what listed scripts run in under a header
 abbrev pub host_of : List Loaded → EngineTable → List Known → Host (World Saved)
@@ -39,6 +41,9 @@ code_runner host limit = record {
   stored = λ saved self w. run_of (runs.run_stored host limit saved self w);
 }
 
+abbrev pub runner_in : CodeSetting → ℕ → Runner Saved
+runner_in s limit = code_runner (host_in s) limit
+
 -- the play of files from a world on: at most so many instructions in an entry, so many entries, and
 -- those that are due by this time
 abbrev pub code_play : Host (World Saved) → ℕ → ℕ → ℕ → World Saved → Played Saved
@@ -54,6 +59,16 @@ abbrev pub code_play_on : Host (World Saved) → ℕ → ℕ → ℕ → ℕ →
 code_play_on host limit entries until stop taken done w =
     play_on (code_runner host limit) (record { entries = entries; until = until; stop = stop })
     (played_before taken done w)
+
+-- ---- the same in a setting, within limits
+
+abbrev pub played_in : CodeSetting → PlayLimits → World Saved → Played Saved
+played_in s limits w =
+    code_play (host_in s) limits.instructions limits.entries limits.until w
+
+abbrev pub played_on_in : CodeSetting → PlayLimits → ℕ → ℕ → ℕ → World Saved → Played Saved
+played_on_in s limits stop taken done w =
+    code_play_on (host_in s) limits.instructions limits.entries limits.until stop taken done w
 
 -- ---- the text at its end
 

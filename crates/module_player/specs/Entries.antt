@@ -1,5 +1,5 @@
 -- What is told of an entry's scripts, and of an entry.
-use Rattle.std.specs.Prelude.{◌≡◌, ◌≤◌, ◌<◌, ◌+◌, ◌^◌, ℕ, List}
+use Rattle.std.specs.Prelude.{◌≡◌, ◌≤◌, ◌+◌, ℕ, List}
 use Rattle.machine_rules.specs.Machine.{Script}
 use Rattle.stack_rules.specs.Fits.{Tables}
 use Rattle.saved_state.specs.declared.saved.Saved.{Saved}
@@ -8,11 +8,11 @@ use Rattle.world_rules.specs.Turns.{turn}
 use Rattle.world_rules.specs.Plays as plays
 use Rattle.world_rules.specs.Plays.{Ending, Run, Runner, turn_entry}
 use Rattle.ncs_machine.specs.Endings.{IsLeft}
+use Rattle.ncs_machine.specs.Settings.{CodeSetting, FitIn}
 use Rattle.ncs_machine.specs.Stored.{StatesFit}
 use Rattle.module_player.specs.declared.scripts.Ended.{Ended}
 use Rattle.module_player.specs.declared.scripts.Ended.TheVariants.{Over, Divided, Stopped}
 use Rattle.module_player.specs.declared.entry.Entered.{Entered}
-use Rattle.module_player.specs.Scenes.{Scene, FitIn}
 
 abbrev pub ending : Ended → Ending
 ending Over = plays.Over
@@ -24,7 +24,7 @@ abbrev pub run_with_ending : Ended → ℕ → World Saved → Run Saved
 run_with_ending ended count w = record { ending = ending ended; count = count; world = w }
 
 -- Scripts ran from the one world to the other: how they ended, and after how many instructions.
-pub record HasRun (s : Scene) (limit : ℕ) (ended : Ended) (count : ℕ) (r : Run Saved)
+pub record HasRun (s : CodeSetting) (limit : ℕ) (ended : Ended) (count : ℕ) (r : Run Saved)
     (w v : World Saved) : Type 0 where
   pub is : r ≡ run_with_ending ended count v
   pub within : count ≤ limit
@@ -42,7 +42,7 @@ KeepsFits w v = (scripts : List Script) (tables : Tables) → StatesFit scripts 
     → StatesFit scripts tables v
 
 -- An entry led from the one world to the other, and posted so many entries at most.
-pub record Comes (s : Scene) (limit : ℕ) (posts : ℕ) (e : Entered) (p : plays.Entered Saved)
+pub record Comes (s : CodeSetting) (limit : ℕ) (posts : ℕ) (e : Entered) (p : plays.Entered Saved)
     (w v : World Saved) : Type 0 where
   pub is : p ≡ as_entered e v
   pub within : e.count ≤ limit
@@ -50,19 +50,15 @@ pub record Comes (s : Scene) (limit : ℕ) (posts : ℕ) (e : Entered) (p : play
   pub few : v.agenda.next ≤ w.agenda.next + posts
 
 -- a Turn's action: an entry for each instruction, and the next Turn
-abbrev pub HasActed : Scene → ℕ → Entered → plays.Entered Saved → World Saved → World Saved → Type 0
+abbrev pub HasActed : CodeSetting → ℕ → Entered → plays.Entered Saved → World Saved → World Saved
+    → Type 0
 HasActed s limit e p w v = Comes s limit (limit + 1) e p w v
 
 -- and an entry for what a Turn posts before
-abbrev pub HasEntered : Scene → ℕ → Entered → plays.Entered Saved → World Saved → World Saved
+abbrev pub HasEntered : CodeSetting → ℕ → Entered → plays.Entered Saved → World Saved → World Saved
     → Type 0
 HasEntered s limit e p w v = Comes s limit (limit + 2) e p w v
 
 -- a Turn of an object
 abbrev pub turn_taken : Runner Saved → ℕ → World Saved → plays.Entered Saved
 turn_taken runner o w = turn_entry runner o (turn o w).action (turn o w).world
-
--- the clock and the number of the next post are so small that an entry can run
-pub record CanRunEntry (w : World Saved) : Type 0 where
-  pub clock : w.clock < 2 ^ 62
-  pub next : w.agenda.next + 1 < 2 ^ 62

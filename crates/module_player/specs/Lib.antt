@@ -1,5 +1,6 @@
 pub mod CodePlays
-pub mod Scenes
+pub mod Limits
+pub mod Premises
 pub mod Entries
 pub mod Turns
 pub mod Answers

@@ -7,9 +7,9 @@ use Rattle.world_rules.specs.Trace.{trace_text}
 use Rattle.world_rules.specs.World.{World}
 use Rattle.world_rules.specs.Turns.{Begun, drained}
 use Rattle.world_rules.specs.Plays.{Entered, Runner, entry_entered}
+use Rattle.ncs_machine.specs.Settings.{CodeSetting, FitIn}
 use Rattle.module_player.specs.declared.turn.TurnOutcome.{TurnOutcome}
 use Rattle.module_player.specs.declared.turn.TurnOutcome.TheVariants.{Goes, Stops, Rests, Fault, NoMemory}
-use Rattle.module_player.specs.Scenes.{Scene, FitIn}
 
 -- ---- an entry that was taken, and its lines
 
@@ -20,13 +20,14 @@ pub record IsTaken (ending : Bool) (n : ℕ) (e : Entered Saved) (v : World Save
   pub world : v ≡ drained e.world
 
 -- what keeps a play inside its bounds
-pub record IsInside (s : Scene) (limit n : ℕ) (w v : World Saved) : Type 0 where
+pub record IsInside (s : CodeSetting) (limit n : ℕ) (w v : World Saved) : Type 0 where
   pub within : n ≤ limit
   pub fit : FitIn s v
   pub few : v.agenda.next ≤ w.agenda.next + (limit + 2)
 
 -- what an answer tells of the entry that is due
-abbrev pub Takes : TurnOutcome → Scene → ℕ → Entered Saved → World Saved → World Saved → Type 0
+abbrev pub Takes : TurnOutcome → CodeSetting → ℕ → Entered Saved → World Saved → World Saved
+    → Type 0
 Takes (Goes n) s limit e w v = IsTaken false n e v × IsInside s limit n w v
 Takes (Stops n) s limit e w v = IsTaken true n e v × IsInside s limit n w v
 Takes Rests s limit e w v = ⊥
@@ -61,7 +62,7 @@ lines_of runner None = []
 lines_of runner (Some b) = (entry_entered runner b).world.trace
 
 -- what an answer tells of a turn
-abbrev pub Turns : TurnOutcome → Scene → ℕ → Runner Saved → Option (Begun Saved) → World Saved
+abbrev pub Turns : TurnOutcome → CodeSetting → ℕ → Runner Saved → Option (Begun Saved) → World Saved
     → World Saved → Type 0
 Turns Rests s limit runner None w v = v ≡ w
 Turns Rests s limit runner (Some b) w v = ⊥

@@ -1,28 +1,26 @@
 //! One agenda entry.
-ghost use Rattle.std.specs.Prelude.{◌≡◌, ◌≤◌, ◌<◌, ◌+◌, ◌^◌, ℕ, IfOk, OnErr, OnOk, false};
-ghost use Rattle.std.specs.Prelude.{length, map};
-ghost use Rattle.delay_agenda.specs.declared.entry.Kind.TheVariants as kind;
-ghost use Rattle.nwq_value.specs.Limits.{instruction_limit};
+ghost use Rattle.std.specs.Prelude.{◌≡◌, ◌≤◌, ◌+◌, ℕ, IfOk, OnErr, OnOk, false};
 ghost use Rattle.stack_rules.specs.Fits.{FitsOne};
-ghost use Rattle.world_rules.specs.Kept.{IsActing, IsPlaced};
+ghost use Rattle.world_core.specs.Calls.{IsEarly};
 ghost use Rattle.world_rules.specs.Turns.{turn_done, unapply};
 ghost use Rattle.world_rules.specs.World.{count as object_count};
 ghost use Rattle.machine_rules.specs.Runs.{run_stored};
 ghost use Rattle.world_rules.specs.Plays.{entered_as, event_entry, finished, turn_entry};
-ghost use Rattle.ncs_machine.specs.Endings.{FitsBegin};
+ghost use Rattle.ncs_machine.specs.Begins.{MayBegin};
 ghost use Rattle.ncs_machine.specs.Host.{run_from};
-ghost use Rattle.ncs_machine.specs.Stored.{KindFits};
-ghost use Rattle.module_player.specs.CodePlays.{run_of};
+ghost use Rattle.ncs_machine.specs.InSetting.{seen};
+ghost use Rattle.ncs_machine.specs.Settings.{host_in, scripts_in, tables_in};
+ghost use Rattle.module_player.specs.CodePlays.{run_of, runner_in};
 ghost use Rattle.module_player.specs.Cuts.{IsCutIn, IsDivided};
-ghost use Rattle.module_player.specs.Entries.{HasActed, HasEntered, CanRunEntry, KeepsFits};
+ghost use Rattle.module_player.specs.Entries.{HasActed, HasEntered, KeepsFits};
 ghost use Rattle.module_player.specs.Entries.{run_with_ending};
 ghost use Rattle.module_player.specs.Entries.{turn_taken};
-ghost use Rattle.module_player.specs.Scenes.{FitIn, IsSet, host_in, runner_in};
-ghost use Rattle.module_player.specs.Scenes.{scene, scripts_in, tables_in};
+ghost use Rattle.module_player.specs.Premises.{IsActor, IsReady, MayTake};
 
+use crate::limits::PlayLimits;
 use crate::scripts::{Ended, run_scripts};
 use delay_agenda::{Entry, Kind};
-use ncs_machine::{Begin, PlaySetting, entries_keep_fits, script_named};
+use ncs_machine::{Begin, PlaySetting, entries_keep_fits};
 use nwq_value::{NoMemory, Text};
 use saved_state::Saved;
 use std::alloc::Global;
@@ -65,11 +63,8 @@ fn finish(world: &mut World<Saved>, ended: Ended) -> Result<bool, NoMemory>
 /// The same of a Turn, which is done then, unless it was stopped.
 #[tactic(auto, using(crate::proofs::Entering::turn_lemmas))]
 fn finish_turn(world: &mut World<Saved>, object: u32, ended: Ended) -> Result<bool, NoMemory>
-    requires clock { world.old.world.clock < 2 ^ 62 }
-    requires next { world.old.world.agenda.next < 2 ^ 63 }
-    requires first { 1 ≤ object }
-    requires within { object ≤ object_count world.old.world }
-    requires acting { IsActing object world.old.world }
+    requires early { IsEarly world.old.world }
+    requires actor { IsActor object world.old.world }
     requires room { 1 ≤ world.old.room }
     ensures finished { IfOk result (λ stopped. (n : ℕ) → finished (turn_done object)
         (run_with_ending ended n world.old.world)
@@ -100,37 +95,24 @@ fn finish_turn(world: &mut World<Saved>, object: u32, ended: Ended) -> Result<bo
 #[tactic(auto, using(crate::proofs::Entering::script_entered))]
 fn script_entry(
     alloc: Global,
-    setting: &PlaySetting<'_>,
+    setting: &PlaySetting<'_, '_>,
     world: &mut World<Saved>,
     script: u32,
     begin: Begin,
     object: u32,
-    limit: u64,
+    limits: PlayLimits,
 ) -> Result<Entered, NoMemory>
-    requires set { IsSet (scene setting.now.scripts.now setting.now.table.now (map (λ h. h.known)
-        setting.now.hooks.now.all.items)) }
-    requires listed { script < length setting.now.scripts.now }
-    requires stored { FitsBegin (scripts_in (scene setting.now.scripts.now setting.now.table.now
-        (map (λ h. h.known) setting.now.hooks.now.all.items))) (tables_in (scene
-        setting.now.scripts.now setting.now.table.now (map (λ h. h.known)
-        setting.now.hooks.now.all.items))) begin }
-    requires limit { limit ≤ instruction_limit }
-    requires ready { CanRunEntry world.old.world }
-    requires fit { FitIn (scene setting.now.scripts.now setting.now.table.now (map (λ h. h.known)
-        setting.now.hooks.now.all.items)) world.old.world }
+    requires begins { MayBegin (seen setting.now) script begin }
+    requires ready { IsReady (seen setting.now) 1 world.old.world world.old.room }
     requires object { object ≤ object_count world.old.world }
-    requires room { 1 ≤ world.old.room }
-    ensures entered { IfOk result (λ e. HasEntered (scene setting.now.scripts.now
-        setting.now.table.now (map (λ h. h.known) setting.now.hooks.now.all.items)) limit e
-        (finished (λ v. v) (run_of (run_from (host_in (scene setting.now.scripts.now
-        setting.now.table.now (map (λ h. h.known) setting.now.hooks.now.all.items))) limit script
+    ensures entered { IfOk result (λ e. HasEntered (seen setting.now) limits.instructions e
+        (finished (λ v. v) (run_of (run_from (host_in (seen setting.now)) limits.instructions script
         begin object world.old.world))) world.old.world world.new.world) }
-    ensures cut { OnErr result (IsCutIn (λ n. finished (λ v. v) (run_of (run_from (host_in (scene
-        setting.now.scripts.now setting.now.table.now (map (λ h. h.known)
-        setting.now.hooks.now.all.items))) n script begin object world.old.world))) limit
+    ensures cut { OnErr result (IsCutIn (λ n. finished (λ v. v) (run_of (run_from
+        (host_in (seen setting.now)) n script begin object world.old.world))) limits.instructions
         world.old.world world.new.world) }
 {
-    let (ended, count) = run_scripts(alloc, setting, world, script, begin, object, limit)?;
+    let (ended, count) = run_scripts(alloc, setting, world, script, begin, object, limits)?;
     let stopped = finish(world, ended)?;
     Ok(Entered { stopped, count })
 }
@@ -139,34 +121,25 @@ fn script_entry(
 #[tactic(auto, using(crate::proofs::Entering::event_lemmas))]
 fn event_entry(
     alloc: Global,
-    setting: &PlaySetting<'_>,
+    setting: &PlaySetting<'_, '_>,
     world: &mut World<Saved>,
     object: u32,
     name: &Text,
-    limit: u64,
+    limits: PlayLimits,
 ) -> Result<Entered, NoMemory>
-    requires set { IsSet (scene setting.now.scripts.now setting.now.table.now (map (λ h. h.known)
-        setting.now.hooks.now.all.items)) }
-    requires limit { limit ≤ instruction_limit }
-    requires ready { CanRunEntry world.old.world }
-    requires fit { FitIn (scene setting.now.scripts.now setting.now.table.now (map (λ h. h.known)
-        setting.now.hooks.now.all.items)) world.old.world }
+    requires ready { IsReady (seen setting.now) 1 world.old.world world.old.room }
     requires object { object ≤ object_count world.old.world }
-    requires room { 1 ≤ world.old.room }
-    ensures entered { IfOk result (λ e. HasEntered (scene setting.now.scripts.now
-        setting.now.table.now (map (λ h. h.known) setting.now.hooks.now.all.items)) limit e
-        (event_entry (runner_in (scene setting.now.scripts.now setting.now.table.now (map (λ h.
-        h.known) setting.now.hooks.now.all.items)) limit) object name.now world.old.world)
-        world.old.world world.new.world) }
-    ensures cut { OnErr result (IsCutIn (λ n. event_entry (runner_in (scene
-        setting.now.scripts.now setting.now.table.now (map (λ h. h.known)
-        setting.now.hooks.now.all.items)) n) object name.now world.old.world) limit
-        world.old.world world.new.world) }
+    ensures entered { IfOk result (λ e. HasEntered (seen setting.now) limits.instructions e
+        (event_entry (runner_in (seen setting.now) limits.instructions) object name.now
+        world.old.world) world.old.world world.new.world) }
+    ensures cut { OnErr result (IsCutIn (λ n. event_entry (runner_in (seen setting.now) n) object
+        name.now world.old.world) limits.instructions world.old.world world.new.world) }
 {
     if name.bytes().is_empty() {
         return Ok(QUIET);
     }
-    match script_named(setting.scripts, name) {
+    setting.code.keeps();
+    match setting.code.named(name) {
         None => {
             world.no_script(object, name)?;
             Ok(QUIET)
@@ -178,7 +151,7 @@ fn event_entry(
             script as u32,
             Begin::Start,
             object,
-            limit,
+            limits,
         ),
     }
 }
@@ -187,40 +160,25 @@ fn event_entry(
 #[tactic(auto, using(crate::proofs::Entering::action_lemmas))]
 fn action_entry(
     alloc: Global,
-    setting: &PlaySetting<'_>,
+    setting: &PlaySetting<'_, '_>,
     world: &mut World<Saved>,
     object: u32,
     saved: Saved,
-    limit: u64,
+    limits: PlayLimits,
 ) -> Result<Entered, NoMemory>
-    requires set { IsSet (scene setting.now.scripts.now setting.now.table.now (map (λ h. h.known)
-        setting.now.hooks.now.all.items)) }
-    requires stored { FitsOne (scripts_in (scene setting.now.scripts.now setting.now.table.now
-        (map (λ h. h.known) setting.now.hooks.now.all.items))) (tables_in (scene
-        setting.now.scripts.now setting.now.table.now (map (λ h. h.known)
-        setting.now.hooks.now.all.items))) saved }
-    requires limit { limit ≤ instruction_limit }
-    requires clock { world.old.world.clock < 2 ^ 62 }
-    requires next { world.old.world.agenda.next < 2 ^ 62 }
-    requires fit { FitIn (scene setting.now.scripts.now setting.now.table.now (map (λ h. h.known)
-        setting.now.hooks.now.all.items)) world.old.world }
-    requires first { 1 ≤ object }
-    requires within { object ≤ object_count world.old.world }
-    requires acting { IsActing object world.old.world }
-    requires room { 1 ≤ world.old.room }
-    ensures entered { IfOk result (λ e. HasActed (scene setting.now.scripts.now
-        setting.now.table.now (map (λ h. h.known) setting.now.hooks.now.all.items)) limit e
-        (finished (turn_done object) (run_of (run_stored (host_in (scene setting.now.scripts.now
-        setting.now.table.now (map (λ h. h.known) setting.now.hooks.now.all.items))) limit saved
-        object world.old.world))) world.old.world world.new.world) }
+    requires stored { FitsOne (scripts_in (seen setting.now)) (tables_in (seen setting.now)) saved }
+    requires ready { IsReady (seen setting.now) 0 world.old.world world.old.room }
+    requires actor { IsActor object world.old.world }
+    ensures entered { IfOk result (λ e. HasActed (seen setting.now) limits.instructions e (finished
+        (turn_done object) (run_of (run_stored (host_in (seen setting.now)) limits.instructions
+        saved object world.old.world))) world.old.world world.new.world) }
     ensures cut { OnErr result (IsCutIn (λ n. finished (turn_done object) (run_of (run_stored
-        (host_in (scene setting.now.scripts.now setting.now.table.now (map (λ h. h.known)
-        setting.now.hooks.now.all.items))) n saved object world.old.world))) limit
+        (host_in (seen setting.now)) n saved object world.old.world))) limits.instructions
         world.old.world world.new.world) }
 {
     let script = saved.script;
     let begin = Begin::Stored(saved);
-    let (ended, count) = run_scripts(alloc, setting, world, script, begin, object, limit)?;
+    let (ended, count) = run_scripts(alloc, setting, world, script, begin, object, limits)?;
     let stopped = finish_turn(world, object, ended)?;
     Ok(Entered { stopped, count })
 }
@@ -229,36 +187,25 @@ fn action_entry(
 #[tactic(auto, using(crate::proofs::Entering::turn_entry_lemmas))]
 fn turn_entry(
     alloc: Global,
-    setting: &PlaySetting<'_>,
+    setting: &PlaySetting<'_, '_>,
     world: &mut World<Saved>,
     object: u32,
-    limit: u64,
+    limits: PlayLimits,
 ) -> Result<Entered, NoMemory>
-    requires set { IsSet (scene setting.now.scripts.now setting.now.table.now (map (λ h. h.known)
-        setting.now.hooks.now.all.items)) }
-    requires limit { limit ≤ instruction_limit }
-    requires ready { CanRunEntry world.old.world }
-    requires fit { FitIn (scene setting.now.scripts.now setting.now.table.now (map (λ h. h.known)
-        setting.now.hooks.now.all.items)) world.old.world }
-    requires first { 1 ≤ object }
-    requires within { object ≤ object_count world.old.world }
-    requires acting { IsActing object world.old.world }
-    requires room { 1 ≤ world.old.room }
-    ensures entered { IfOk result (λ e. HasEntered (scene setting.now.scripts.now
-        setting.now.table.now (map (λ h. h.known) setting.now.hooks.now.all.items)) limit e
-        (turn_taken (runner_in (scene setting.now.scripts.now setting.now.table.now (map (λ h.
-        h.known) setting.now.hooks.now.all.items)) limit) object world.old.world) world.old.world
-        world.new.world) }
-    ensures cut { OnErr result (IsCutIn (λ n. turn_taken (runner_in (scene setting.now.scripts.now
-        setting.now.table.now (map (λ h. h.known) setting.now.hooks.now.all.items)) n) object
-        world.old.world) limit world.old.world world.new.world) }
+    requires ready { IsReady (seen setting.now) 1 world.old.world world.old.room }
+    requires actor { IsActor object world.old.world }
+    ensures entered { IfOk result (λ e. HasEntered (seen setting.now) limits.instructions e
+        (turn_taken (runner_in (seen setting.now) limits.instructions) object world.old.world)
+        world.old.world world.new.world) }
+    ensures cut { OnErr result (IsCutIn (λ n. turn_taken (runner_in (seen setting.now) n) object
+        world.old.world) limits.instructions world.old.world world.new.world) }
 {
     entries_keep_worlds::<Saved>();
     entries_keep_fits();
     world.keeps();
     match world.turn(object)? {
         None => Ok(QUIET),
-        Some(saved) => action_entry(alloc, setting, world, object, saved, limit),
+        Some(saved) => action_entry(alloc, setting, world, object, saved, limits),
     }
 }
 
@@ -283,32 +230,18 @@ fn unapply_entry(world: &mut World<Saved>, object: u32, number: u64) -> Result<E
 #[tactic(auto, using(crate::proofs::Entering::entry_lemmas))]
 pub(crate) fn enter(
     alloc: Global,
-    setting: &PlaySetting<'_>,
+    setting: &PlaySetting<'_, '_>,
     world: &mut World<Saved>,
     entry: Entry<Saved>,
-    limit: u64,
+    limits: PlayLimits,
 ) -> Result<Entered, NoMemory>
-    requires set { IsSet (scene setting.now.scripts.now setting.now.table.now (map (λ h. h.known)
-        setting.now.hooks.now.all.items)) }
-    requires limit { limit ≤ instruction_limit }
-    requires ready { CanRunEntry world.old.world }
-    requires fit { FitIn (scene setting.now.scripts.now setting.now.table.now (map (λ h. h.known)
-        setting.now.hooks.now.all.items)) world.old.world }
-    requires placed { IsPlaced (object_count world.old.world) entry.kind }
-    requires acting { (o : ℕ) → entry.kind ≡ kind.Turn o → IsActing o world.old.world }
-    requires stored { KindFits (scripts_in (scene setting.now.scripts.now setting.now.table.now
-        (map (λ h. h.known) setting.now.hooks.now.all.items))) (tables_in (scene
-        setting.now.scripts.now setting.now.table.now (map (λ h. h.known)
-        setting.now.hooks.now.all.items))) entry.kind }
-    requires room { 1 ≤ world.old.room }
-    ensures entered { IfOk result (λ e. HasEntered (scene setting.now.scripts.now
-        setting.now.table.now (map (λ h. h.known) setting.now.hooks.now.all.items)) limit e
-        (entered_as (runner_in (scene setting.now.scripts.now setting.now.table.now (map (λ h.
-        h.known) setting.now.hooks.now.all.items)) limit) entry.kind entry.number world.old.world)
-        world.old.world world.new.world) }
-    ensures cut { OnErr result (IsCutIn (λ n. entered_as (runner_in (scene setting.now.scripts.now
-        setting.now.table.now (map (λ h. h.known) setting.now.hooks.now.all.items)) n) entry.kind
-        entry.number world.old.world) limit world.old.world world.new.world) }
+    requires ready { IsReady (seen setting.now) 1 world.old.world world.old.room }
+    requires takes { MayTake (seen setting.now) entry.kind world.old.world }
+    ensures entered { IfOk result (λ e. HasEntered (seen setting.now) limits.instructions e
+        (entered_as (runner_in (seen setting.now) limits.instructions) entry.kind entry.number
+        world.old.world) world.old.world world.new.world) }
+    ensures cut { OnErr result (IsCutIn (λ n. entered_as (runner_in (seen setting.now) n) entry.kind
+        entry.number world.old.world) limits.instructions world.old.world world.new.world) }
 {
     let Entry {
         due: _,
@@ -320,13 +253,13 @@ pub(crate) fn enter(
             object,
             script,
             user: _,
-        } => event_entry(alloc, setting, world, object, &script, limit),
+        } => event_entry(alloc, setting, world, object, &script, limits),
         Kind::Stored { object, action } => {
             let script = action.script;
             let begin = Begin::Stored(action);
-            script_entry(alloc, setting, world, script, begin, object, limit)
+            script_entry(alloc, setting, world, script, begin, object, limits)
         }
-        Kind::Turn { object } => turn_entry(alloc, setting, world, object, limit),
+        Kind::Turn { object } => turn_entry(alloc, setting, world, object, limits),
         Kind::Unapply { object } => unapply_entry(world, object, number),
     }
 }

@@ -1,20 +1,16 @@
 //! Plays: entry after entry.
 ghost use Rattle.std.specs.Prelude.{◌≡◌, ◌≢◌, ◌≤◌, ◌<◌, ◌+◌, ◌^◌, ◌++◌, [], IsTrue};
-ghost use Rattle.std.specs.Prelude.{length, map};
 ghost use Rattle.nwq_outside.specs.Outside.{TookPrefix};
-ghost use Rattle.nwq_value.specs.Limits.{entry_limit, instruction_limit, time_limit};
-ghost use Rattle.stack_rules.specs.Laws.{AllMeet};
 ghost use Rattle.world_rules.specs.Trace.{trace_text};
 ghost use Rattle.world_rules.specs.Turns.{begin};
-ghost use Rattle.world_rules.specs.Plays.{full, play_on};
-ghost use Rattle.world_core.specs.Calls.{AreServing};
-ghost use Rattle.ncs_machine.specs.Host.{scripts_of, tables_of};
-ghost use Rattle.ncs_machine.specs.Stored.{StatesFit};
+ghost use Rattle.world_rules.specs.Plays.{full};
+ghost use Rattle.ncs_machine.specs.InSetting.{seen};
+ghost use Rattle.ncs_machine.specs.Settings.{FitIn, host_in};
 ghost use Rattle.module_player.specs.Answers.{CountsPlay, EndsAs, HasPlayed, IsLastEnd};
 ghost use Rattle.module_player.specs.Answers.{TakesTrace, WherePlayed};
-ghost use Rattle.module_player.specs.CodePlays.{code_play, code_play_on, host_of, played_before};
+ghost use Rattle.module_player.specs.CodePlays.{played_before, played_in, played_on_in};
 ghost use Rattle.module_player.specs.Cuts.{IsCutShort, WhereCut, cut_lines};
-ghost use Rattle.module_player.specs.Scenes.{FitIn, IsSet, host_in, runner_in, scene};
+ghost use Rattle.module_player.specs.Premises.{MayGo, MayPlay};
 ghost use Rattle.module_player.specs.declared.played.How.TheVariants as answer;
 
 use crate::limits::PlayLimits;
@@ -47,7 +43,7 @@ fn last_end(world: &World<Saved>, until: u64) -> How
 #[tactic(auto, using(crate::proofs::Playing::play_lemmas))]
 fn play_from<S: Sink>(
     alloc: Global,
-    setting: &PlaySetting<'_>,
+    setting: &PlaySetting<'_, '_>,
     world: &mut World<Saved>,
     limits: PlayLimits,
     stop: u64,
@@ -55,44 +51,19 @@ fn play_from<S: Sink>(
     done: u64,
     out: &mut S,
 ) -> Played
-    requires set { IsSet (scene setting.now.scripts.now setting.now.table.now (map (λ h. h.known)
-        setting.now.hooks.now.all.items)) }
-    requires fit { FitIn (scene setting.now.scripts.now setting.now.table.now (map (λ h. h.known)
-        setting.now.hooks.now.all.items)) world.old.world }
-    requires quiet { world.old.world.trace ≡ [] }
-    requires next { world.old.world.agenda.next < 2 ^ 61 }
-    requires limit { limits.instructions ≤ instruction_limit }
-    requires entries { limits.entries ≤ entry_limit }
-    requires until { limits.until ≤ time_limit }
-    requires taken { taken < stop }
-    requires within { taken ≤ limits.entries }
-    requires done { done < 2 ^ 61 }
-    ensures played { HasPlayed (scene setting.now.scripts.now setting.now.table.now
-        (map (λ h. h.known) setting.now.hooks.now.all.items)) result (played_before taken done
-        world.old.world) (play_on (runner_in (scene setting.now.scripts.now setting.now.table.now
-        (map (λ h. h.known) setting.now.hooks.now.all.items)) limits.instructions)
-        (record { entries = limits.entries; until = limits.until; stop = stop })
-        (played_before taken done world.old.world)) S.tells (S.taken out.old) (S.taken out.new)
-        (S.faults out.old) (S.faults out.new) world.new.world }
-    ensures cut { WhereCut result.how (IsCutShort (host_in (scene setting.now.scripts.now
-        setting.now.table.now (map (λ h. h.known) setting.now.hooks.now.all.items)))
-        limits.instructions limits.until (play_on (runner_in (scene setting.now.scripts.now
-        setting.now.table.now (map (λ h. h.known) setting.now.hooks.now.all.items))
-        limits.instructions)
-        (record { entries = limits.entries; until = limits.until; stop = result.entries })
-        (played_before taken done world.old.world)) result.entries result.instructions
-        world.new.world) }
-    ensures told { IsTrue S.tells → WhereCut result.how
-        (TookPrefix (cut_lines (host_in (scene setting.now.scripts.now setting.now.table.now
-        (map (λ h. h.known) setting.now.hooks.now.all.items))) limits.instructions limits.until
-        (play_on (runner_in (scene setting.now.scripts.now setting.now.table.now
-        (map (λ h. h.known) setting.now.hooks.now.all.items)) limits.instructions)
-        (record { entries = limits.entries; until = limits.until; stop = result.entries })
-        (played_before taken done world.old.world))) (S.taken out.old ++ trace_text
-        (play_on (runner_in (scene setting.now.scripts.now setting.now.table.now
-        (map (λ h. h.known) setting.now.hooks.now.all.items)) limits.instructions)
-        (record { entries = limits.entries; until = limits.until; stop = result.entries })
-        (played_before taken done world.old.world)).last.trace) (S.taken out.new)) }
+    requires world { MayPlay (seen setting.now) world.old.world }
+    requires goes { MayGo limits.entries stop taken done }
+    ensures played { HasPlayed (seen setting.now) result (played_before taken done world.old.world)
+        (played_on_in (seen setting.now) limits stop taken done world.old.world) S.tells (S.taken
+        out.old) (S.taken out.new) (S.faults out.old) (S.faults out.new) world.new.world }
+    ensures cut { WhereCut result.how (IsCutShort (host_in (seen setting.now)) limits.instructions
+        limits.until (played_on_in (seen setting.now) limits result.entries taken done
+        world.old.world) result.entries result.instructions world.new.world) }
+    ensures told { IsTrue S.tells → WhereCut result.how (TookPrefix (cut_lines
+        (host_in (seen setting.now)) limits.instructions limits.until (played_on_in
+        (seen setting.now) limits result.entries taken done world.old.world)) (S.taken out.old ++
+        trace_text (played_on_in (seen setting.now) limits result.entries taken done
+        world.old.world).last.trace) (S.taken out.new)) }
 {
     let mut count = done;
     let mut text = Vec::new(alloc);
@@ -104,15 +75,7 @@ fn play_from<S: Sink>(
                 instructions: count,
             };
         }
-        match turn(
-            alloc,
-            setting,
-            world,
-            limits.instructions,
-            limits.until,
-            &mut text,
-            out,
-        ) {
+        match turn(alloc, setting, world, limits, &mut text, out) {
             TurnOutcome::Goes(n) => count += n,
             TurnOutcome::Stops(n) => {
                 return Played {
@@ -156,7 +119,7 @@ fn play_from<S: Sink>(
 /// The first put that fails ends the call.
 pub fn play_on<S: Sink>(
     alloc: Global,
-    setting: &PlaySetting<'_>,
+    setting: &PlaySetting<'_, '_>,
     world: &mut World<Saved>,
     limits: PlayLimits,
     stop: u64,
@@ -164,70 +127,41 @@ pub fn play_on<S: Sink>(
     done: u64,
     out: &mut S,
 ) -> Played
-    requires few { length setting.now.scripts.now < 2 ^ 32 }
-    requires meets { AllMeet setting.now.table.now (scripts_of setting.now.scripts.now)
-        (tables_of setting.now.scripts.now) }
-    requires hooks { AreServing (map (λ h. h.known) setting.now.hooks.now.all.items) }
-    requires fit { StatesFit (scripts_of setting.now.scripts.now)
-        (tables_of setting.now.scripts.now) world.old.world }
-    requires quiet { world.old.world.trace ≡ [] }
-    requires next { world.old.world.agenda.next < 2 ^ 61 }
-    requires limit { limits.instructions ≤ instruction_limit }
-    requires entries { limits.entries ≤ entry_limit }
-    requires until { limits.until ≤ time_limit }
-    requires taken { taken < stop }
-    requires within { taken ≤ limits.entries }
-    requires done { done < 2 ^ 61 }
+    requires world { MayPlay (seen setting.now) world.old.world }
+    requires goes { MayGo limits.entries stop taken done }
     // How the play ends, after how many entries and instructions, and in which world.
-    ensures ending { EndsAs result.how (code_play_on (host_of setting.now.scripts.now
-        setting.now.table.now (map (λ h. h.known) setting.now.hooks.now.all.items))
-        limits.instructions limits.entries limits.until stop taken done world.old.world).ending }
-    ensures entries { WherePlayed result.how (result.entries ≡ (code_play_on
-        (host_of setting.now.scripts.now setting.now.table.now
-        (map (λ h. h.known) setting.now.hooks.now.all.items)) limits.instructions limits.entries
-        limits.until stop taken done world.old.world).last.entries) }
-    ensures instructions { WherePlayed result.how (result.instructions ≡ (code_play_on
-        (host_of setting.now.scripts.now setting.now.table.now
-        (map (λ h. h.known) setting.now.hooks.now.all.items)) limits.instructions limits.entries
-        limits.until stop taken done world.old.world).last.count) }
-    ensures world { WherePlayed result.how (world.new.world ≡ (code_play_on
-        (host_of setting.now.scripts.now setting.now.table.now
-        (map (λ h. h.known) setting.now.hooks.now.all.items)) limits.instructions limits.entries
-        limits.until stop taken done world.old.world).last.world) }
+    ensures ending { EndsAs result.how (played_on_in (seen setting.now) limits stop taken done
+        world.old.world).ending }
+    ensures entries { WherePlayed result.how (result.entries ≡ (played_on_in (seen setting.now)
+        limits stop taken done world.old.world).last.entries) }
+    ensures instructions { WherePlayed result.how (result.instructions ≡ (played_on_in
+        (seen setting.now) limits stop taken done world.old.world).last.count) }
+    ensures world { WherePlayed result.how (world.new.world ≡ (played_on_in (seen setting.now)
+        limits stop taken done world.old.world).last.world) }
     // The sink took the play's lines, or a prefix of them where the play was cut short.
-    ensures trace { IsTrue S.tells → TakesTrace result.how
-        (trace_text (code_play_on (host_of setting.now.scripts.now setting.now.table.now
-        (map (λ h. h.known) setting.now.hooks.now.all.items)) limits.instructions limits.entries
-        limits.until stop taken done world.old.world).last.trace) (S.taken out.old)
+    ensures trace { IsTrue S.tells → TakesTrace result.how (trace_text (played_on_in
+        (seen setting.now) limits stop taken done world.old.world).last.trace) (S.taken out.old)
         (S.taken out.new) }
     ensures faults { CountsPlay result.how (S.faults out.old) (S.faults out.new) }
     // What the world keeps, so that its text can be put, and the play can go on.
-    ensures fit { WherePlayed result.how (StatesFit (scripts_of setting.now.scripts.now)
-        (tables_of setting.now.scripts.now) world.new.world) }
+    ensures fit { WherePlayed result.how (FitIn (seen setting.now) world.new.world) }
     ensures quiet { WherePlayed result.how (world.new.world.trace ≡ []) }
     ensures next { WherePlayed result.how (world.new.world.agenda.next < 2 ^ 62) }
     // Where it was cut short: the entries that are counted were finished, as if the play were
     // broken off behind them, and the world is the one there, or that of the next entry: not begun,
     // stopped after some of its instructions, or done. The sink took a prefix of that entry's
     // lines.
-    ensures cut { WhereCut result.how (IsCutShort (host_of setting.now.scripts.now
-        setting.now.table.now (map (λ h. h.known) setting.now.hooks.now.all.items))
-        limits.instructions limits.until (code_play_on (host_of setting.now.scripts.now
-        setting.now.table.now (map (λ h. h.known) setting.now.hooks.now.all.items))
-        limits.instructions limits.entries limits.until result.entries taken done world.old.world)
-        result.entries result.instructions world.new.world) }
-    ensures told { IsTrue S.tells → WhereCut result.how
-        (TookPrefix (cut_lines (host_of setting.now.scripts.now setting.now.table.now
-        (map (λ h. h.known) setting.now.hooks.now.all.items)) limits.instructions limits.until
-        (code_play_on (host_of setting.now.scripts.now setting.now.table.now
-        (map (λ h. h.known) setting.now.hooks.now.all.items)) limits.instructions limits.entries
-        limits.until result.entries taken done world.old.world)) (S.taken out.old ++ trace_text
-        (code_play_on (host_of setting.now.scripts.now setting.now.table.now
-        (map (λ h. h.known) setting.now.hooks.now.all.items)) limits.instructions limits.entries
-        limits.until result.entries taken done world.old.world).last.trace) (S.taken out.new)) }
+    ensures cut { WhereCut result.how (IsCutShort (host_in (seen setting.now)) limits.instructions
+        limits.until (played_on_in (seen setting.now) limits result.entries taken done
+        world.old.world) result.entries result.instructions world.new.world) }
+    ensures told { IsTrue S.tells → WhereCut result.how (TookPrefix (cut_lines
+        (host_in (seen setting.now)) limits.instructions limits.until (played_on_in
+        (seen setting.now) limits result.entries taken done world.old.world)) (S.taken out.old ++
+        trace_text (played_on_in (seen setting.now) limits result.entries taken done
+        world.old.world).last.trace) (S.taken out.new)) }
     // How much at most was posted, and executed.
-    ensures posted { WherePlayed result.how
-        (world.new.world.agenda.next ≤ world.old.world.agenda.next + 2 ^ 45) }
+    ensures posted { WherePlayed result.how (world.new.world.agenda.next ≤
+        world.old.world.agenda.next + 2 ^ 45) }
     ensures executed { WherePlayed result.how (result.instructions ≤ done + 2 ^ 45) }
 {
     play_from(alloc, setting, world, limits, stop, taken, done, out)
@@ -237,68 +171,40 @@ pub fn play_on<S: Sink>(
 #[tactic(auto, using(crate::proofs::Whole::never_pauses))]
 pub fn play<S: Sink>(
     alloc: Global,
-    setting: &PlaySetting<'_>,
+    setting: &PlaySetting<'_, '_>,
     world: &mut World<Saved>,
     limits: PlayLimits,
     out: &mut S,
 ) -> Played
-    requires few { length setting.now.scripts.now < 2 ^ 32 }
-    requires meets { AllMeet setting.now.table.now (scripts_of setting.now.scripts.now)
-        (tables_of setting.now.scripts.now) }
-    requires hooks { AreServing (map (λ h. h.known) setting.now.hooks.now.all.items) }
-    requires fit { StatesFit (scripts_of setting.now.scripts.now)
-        (tables_of setting.now.scripts.now) world.old.world }
-    requires quiet { world.old.world.trace ≡ [] }
-    requires next { world.old.world.agenda.next < 2 ^ 61 }
-    requires limit { limits.instructions ≤ instruction_limit }
-    requires entries { limits.entries ≤ entry_limit }
-    requires until { limits.until ≤ time_limit }
+    requires world { MayPlay (seen setting.now) world.old.world }
     // How the play ends, after how many entries and instructions, and in which world.
-    ensures ending { EndsAs result.how (code_play (host_of setting.now.scripts.now
-        setting.now.table.now (map (λ h. h.known) setting.now.hooks.now.all.items))
-        limits.instructions limits.entries limits.until world.old.world).ending }
-    ensures entries { WherePlayed result.how (result.entries ≡ (code_play
-        (host_of setting.now.scripts.now setting.now.table.now
-        (map (λ h. h.known) setting.now.hooks.now.all.items)) limits.instructions limits.entries
-        limits.until world.old.world).last.entries) }
-    ensures instructions { WherePlayed result.how (result.instructions ≡ (code_play
-        (host_of setting.now.scripts.now setting.now.table.now
-        (map (λ h. h.known) setting.now.hooks.now.all.items)) limits.instructions limits.entries
-        limits.until world.old.world).last.count) }
-    ensures world { WherePlayed result.how (world.new.world ≡ (code_play
-        (host_of setting.now.scripts.now setting.now.table.now
-        (map (λ h. h.known) setting.now.hooks.now.all.items)) limits.instructions limits.entries
-        limits.until world.old.world).last.world) }
+    ensures ending { EndsAs result.how (played_in (seen setting.now) limits world.old.world).ending }
+    ensures entries { WherePlayed result.how (result.entries ≡ (played_in (seen setting.now) limits
+        world.old.world).last.entries) }
+    ensures instructions { WherePlayed result.how (result.instructions ≡ (played_in
+        (seen setting.now) limits world.old.world).last.count) }
+    ensures world { WherePlayed result.how (world.new.world ≡ (played_in (seen setting.now) limits
+        world.old.world).last.world) }
     // The sink took the play's lines, or a prefix of them where the play was cut short.
-    ensures trace { IsTrue S.tells → TakesTrace result.how
-        (trace_text (code_play (host_of setting.now.scripts.now setting.now.table.now
-        (map (λ h. h.known) setting.now.hooks.now.all.items)) limits.instructions limits.entries
-        limits.until world.old.world).last.trace) (S.taken out.old) (S.taken out.new) }
+    ensures trace { IsTrue S.tells → TakesTrace result.how (trace_text (played_in (seen setting.now)
+        limits world.old.world).last.trace) (S.taken out.old) (S.taken out.new) }
     ensures faults { CountsPlay result.how (S.faults out.old) (S.faults out.new) }
     // What the world keeps, so that its text can be put, and the play can go on.
-    ensures fit { WherePlayed result.how (StatesFit (scripts_of setting.now.scripts.now)
-        (tables_of setting.now.scripts.now) world.new.world) }
+    ensures fit { WherePlayed result.how (FitIn (seen setting.now) world.new.world) }
     ensures quiet { WherePlayed result.how (world.new.world.trace ≡ []) }
     ensures next { WherePlayed result.how (world.new.world.agenda.next < 2 ^ 62) }
     // Where it was cut short: the entries that are counted were finished, as if the play were
     // broken off behind them, and the world is the one there, or that of the next entry: not begun,
     // stopped after some of its instructions, or done. The sink took a prefix of that entry's
     // lines.
-    ensures cut { WhereCut result.how (IsCutShort (host_of setting.now.scripts.now
-        setting.now.table.now (map (λ h. h.known) setting.now.hooks.now.all.items))
-        limits.instructions limits.until (code_play_on (host_of setting.now.scripts.now
-        setting.now.table.now (map (λ h. h.known) setting.now.hooks.now.all.items))
-        limits.instructions limits.entries limits.until result.entries 0 0 world.old.world)
+    ensures cut { WhereCut result.how (IsCutShort (host_in (seen setting.now)) limits.instructions
+        limits.until (played_on_in (seen setting.now) limits result.entries 0 0 world.old.world)
         result.entries result.instructions world.new.world) }
-    ensures told { IsTrue S.tells → WhereCut result.how
-        (TookPrefix (cut_lines (host_of setting.now.scripts.now setting.now.table.now
-        (map (λ h. h.known) setting.now.hooks.now.all.items)) limits.instructions limits.until
-        (code_play_on (host_of setting.now.scripts.now setting.now.table.now
-        (map (λ h. h.known) setting.now.hooks.now.all.items)) limits.instructions limits.entries
-        limits.until result.entries 0 0 world.old.world)) (S.taken out.old ++ trace_text
-        (code_play_on (host_of setting.now.scripts.now setting.now.table.now
-        (map (λ h. h.known) setting.now.hooks.now.all.items)) limits.instructions limits.entries
-        limits.until result.entries 0 0 world.old.world).last.trace) (S.taken out.new)) }
+    ensures told { IsTrue S.tells → WhereCut result.how (TookPrefix (cut_lines
+        (host_in (seen setting.now)) limits.instructions limits.until (played_on_in
+        (seen setting.now) limits result.entries 0 0 world.old.world)) (S.taken out.old ++
+        trace_text (played_on_in (seen setting.now) limits result.entries 0 0
+        world.old.world).last.trace) (S.taken out.new)) }
     // It isn't broken off.
     ensures whole { result.how ≢ answer.Pause }
 {

@@ -1,14 +1,16 @@
 //! The scripts of an entry.
-ghost use Rattle.std.specs.Prelude.{◌≤◌, ◌<◌, ◌^◌, IfOk, OnErr, length, map};
-ghost use Rattle.nwq_value.specs.Limits.{instruction_limit};
+ghost use Rattle.std.specs.Prelude.{◌≤◌, IfOk, OnErr};
 ghost use Rattle.world_rules.specs.World.{count as object_count};
-ghost use Rattle.ncs_machine.specs.Endings.{FitsBegin};
+ghost use Rattle.ncs_machine.specs.Begins.{MayBegin};
 ghost use Rattle.ncs_machine.specs.Host.{run_from};
+ghost use Rattle.ncs_machine.specs.InSetting.{seen};
+ghost use Rattle.ncs_machine.specs.Settings.{host_in};
 ghost use Rattle.module_player.specs.CodePlays.{run_of};
 ghost use Rattle.module_player.specs.Cuts.{IsRunCut};
 ghost use Rattle.module_player.specs.Entries.{HasRun};
-ghost use Rattle.module_player.specs.Scenes.{FitIn, IsSet, host_in, scene, scripts_in, tables_in};
+ghost use Rattle.module_player.specs.Premises.{IsReady};
 
+use crate::limits::PlayLimits;
 use ncs_machine::{Begin, PlaySetting, Ran, run};
 use nwq_value::NoMemory;
 use saved_state::Saved;
@@ -29,39 +31,32 @@ pub enum Ended {
 #[tactic(auto, using(crate::proofs::Runs::run_lemmas))]
 pub(crate) fn run_scripts(
     alloc: Global,
-    setting: &PlaySetting<'_>,
+    setting: &PlaySetting<'_, '_>,
     world: &mut World<Saved>,
     script: u32,
     begin: Begin,
     object: u32,
-    limit: u64,
+    limits: PlayLimits,
 ) -> Result<(Ended, u64), NoMemory>
-    requires set { IsSet (scene setting.now.scripts.now setting.now.table.now (map (λ h. h.known)
-        setting.now.hooks.now.all.items)) }
-    requires listed { script < length setting.now.scripts.now }
-    requires stored { FitsBegin (scripts_in (scene setting.now.scripts.now setting.now.table.now
-        (map (λ h. h.known) setting.now.hooks.now.all.items))) (tables_in (scene
-        setting.now.scripts.now setting.now.table.now (map (λ h. h.known)
-        setting.now.hooks.now.all.items))) begin }
-    requires limit { limit ≤ instruction_limit }
-    requires clock { world.old.world.clock < 2 ^ 62 }
-    requires next { world.old.world.agenda.next < 2 ^ 62 }
-    requires fit { FitIn (scene setting.now.scripts.now setting.now.table.now (map (λ h. h.known)
-        setting.now.hooks.now.all.items)) world.old.world }
+    requires begins { MayBegin (seen setting.now) script begin }
+    requires ready { IsReady (seen setting.now) 0 world.old.world world.old.room }
     requires object { object ≤ object_count world.old.world }
-    requires room { 1 ≤ world.old.room }
-    ensures run { IfOk result (λ r. HasRun (scene setting.now.scripts.now setting.now.table.now
-        (map (λ h. h.known) setting.now.hooks.now.all.items)) limit r.0 r.1 (run_of (run_from
-        (host_in (scene setting.now.scripts.now setting.now.table.now (map (λ h. h.known)
-        setting.now.hooks.now.all.items))) limit script begin object world.old.world))
-        world.old.world world.new.world) }
-    ensures cut { OnErr result (IsRunCut (λ n. run_of (run_from (host_in (scene
-        setting.now.scripts.now setting.now.table.now (map (λ h. h.known)
-        setting.now.hooks.now.all.items))) n script begin object world.old.world))
-        world.new.world) }
+    ensures run { IfOk result (λ r. HasRun (seen setting.now) limits.instructions r.0 r.1 (run_of
+        (run_from (host_in (seen setting.now)) limits.instructions script begin object
+        world.old.world)) world.old.world world.new.world) }
+    ensures cut { OnErr result (IsRunCut (λ n. run_of (run_from (host_in (seen setting.now)) n
+        script begin object world.old.world)) world.new.world) }
     ensures room { 1 ≤ world.new.room }
 {
-    let (ran, count, last) = run(alloc, setting, script, begin, world, object, limit);
+    let (ran, count, last) = run(
+        alloc,
+        setting,
+        script,
+        begin,
+        world,
+        object,
+        limits.instructions,
+    );
     match ran {
         Ran::Ended => Ok((Ended::Over, count)),
         Ran::Divide => Ok((Ended::Divided(last), count)),

@@ -1,23 +1,20 @@
 //! One turn of a play: the next entry, where one is due, and its lines.
-ghost use Rattle.std.specs.Prelude.{◌≡◌, ◌≤◌, ◌<◌, ◌+◌, ◌^◌, ◌⊎◌, ℕ, [], IsTrue, map};
-ghost use Rattle.delay_agenda.specs.declared.entry.Kind.TheVariants as kind;
+ghost use Rattle.std.specs.Prelude.{◌≡◌, ◌<◌, ◌+◌, ◌^◌, ◌⊎◌, [], IsTrue};
 ghost use Rattle.nwq_outside.specs.Outside.{CountsDone, Takes as TakesPiece};
 ghost use Rattle.nwq_outside.specs.declared.answer.Done.TheVariants as done;
-ghost use Rattle.nwq_value.specs.Limits.{instruction_limit, time_limit};
-ghost use Rattle.world_rules.specs.Kept.{IsActing, IsPlaced};
 ghost use Rattle.world_rules.specs.Trace.{trace_text};
 ghost use Rattle.world_rules.specs.Turns.{begin, drained};
-ghost use Rattle.world_rules.specs.World.{count as object_count};
 ghost use Rattle.world_rules.specs.Plays.{entered_as};
-ghost use Rattle.ncs_machine.specs.Stored.{KindFits};
+ghost use Rattle.ncs_machine.specs.InSetting.{seen};
+ghost use Rattle.ncs_machine.specs.Settings.{FitIn, host_in};
 ghost use Rattle.module_player.specs.Cuts.{IsCutAt, IsCutIn, WhereCutIn};
-ghost use Rattle.module_player.specs.Entries.{CanRunEntry};
-ghost use Rattle.module_player.specs.Scenes.{FitIn, IsSet, host_in, runner_in, scene, scripts_in};
-ghost use Rattle.module_player.specs.Scenes.{tables_in};
+ghost use Rattle.module_player.specs.CodePlays.{runner_in};
+ghost use Rattle.module_player.specs.Premises.{IsReady, MayTake};
 ghost use Rattle.module_player.specs.Turns.{CountsNext, Takes, TakesText, Turns, lines_of};
 ghost use Rattle.module_player.specs.Turns.{lines_text};
 
 use crate::entry::enter;
+use crate::limits::PlayLimits;
 use delay_agenda::Entry;
 use ncs_machine::{PlaySetting, entries_keep_fits};
 use nwq_outside::{Done, Sink};
@@ -84,42 +81,27 @@ fn put_lines<S: Sink>(world: &mut World<Saved>, text: &mut Vec<u8>, out: &mut S)
 #[tactic(auto, using(crate::proofs::Turning::take_lemmas))]
 fn take<S: Sink>(
     alloc: Global,
-    setting: &PlaySetting<'_>,
+    setting: &PlaySetting<'_, '_>,
     world: &mut World<Saved>,
     entry: Entry<Saved>,
-    limit: u64,
+    limits: PlayLimits,
     text: &mut Vec<u8>,
     out: &mut S,
 ) -> TurnOutcome
-    requires set { IsSet (scene setting.now.scripts.now setting.now.table.now (map (λ h. h.known)
-        setting.now.hooks.now.all.items)) }
-    requires limit { limit ≤ instruction_limit }
-    requires ready { CanRunEntry world.old.world }
-    requires fit { FitIn (scene setting.now.scripts.now setting.now.table.now (map (λ h. h.known)
-        setting.now.hooks.now.all.items)) world.old.world }
-    requires placed { IsPlaced (object_count world.old.world) entry.kind }
-    requires acting { (o : ℕ) → entry.kind ≡ kind.Turn o → IsActing o world.old.world }
-    requires stored { KindFits (scripts_in (scene setting.now.scripts.now setting.now.table.now
-        (map (λ h. h.known) setting.now.hooks.now.all.items))) (tables_in (scene
-        setting.now.scripts.now setting.now.table.now (map (λ h. h.known)
-        setting.now.hooks.now.all.items))) entry.kind }
-    requires room { 1 ≤ world.old.room }
-    ensures takes { Takes result (scene setting.now.scripts.now setting.now.table.now (map (λ h.
-        h.known) setting.now.hooks.now.all.items)) limit (entered_as (runner_in (scene
-        setting.now.scripts.now setting.now.table.now (map (λ h. h.known)
-        setting.now.hooks.now.all.items)) limit) entry.kind entry.number world.old.world)
+    requires ready { IsReady (seen setting.now) 1 world.old.world world.old.room }
+    requires takes { MayTake (seen setting.now) entry.kind world.old.world }
+    ensures takes { Takes result (seen setting.now) limits.instructions (entered_as
+        (runner_in (seen setting.now) limits.instructions) entry.kind entry.number world.old.world)
         world.old.world world.new.world }
-    ensures taken { IsTrue S.tells → TakesText result (lines_text
-        (entered_as (runner_in (scene setting.now.scripts.now setting.now.table.now
-        (map (λ h. h.known) setting.now.hooks.now.all.items)) limit) entry.kind entry.number
-        world.old.world)) (S.taken out.old) (S.taken out.new) }
+    ensures taken { IsTrue S.tells → TakesText result (lines_text (entered_as
+        (runner_in (seen setting.now) limits.instructions) entry.kind entry.number world.old.world))
+        (S.taken out.old) (S.taken out.new) }
     ensures counts { CountsNext result (S.faults out.old) (S.faults out.new) }
-    ensures cut { WhereCutIn result (IsCutIn (λ n. entered_as (runner_in (scene
-        setting.now.scripts.now setting.now.table.now (map (λ h. h.known)
-        setting.now.hooks.now.all.items)) n) entry.kind entry.number world.old.world) limit
-        world.old.world world.new.world) }
+    ensures cut { WhereCutIn result (IsCutIn (λ n. entered_as (runner_in (seen setting.now) n)
+        entry.kind entry.number world.old.world) limits.instructions world.old.world
+        world.new.world) }
 {
-    match enter(alloc, setting, world, entry, limit) {
+    match enter(alloc, setting, world, entry, limits) {
         Err(_) => TurnOutcome::NoMemory,
         Ok(entered) => match put_lines(world, text, out) {
             Done::Ok => {
@@ -139,37 +121,28 @@ fn take<S: Sink>(
 #[tactic(auto, using(crate::proofs::Turning::turn_lemmas))]
 pub(crate) fn turn<S: Sink>(
     alloc: Global,
-    setting: &PlaySetting<'_>,
+    setting: &PlaySetting<'_, '_>,
     world: &mut World<Saved>,
-    limit: u64,
-    until: u64,
+    limits: PlayLimits,
     text: &mut Vec<u8>,
     out: &mut S,
 ) -> TurnOutcome
-    requires set { IsSet (scene setting.now.scripts.now setting.now.table.now (map (λ h. h.known)
-        setting.now.hooks.now.all.items)) }
-    requires limit { limit ≤ instruction_limit }
-    requires until { until ≤ time_limit }
     requires next { world.old.world.agenda.next + 1 < 2 ^ 62 }
-    requires fit { FitIn (scene setting.now.scripts.now setting.now.table.now (map (λ h. h.known)
-        setting.now.hooks.now.all.items)) world.old.world }
-    ensures turns { Turns result (scene setting.now.scripts.now setting.now.table.now (map (λ h.
-        h.known) setting.now.hooks.now.all.items)) limit (runner_in (scene setting.now.scripts.now
-        setting.now.table.now (map (λ h. h.known) setting.now.hooks.now.all.items)) limit) (begin
-        until world.old.world) world.old.world world.new.world }
-    ensures taken { IsTrue S.tells → TakesText result (trace_text (lines_of (runner_in (scene
-        setting.now.scripts.now setting.now.table.now (map (λ h. h.known)
-        setting.now.hooks.now.all.items)) limit) (begin until world.old.world))) (S.taken out.old)
-        (S.taken out.new) }
+    requires fit { FitIn (seen setting.now) world.old.world }
+    ensures turns { Turns result (seen setting.now) limits.instructions
+        (runner_in (seen setting.now) limits.instructions) (begin limits.until world.old.world)
+        world.old.world world.new.world }
+    ensures taken { IsTrue S.tells → TakesText result (trace_text (lines_of
+        (runner_in (seen setting.now) limits.instructions) (begin limits.until world.old.world)))
+        (S.taken out.old) (S.taken out.new) }
     ensures counts { CountsNext result (S.faults out.old) (S.faults out.new) }
-    ensures cut { WhereCutIn result (IsCutAt (host_in (scene setting.now.scripts.now
-        setting.now.table.now (map (λ h. h.known) setting.now.hooks.now.all.items))) limit (begin
-        until world.old.world) world.old.world world.new.world) }
+    ensures cut { WhereCutIn result (IsCutAt (host_in (seen setting.now)) limits.instructions
+        (begin limits.until world.old.world) world.old.world world.new.world) }
 {
     entries_keep_fits();
-    match world.begin(until) {
+    match world.begin(limits.until) {
         Err(_) => TurnOutcome::NoMemory,
         Ok(None) => TurnOutcome::Rests,
-        Ok(Some(entry)) => take(alloc, setting, world, entry, limit, text, out),
+        Ok(Some(entry)) => take(alloc, setting, world, entry, limits, text, out),
     }
 }

@@ -5,9 +5,10 @@ use Rattle.std.specs.Option.{option_map}
 use Rattle.std.proofs.lemmas.Option.{slice_get-map}
 use Rattle.nwq_value.specs.Engine.{EngineTable}
 use Rattle.saved_state.specs.declared.saved.Saved.{Saved}
-use Rattle.machine_rules.specs.Frames.{started, continued}
+use Rattle.hook_table.specs.declared.hook.Known.{Known}
+use Rattle.machine_rules.specs.Frames.{Frame, started, continued}
 use Rattle.machine_rules.specs.Machine.{Host}
-use Rattle.machine_rules.specs.Runs.{entry}
+use Rattle.machine_rules.specs.Runs.{entry, run}
 use Rattle.stack_rules.specs.Fits.{Tables, FitsOne, IsListed}
 use Rattle.stack_rules.specs.Safe.{IsSafeFrame}
 use Rattle.stack_rules.specs.Laws.{AllMeet, StartsSafely, ContinuesSafely}
@@ -15,9 +16,12 @@ use Rattle.ncs_machine.specs.declared.scripts.Loaded.{Loaded}
 use Rattle.ncs_machine.specs.declared.scripts.Begin.{Begin}
 use Rattle.ncs_machine.specs.declared.scripts.Begin.TheVariants.{Start, Stored}
 use Rattle.world_rules.specs.World.{World}
-use Rattle.ncs_machine.specs.Endings.{FitsBegin, IsCut}
+use Rattle.ncs_machine.specs.declared.entry.Ran.{Ran}
+use Rattle.ncs_machine.specs.Begins.{RunsAlone}
+use Rattle.ncs_machine.specs.Endings.{FitsBegin, IsCut, IsRunOf, WhereCut}
 use Rattle.ncs_machine.specs.Host.{first_frame, script_of, scripts_of}
-use Rattle.ncs_machine.specs.Steps.{Untouched}
+use Rattle.ncs_machine.specs.Settings.{CheckedListing, CodeSetting, checked_listing, code_setting, host_in, scripts_in, tables_in}
+use Rattle.ncs_machine.specs.Steps.{Frames, Untouched, state}
 
 some_in : {A : Type 0} (xs : List A) (i : ℕ) → i < length xs → (x : A) × (slice_get xs i ≡ Some x)
 some_in [] i less = absurd (omega arith)
@@ -49,5 +53,32 @@ stored_safe scripts tables begin saved self law e f = law (scripts_of scripts) t
 pub not_begun : (h : Host (World Saved)) (script : ℕ) (begin : Begin) (caller : ℕ) (w : World Saved) → IsCut h 0 caller (entry (first_frame script begin caller) w) w
 not_begun h script (Start) caller w = record { ending = refl; counted = refl; own = refl; world = Untouched refl }
 not_begun h script (Stored saved) caller w = record { ending = refl; counted = refl; own = refl; world = Untouched refl }
+
+-- ---- a setting by its parts
+
+pub setting_is : (l : CheckedListing) (scripts : List Loaded) (table : EngineTable) (hooks : List Known) → scripts ≡ l.scripts → table ≡ l.table
+    → code_setting (checked_listing scripts table) hooks ≡ code_setting l hooks
+setting_is l scripts table hooks a b = rw (a, b) refl
+
+pub runs_here : (s t : CodeSetting) (f : Frame) (m : Frames) → s ≡ t → record { running = f; waiting = [] } ≡ m → IsSafeFrame (scripts_in s) (tables_in s) f
+    → RunsAlone (scripts_in t) (tables_in t) m
+runs_here s t f m same alone h =
+    subst (RunsAlone (scripts_in t) (tables_in t)) alone
+    (record { safe = subst (λ k. IsSafeFrame (scripts_in k) (tables_in k) f) same h; alone = refl })
+
+module _ (s t : CodeSetting) (answer : Ran) (n o : ℕ) (m : Frames) (f : Frame) (w v : World Saved) where
+  pub run_here : (limit : ℕ) → s ≡ t → m ≡ record { running = f; waiting = [] }
+      → IsRunOf answer n o (run (host_in s) limit (state m w)) (scripts_in s) (tables_in s) w v
+      → IsRunOf answer n o (run (host_in t) limit (entry f w)) (scripts_in t) (tables_in t) w v
+  run_here limit same alone h =
+      subst (λ k. IsRunOf answer n o (run (host_in k) limit (entry f w)) (scripts_in k) (tables_in k) w v) same
+      (subst (λ k. IsRunOf answer n o (run (host_in s) limit (state k w)) (scripts_in s) (tables_in s) w v) alone h)
+
+  pub cut_here : s ≡ t → m ≡ record { running = f; waiting = [] }
+      → WhereCut answer (IsCut (host_in s) n o (state m w) v)
+      → WhereCut answer (IsCut (host_in t) n o (entry f w) v)
+  cut_here same alone h =
+      subst (λ k. WhereCut answer (IsCut (host_in k) n o (entry f w) v)) same
+      (subst (λ k. WhereCut answer (IsCut (host_in s) n o (state k w) v)) alone h)
 
 pub ruleset begin_lemmas = (start_safe, stored_safe, not_begun)

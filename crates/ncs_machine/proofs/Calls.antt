@@ -1,6 +1,6 @@
 -- Engine calls of the running script.
 use Rattle.std.proofs.Common.{◌≡◌, ◌≢◌, ℕ, List, [], ◌∷◌, Option, Some, None, Bool, true, false, sym, subst, ap, ◌∙◌, refl, if◌then◌else◌}
-use Rattle.std.specs.Prelude.{Result, Ok, Err, OnErr, slice_get, IfSome, ◌&&◌, ◌==◌, length}
+use Rattle.std.specs.Prelude.{Result, Ok, Err, OnErr, OnOk, slice_get, IfSome, ◌&&◌, ◌==◌, length}
 use Rattle.std.specs.Option.{option_map, option_and_then}
 use Rattle.std.proofs.lemmas.Bool.Decides.{Decides-eqb}
 use Rattle.nwq_value.specs.declared.value.Ty.{Ty}
@@ -21,10 +21,11 @@ use Rattle.machine_rules.specs.Cells.{value_types}
 use Rattle.machine_rules.specs.Calls.{Taken, with_value, with_action, value_taken, action_taken, taken, arguments, is_execute_script}
 use Rattle.machine_rules.specs.Act.{Act, Asks, Executes, asked, engine_called}
 use Rattle.machine_rules.specs.Act as acts
-use Rattle.machine_rules.specs.Machine.{Script, Host, State, Goes, answered, script_begun, executed, followed, script_named}
+use Rattle.machine_rules.specs.Machine.{Script, Host, State, Goes, answered, with_answer, script_begun, executed, followed, script_named}
 use Rattle.machine_frames.specs.declared.arguments.Arguments.{Arguments}
 use Rattle.machine_frames.specs.Takes.{IsCall}
 use Rattle.world_rules.specs.World.{World}
+use Rattle.world_rules.specs.Rows.{Answered as EngineAnswer}
 use Rattle.ncs_machine.specs.Host.{EngineView, answer_of, engine_answer, host}
 use Rattle.ncs_machine.specs.Names.{AreNameAndTarget}
 use Rattle.ncs_machine.specs.Steps.{Frames, FitArguments, IsHalfway, Called, Untouched, state, world_behind}
@@ -174,6 +175,26 @@ pub was_asked : (before behind v : World Saved) → v ≡ behind → IsHalfway b
 was_asked before behind v is = Called is
 
 pub ruleset ask_lemmas = (untouched, was_asked)
+
+pub ruleset lent_lemmas = (untouched)
+
+-- ---- calls that change nothing
+
+pub lent_none : (a : EngineAnswer Saved) (m : Frames) (w : World Saved) (o : Option Value) → record { value = o; world = w } ≡ a → o ≡ None
+    → answered (answer_of a) m.running (state m w) ≡ state m w
+lent_none a m w o is none =
+    ap (λ (x : EngineAnswer Saved). answered (answer_of x) m.running (state m w)) (sym is)
+    ∙ ap (λ (v : Option Value). answered (record { value = v; world = w }) m.running (state m w)) none
+
+pub lent_given : {E : Type 0} (result : Result (Unit {0}) E) (a : EngineAnswer Saved) (m old : Frames) (next : Frame) (w : World Saved) (o : Option Value) (v : Value)
+    → record { value = o; world = w } ≡ a → o ≡ Some v → old ≡ m → OnOk result (next ≡ with_answer (Some v) old.running)
+    → OnOk result (answered (answer_of a) m.running (state m w) ≡ state (record old { running = next }) w)
+lent_given (Ok x) a m old next w o v is some same given =
+    ap (λ (x : EngineAnswer Saved). answered (answer_of x) m.running (state m w)) (sym is)
+    ∙ ap (λ (v : Option Value). answered (record { value = v; world = w }) m.running (state m w)) some
+    ∙ ap (λ (f : Frames). state (record f { running = with_answer (Some v) f.running }) w) (sym same)
+    ∙ ap (λ (f : Frame). state (record old { running = f }) w) (sym given)
+lent_given (Err e) a m old next w o v is some same given = tt
 
 pub asks_cut : (scripts : List Script) (e : EngineView) (n count : ℕ) (r : Routine) (m mid : Frames) (a : Arguments) (w v : World Saved)
     → slice_get e.table.routines n ≡ Some r → is_execute_script r.role ≡ false → IsCall r n count m.running mid.running a

@@ -1,6 +1,6 @@
 pub mod Names
 pub mod Frames
-pub mod Answers
+pub mod Typed
 pub mod Fitting
 pub mod Kept
 pub mod Leading

@@ -1,6 +1,10 @@
 pub mod Host
 pub mod Stored
+pub mod Settings
+pub mod ServingOnce
+pub mod InSetting
 pub mod Endings
+pub mod Begins
 pub mod Steps
 pub mod Names
 pub mod Leading

@@ -1,6 +1,6 @@
 //! Engine calls of the running script.
 ghost use Rattle.std.specs.Prelude.{◌≡◌, ◌≢◌, ◌≤◌, ◌<◌, ◌+◌, ◌^◌, None, Some, OnErr, OnOk, IfSome};
-ghost use Rattle.std.specs.Prelude.{length, map, slice_get};
+ghost use Rattle.std.specs.Prelude.{length, slice_get};
 ghost use Rattle.std.specs.Option.{option_map};
 ghost use Rattle.nwq_value.specs.Limits.{file_limit};
 ghost use Rattle.nwq_value.specs.declared.value.Value.TheVariants.{Text as TextValue};
@@ -12,6 +12,7 @@ ghost use Rattle.machine_rules.specs.Calls.{is_execute_script};
 ghost use Rattle.machine_rules.specs.Machine.{Goes, executed, followed};
 ghost use Rattle.std.specs.Prelude.{◌∷◌, [], ℕ, List};
 ghost use Rattle.world_rules.specs.World.{count as object_count};
+ghost use Rattle.hook_table.specs.InHooks.{known_by};
 ghost use Rattle.ncs_machine.specs.Host.{EngineView, engine_view, host, scripts_of};
 ghost use Rattle.ncs_machine.specs.Names.{AreNameAndTarget};
 ghost use Rattle.ncs_machine.specs.Steps.{IsHalfway, state, world_behind};
@@ -26,14 +27,8 @@ use saved_state::Saved;
 use std::alloc::Global;
 use world_core::World;
 
-/// A call of the engine by an instruction: the number of its routine, how many arguments it takes,
-/// and the instruction's size.
-#[derive(Clone, Copy)]
-pub(crate) struct EngineCall {
-    pub number: u16,
-    pub count: u8,
-    pub size: u32,
-}
+/// How many bytes ACTION takes.
+const ACTION_BYTES: u32 = 5;
 
 /// The name of the script that is to run.
 #[tactic(auto, using(crate::proofs::Calls::name_lemmas))]
@@ -110,47 +105,39 @@ impl Machine {
         world: &mut World<Saved>,
         hooks: &Hooks,
         table: &Table,
-        call: EngineCall,
+        number: u16,
+        count: u8,
     ) -> Result<(), NoMemory>
         requires few { length scripts.now < 2 ^ 32 }
         requires early { IsEarly world.old.world }
         requires caller { self.old.running.self ≤ object_count world.old.world }
-        requires hooks { AreServing (map (λ h. h.known) hooks.now.all.items) }
-        requires case { engine_called table.now call.number call.count self.old.running
+        requires hooks { AreServing (known_by hooks.now) }
+        requires case { engine_called table.now number count self.old.running
             ≢ None }
-        requires size { call.size ≡ op_size (Action call.number call.count) }
-        requires small { self.old.running.place + call.size ≤ file_limit }
+        requires small { self.old.running.place + op_size (Action number count) ≤ file_limit }
         ensures room { world.old.room ≤ world.new.room }
-        ensures called { OnOk result (IfSome (engine_called table.now call.number call.count
+        ensures called { OnOk result (IfSome (engine_called table.now number count
             self.old.running) (λ a. followed (host (scripts_of scripts.now)
-            (engine_view table.now (map (λ h. h.known) hooks.now.all.items)))
+            (engine_view table.now (known_by hooks.now)))
             (state self.old world.old.world) a
             ≡ Goes (state self.new world.new.world))) }
         ensures cut { OnErr result (IsHalfway world.old.world (world_behind (option_map (followed
             (host (scripts_of scripts.now)
-            (engine_view table.now (map (λ h. h.known) hooks.now.all.items)))
-            (state self.old world.old.world)) (engine_called table.now call.number call.count
+            (engine_view table.now (known_by hooks.now)))
+            (state self.old world.old.world)) (engine_called table.now number count
             self.old.running)) world.old.world) world.new.world) }
     {
-        match table.routine(call.number) {
+        match table.routine(number) {
             None => unreachable!(),
             Some(routine) => {
                 let mut args = Arguments::new(alloc);
-                self.take(
-                    alloc,
-                    routine,
-                    call.number,
-                    call.count,
-                    call.size,
-                    &mut args,
-                )?;
+                self.take(alloc, routine, number, count, ACTION_BYTES, &mut args)?;
                 if executes(routine.role) {
                     self.execute_named(alloc, scripts, world, &args.values)?;
                     Ok(())
                 } else {
-                    // The arguments stay in their place until here, since moves of them are dear.
-                    let Arguments { values, action } = args;
-                    self.ask(world, hooks, table, call.number, values, action)?;
+                    // The arguments stay in their place, since moves of them are dear.
+                    self.ask(alloc, world, hooks, table, number, routine, &mut args)?;
                     Ok(())
                 }
             }

@@ -1,15 +1,16 @@
 //! An entry from its begin to its end.
-ghost use Rattle.std.specs.Prelude.{◌≡◌, ◌≤◌, ◌<◌, ◌^◌, [], length, map};
-ghost use Rattle.nwq_value.specs.Limits.{instruction_limit};
+ghost use Rattle.std.specs.Prelude.{◌≤◌};
+ghost use Rattle.hook_table.specs.InHooks.{known_by};
 ghost use Rattle.machine_rules.specs.Runs.{entry, run as run_of};
-ghost use Rattle.stack_rules.specs.Laws.{AllMeet};
 ghost use Rattle.stack_rules.specs.Safe.{IsSafeFrame};
-ghost use Rattle.world_rules.specs.World.{count};
-ghost use Rattle.ncs_machine.specs.Endings.{FitsBegin, IsCut, IsRunOf, WhereCut};
+ghost use Rattle.ncs_machine.specs.Begins.{MayBegin, MayRun, RunsAlone};
+ghost use Rattle.ncs_machine.specs.Endings.{IsCut, IsRunOf, WhereCut};
 ghost use Rattle.ncs_machine.specs.Host.{engine_view, first_frame, host, run_from, scripts_of};
 ghost use Rattle.ncs_machine.specs.Host.{tables_of};
+ghost use Rattle.ncs_machine.specs.InSetting.{seen};
+ghost use Rattle.ncs_machine.specs.Settings.{IsSet, checked_listing, code_setting};
+ghost use Rattle.ncs_machine.specs.Settings.{host_in, scripts_in, tables_in};
 ghost use Rattle.ncs_machine.specs.Steps.{state};
-ghost use Rattle.world_core.specs.Calls.{AreServing};
 
 use crate::machine::{Machine, StepOutcome};
 use crate::scene::Scene;
@@ -50,26 +51,16 @@ fn run_machine(
     table: &Table,
     limit: u64,
 ) -> (Ran, u64, u32)
-    requires few { length scripts.now < 2 ^ 32 }
-    requires limit { limit ≤ instruction_limit }
-    requires clock { world.old.world.clock < 2 ^ 62 }
-    requires next { world.old.world.agenda.next < 2 ^ 62 }
-    requires caller { machine.old.running.self ≤ count world.old.world }
-    requires meets { AllMeet table.now (scripts_of scripts.now)
-        (tables_of scripts.now) }
-    requires hooks { AreServing (map (λ h. h.known) hooks.now.all.items) }
-    requires safe { IsSafeFrame (scripts_of scripts.now) (tables_of scripts.now)
-        machine.old.running }
-    requires alone { machine.old.waiting ≡ [] }
+    requires set { IsSet (code_setting (checked_listing scripts.now table.now)
+        (known_by hooks.now)) }
+    requires runs { MayRun limit machine.old.running.self world.old.world }
+    requires begins { RunsAlone (scripts_of scripts.now) (tables_of scripts.now) machine.old }
     ensures room { world.old.room ≤ world.new.room }
-    ensures run { IsRunOf result.0 result.1 result.2
-        (run_of (host (scripts_of scripts.now)
-        (engine_view table.now (map (λ h. h.known) hooks.now.all.items))) limit
-        (state machine.old world.old.world))
-        (scripts_of scripts.now) (tables_of scripts.now)
-        world.old.world world.new.world }
+    ensures run { IsRunOf result.0 result.1 result.2 (run_of (host (scripts_of scripts.now)
+        (engine_view table.now (known_by hooks.now))) limit (state machine.old world.old.world))
+        (scripts_of scripts.now) (tables_of scripts.now) world.old.world world.new.world }
     ensures cut { WhereCut result.0 (IsCut (host (scripts_of scripts.now)
-        (engine_view table.now (map (λ h. h.known) hooks.now.all.items))) result.1 result.2
+        (engine_view table.now (known_by hooks.now))) result.1 result.2
         (state machine.old world.old.world) world.new.world) }
 {
     steps_are_safe::<Scene>();
@@ -97,70 +88,68 @@ fn run_machine(
     (Ran::Limit, limit, own)
 }
 
+/// The run of one frame, in a setting.
+fn run_frame(
+    alloc: Global,
+    setting: &PlaySetting<'_, '_>,
+    frame: Frame,
+    world: &mut World<Saved>,
+    limit: u64,
+) -> (Ran, u64, u32)
+    requires runs { MayRun limit frame.self world.old.world }
+    requires safe { IsSafeFrame (scripts_in (seen setting.now)) (tables_in (seen setting.now))
+        frame }
+    ensures room { world.old.room ≤ world.new.room }
+    ensures run { IsRunOf result.0 result.1 result.2 (run_of (host_in (seen setting.now)) limit
+        (entry frame world.old.world)) (scripts_in (seen setting.now))
+        (tables_in (seen setting.now)) world.old.world world.new.world }
+    ensures cut { WhereCut result.0 (IsCut (host_in (seen setting.now)) result.1 result.2
+        (entry frame world.old.world) world.new.world) }
+{
+    setting.code.keeps();
+    let mut machine = Machine::of(alloc, frame);
+    run_machine(
+        alloc,
+        setting.code.scripts(),
+        &mut machine,
+        world,
+        setting.hooks,
+        setting.code.table(),
+        limit,
+    )
+}
+
 /// The run of an entry that begins so, with `caller` as self: how it ends, how many instructions it
 /// takes in all its scripts, and the object on which the last one ran.
 #[tactic(auto, using(crate::proofs::Beginning::begin_lemmas))]
 pub fn run(
     alloc: Global,
-    setting: &PlaySetting<'_>,
+    setting: &PlaySetting<'_, '_>,
     script: u32,
     begin: Begin,
     world: &mut World<Saved>,
     caller: u32,
     limit: u64,
 ) -> (Ran, u64, u32)
-    requires few { length setting.now.scripts.now < 2 ^ 32 }
-    requires listed { script < length setting.now.scripts.now }
-    requires stored { FitsBegin (scripts_of setting.now.scripts.now)
-        (tables_of setting.now.scripts.now) begin }
-    requires limit { limit ≤ instruction_limit }
-    requires clock { world.old.world.clock < 2 ^ 62 }
-    requires next { world.old.world.agenda.next < 2 ^ 62 }
-    requires caller { caller ≤ count world.old.world }
-    requires meets { AllMeet setting.now.table.now (scripts_of setting.now.scripts.now)
-        (tables_of setting.now.scripts.now) }
-    requires hooks { AreServing (map (λ h. h.known) setting.now.hooks.now.all.items) }
+    requires begins { MayBegin (seen setting.now) script begin }
+    requires runs { MayRun limit caller world.old.world }
     ensures room { world.old.room ≤ world.new.room }
-    ensures run { IsRunOf result.0 result.1 result.2
-        (run_from (host (scripts_of setting.now.scripts.now)
-        (engine_view setting.now.table.now (map (λ h. h.known) setting.now.hooks.now.all.items)))
-        limit script begin caller
-        world.old.world)
-        (scripts_of setting.now.scripts.now) (tables_of setting.now.scripts.now)
-        world.old.world world.new.world }
-    ensures cut { WhereCut result.0 (IsCut (host (scripts_of setting.now.scripts.now)
-        (engine_view setting.now.table.now (map (λ h. h.known) setting.now.hooks.now.all.items)))
-        result.1 result.2 (entry (first_frame script begin caller) world.old.world)
-        world.new.world) }
+    ensures run { IsRunOf result.0 result.1 result.2 (run_from (host_in (seen setting.now)) limit
+        script begin caller world.old.world) (scripts_in (seen setting.now))
+        (tables_in (seen setting.now)) world.old.world world.new.world }
+    ensures cut { WhereCut result.0 (IsCut (host_in (seen setting.now)) result.1 result.2 (entry
+        (first_frame script begin caller) world.old.world) world.new.world) }
 {
     entries_begin_safely();
+    setting.code.keeps();
     match begin {
         Begin::Start => {
-            let mut machine = Machine::of(alloc, Frame::started(alloc, script, caller));
-            run_machine(
-                alloc,
-                setting.scripts,
-                &mut machine,
-                world,
-                setting.hooks,
-                setting.table,
-                limit,
-            )
+            let frame = Frame::started(alloc, script, caller);
+            run_frame(alloc, setting, frame, world, limit)
         }
         Begin::Stored(saved) => match Frame::continued(alloc, saved, caller) {
             Err(_) => (Ran::NoMemory, 0, caller),
-            Ok(frame) => {
-                let mut machine = Machine::of(alloc, frame);
-                run_machine(
-                    alloc,
-                    setting.scripts,
-                    &mut machine,
-                    world,
-                    setting.hooks,
-                    setting.table,
-                    limit,
-                )
-            }
+            Ok(frame) => run_frame(alloc, setting, frame, world, limit),
         },
     }
 }

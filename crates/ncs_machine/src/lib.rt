@@ -17,7 +17,6 @@ mod step;
 
 pub use entry::{Ran, run};
 pub use laws::{calls_keep_fits, entries_keep_fits, runs_lead};
-pub use machine::script_named;
 pub use scene::Scene;
 pub use scripts::{Begin, Loaded, Ready, Scripts};
-pub use setting::PlaySetting;
+pub use setting::{CheckedScripts, PlaySetting};

@@ -1,6 +1,8 @@
 //! The frames of a running entry, and one step.
 ghost use Rattle.std.specs.Prelude.{◌≡◌, ◌≢◌, ◌≤◌, ◌<◌, ◌+◌, ◌^◌, [], ◌∷◌, length, map, None};
-ghost use Rattle.std.specs.Prelude.{IfOk, OnErr, OnOk, Some, slice_get, ℕ};
+ghost use Rattle.std.specs.Prelude.{IfOk, OnErr, OnOk, Option, Some, slice_get, ℕ};
+ghost use Rattle.nwq_value.specs.Engine.{IsRoutine};
+ghost use Rattle.nwq_value.specs.declared.engine.Role.TheVariants.{Pure};
 ghost use Rattle.std.specs.List.{position_from};
 ghost use Rattle.nwq_value.specs.Limits.{file_limit};
 ghost use Rattle.ncs_code.specs.Plain.{Action};
@@ -15,6 +17,7 @@ ghost use Rattle.machine_rules.specs.Machine.{Host, answered, script_begun, exec
 ghost use Rattle.machine_rules.specs.Machine.{over};
 ghost use Rattle.machine_rules.specs.Machine.{script_named};
 ghost use Rattle.world_rules.specs.World.{World as WorldView, count as object_count};
+ghost use Rattle.hook_table.specs.InHooks.{known_by};
 ghost use Rattle.ncs_machine.specs.Host.{EngineView, answer_of, engine_answer, engine_view, host};
 ghost use Rattle.ncs_machine.specs.Host.{scripts_of};
 ghost use Rattle.ncs_machine.specs.Steps.{FitArguments, IsHalfway, Remains, next_of, state};
@@ -23,7 +26,7 @@ ghost use Rattle.world_core.specs.Calls.{AreServing, IsEarly};
 use crate::scripts::{Loaded, Scripts};
 use hook_table::Hooks;
 use machine_frames::{Arguments, Frame};
-use nwq_value::{Args, NoMemory, Routine, Table, Text};
+use nwq_value::{Args, NoMemory, Role, Routine, Table, Text};
 use saved_state::Saved;
 use std::alloc::Global;
 use std::marker::Model;
@@ -38,6 +41,8 @@ const MOST_WAITING: usize = 8;
 pub struct Machine {
     pub(crate) running: Frame,
     waiting: Vec<Frame>,
+    /// What a call's arguments are put into, which is kept so that few calls take memory for it.
+    list: Args,
 }
 
 impl Model for Machine {
@@ -100,7 +105,7 @@ fn named_from(scripts: &[Loaded], name: &[u8], from: usize) -> Option<usize>
 
 /// The number of the listed script of a name, where its letters count without their case.
 #[tactic(auto, using(crate::proofs::Names::position_is))]
-pub fn script_named(scripts: &Scripts, name: &Text) -> Option<usize>
+pub(crate) fn script_named(scripts: &Scripts, name: &Text) -> Option<usize>
     requires few { length scripts.now < 2 ^ 32 }
     ensures number { result ≡ script_named (scripts_of scripts.now) name.now }
 {
@@ -115,6 +120,7 @@ impl Machine {
         Machine {
             running,
             waiting: Vec::new(alloc),
+            list: Args::new(alloc),
         }
     }
 
@@ -144,7 +150,8 @@ impl Machine {
     }
 
     /// The arguments of a call of the routine, which has this number, by an instruction of this
-    /// size, where none were taken yet.
+    /// size, where none were taken yet. They stand in the list of the last call whose arguments
+    /// were lent.
     pub(crate) fn take(
         &mut self,
         alloc: Global,
@@ -163,6 +170,8 @@ impl Machine {
             (IsCall routine.now number count self.old.running self.new.running args.new) }
         ensures others { self.new ≡ record self.old { running = self.new.running } }
     {
+        args.values = mem::replace(&mut self.list, Args::new(alloc));
+        args.values.clear();
         self.running
             .take_arguments(alloc, routine, number, count, size, args)
     }
@@ -268,9 +277,82 @@ impl Machine {
         self.begin_script(alloc, scripts, world, name, target)
     }
 
-    /// A call of the engine, behind it.
-    #[tactic(auto, using(crate::proofs::Calls::ask_lemmas))]
+    /// A call of the engine, behind it: of the routine of this number. Where its arguments are
+    /// lent, the list is kept for the next call.
+    #[tactic(auto, using(crate::proofs::Calls::lent_lemmas))]
     pub(crate) fn ask(
+        &mut self,
+        alloc: Global,
+        world: &mut World<Saved>,
+        hooks: &Hooks,
+        table: &Table,
+        n: u16,
+        routine: &Routine,
+        args: &mut Arguments,
+    ) -> Result<(), NoMemory>
+        requires early { IsEarly world.old.world }
+        requires caller { self.old.running.self ≤ object_count world.old.world }
+        requires hooks { AreServing (known_by hooks.now) }
+        requires listed { slice_get table.now.routines n ≡ Some routine.now }
+        requires routine { IsRoutine routine.now }
+        requires types { FitArguments
+            (engine_view table.now (known_by hooks.now)) n args.old.values }
+        ensures room { world.old.room ≤ world.new.room }
+        ensures answered { OnOk result (answered (answer_of (engine_answer
+            (engine_view table.now (known_by hooks.now)) n
+            self.old.running.self args.old.values args.old.action world.old.world)) self.old.running
+            (state self.old world.old.world) ≡ state self.new world.new.world) }
+        ensures cut { OnErr result (IsHalfway world.old.world (engine_answer
+            (engine_view table.now (known_by hooks.now)) n
+            self.old.running.self args.old.values args.old.action world.old.world).world
+            world.new.world) }
+    {
+        match routine.role {
+            Role::Pure(k) => {
+                self.ask_function(world, hooks, table, n, routine, k, &args.values)?;
+                mem::swap(&mut self.list, &mut args.values);
+                Ok(())
+            }
+            Role::Built(_) | Role::World | Role::Uncallable => {
+                let Arguments { values, action } = mem::replace(args, Arguments::new(alloc));
+                self.ask_engine(world, hooks, table, n, values, action)
+            }
+        }
+    }
+
+    /// The same of a function of strings and numbers, which changes nothing.
+    fn ask_function(
+        &mut self,
+        world: &World<Saved>,
+        hooks: &Hooks,
+        table: &Table,
+        n: u16,
+        routine: &Routine,
+        k: u8,
+        values: &Args,
+    ) -> Result<(), NoMemory>
+        requires hooks { AreServing (known_by hooks.now) }
+        requires listed { slice_get table.now.routines n ≡ Some routine.now }
+        requires routine { IsRoutine routine.now }
+        requires role { routine.now.role ≡ Pure k }
+        requires types { FitArguments
+            (engine_view table.now (known_by hooks.now)) n values.now }
+        ensures answered { (action : Option SavedView) → OnOk result
+            (answered (answer_of (engine_answer
+            (engine_view table.now (known_by hooks.now)) n
+            self.old.running.self values.now action world.now.world)) self.old.running
+            (state self.old world.now.world) ≡ state self.new world.now.world) }
+    {
+        match world.function(hooks, table, n, routine, k, values)? {
+            None => Ok(()),
+            Some(value) => self.running.give(value),
+        }
+    }
+
+    /// The same of any routine.
+    #[inline(never)]
+    #[tactic(auto, using(crate::proofs::Calls::ask_lemmas))]
+    fn ask_engine(
         &mut self,
         world: &mut World<Saved>,
         hooks: &Hooks,
@@ -281,16 +363,16 @@ impl Machine {
     ) -> Result<(), NoMemory>
         requires early { IsEarly world.old.world }
         requires caller { self.old.running.self ≤ object_count world.old.world }
-        requires hooks { AreServing (map (λ h. h.known) hooks.now.all.items) }
+        requires hooks { AreServing (known_by hooks.now) }
         requires types { FitArguments
-            (engine_view table.now (map (λ h. h.known) hooks.now.all.items)) n values }
+            (engine_view table.now (known_by hooks.now)) n values }
         ensures room { world.old.room ≤ world.new.room }
         ensures answered { OnOk result (answered (answer_of (engine_answer
-            (engine_view table.now (map (λ h. h.known) hooks.now.all.items)) n
+            (engine_view table.now (known_by hooks.now)) n
             self.old.running.self values action world.old.world)) self.old.running
             (state self.old world.old.world) ≡ state self.new world.new.world) }
         ensures cut { OnErr result (IsHalfway world.old.world (engine_answer
-            (engine_view table.now (map (λ h. h.known) hooks.now.all.items)) n
+            (engine_view table.now (known_by hooks.now)) n
             self.old.running.self values action world.old.world).world world.new.world) }
     {
         let own = self.running.own();

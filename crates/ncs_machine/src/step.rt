@@ -1,6 +1,6 @@
 //! One instruction of a running entry.
 ghost use Rattle.std.specs.Prelude.{◌≡◌, ◌≢◌, ◌≤◌, ◌<◌, ◌+◌, ◌^◌, None, Some, IfOk, IfSome};
-ghost use Rattle.std.specs.Prelude.{OnErr, length, map, slice_get};
+ghost use Rattle.std.specs.Prelude.{OnErr, length, slice_get};
 ghost use Rattle.std.specs.Option.{option_map};
 ghost use Rattle.nwq_value.specs.Limits.{file_limit};
 ghost use Rattle.ncs_code.specs.Spelling.{op_size};
@@ -8,13 +8,13 @@ ghost use Rattle.machine_rules.specs.Act.{Moves, act};
 ghost use Rattle.machine_rules.specs.Frames.{Frame as FrameView};
 ghost use Rattle.machine_rules.specs.Machine.{followed, step};
 ghost use Rattle.world_rules.specs.World.{count};
+ghost use Rattle.hook_table.specs.InHooks.{known_by};
 ghost use Rattle.decoded_code.specs.Steps.{op_of};
 ghost use Rattle.ncs_machine.specs.Host.{engine_view, host, scripts_of};
 ghost use Rattle.ncs_machine.specs.Steps.{GoesWell, IsHalfway, Remains, Stays, next_of, state};
 ghost use Rattle.ncs_machine.specs.Steps.{world_behind};
 ghost use Rattle.world_core.specs.Calls.{AreServing, IsEarly};
 
-use crate::call::EngineCall;
 use crate::machine::{Machine, StepOutcome};
 use crate::scripts::{Loaded, Scripts};
 use decoded_code::Step;
@@ -41,7 +41,7 @@ impl Machine {
         requires few { length scripts.now < 2 ^ 32 }
         requires early { IsEarly world.old.world }
         requires caller { self.old.running.self ≤ count world.old.world }
-        requires hooks { AreServing (map (λ h. h.known) hooks.now.all.items) }
+        requires hooks { AreServing (known_by hooks.now) }
         requires case { act table.now (op_of decoded.now) self.old.running ≢ None }
         requires deep { (f : FrameView)
             → act table.now (op_of decoded.now) self.old.running ≡ Some (Moves f)
@@ -51,7 +51,7 @@ impl Machine {
         ensures stays { IfOk result (λ next. Stays next world.old.world world.new.world) }
         ensures next { IfOk result (λ next. IfSome (act table.now (op_of decoded.now)
             self.old.running) (λ a. followed (host (scripts_of scripts.now)
-            (engine_view table.now (map (λ h. h.known) hooks.now.all.items)))
+            (engine_view table.now (known_by hooks.now)))
             (state self.old world.old.world) a
             ≡ next_of next (state self.new world.new.world))) }
         ensures remains { IfOk result (λ next. Remains next self.old.running.script
@@ -60,18 +60,13 @@ impl Machine {
             self.new.running.self) }
         ensures cut { OnErr result (IsHalfway world.old.world (world_behind (option_map (followed
             (host (scripts_of scripts.now)
-            (engine_view table.now (map (λ h. h.known) hooks.now.all.items)))
+            (engine_view table.now (known_by hooks.now)))
             (state self.old world.old.world)) (act table.now (op_of decoded.now)
             self.old.running)) world.old.world) world.new.world) }
     {
         match decoded {
             Step::Action { routine, count } => {
-                let call = EngineCall {
-                    number: *routine,
-                    count: *count,
-                    size: decoded.size(),
-                };
-                self.call_engine(alloc, scripts, world, hooks, table, call)?;
+                self.call_engine(alloc, scripts, world, hooks, table, *routine, *count)?;
                 Ok(StepOutcome::Enters)
             }
             Step::Jsr { offset } => {
@@ -127,15 +122,15 @@ impl Machine {
         requires script { slice_get scripts.now self.old.running.script ≡ Some script.now }
         requires early { IsEarly world.old.world }
         requires caller { self.old.running.self ≤ count world.old.world }
-        requires hooks { AreServing (map (λ h. h.known) hooks.now.all.items) }
+        requires hooks { AreServing (known_by hooks.now) }
         requires well { GoesWell (step (host (scripts_of scripts.now)
-            (engine_view table.now (map (λ h. h.known) hooks.now.all.items)))
+            (engine_view table.now (known_by hooks.now)))
             (state self.old world.old.world)) }
         ensures room { world.old.room ≤ world.new.room }
         ensures stays { IfOk result (λ next. Stays next world.old.world world.new.world) }
         ensures next { IfOk result (λ next.
             step (host (scripts_of scripts.now)
-            (engine_view table.now (map (λ h. h.known) hooks.now.all.items)))
+            (engine_view table.now (known_by hooks.now)))
             (state self.old world.old.world)
             ≡ Some (next_of next (state self.new world.new.world))) }
         ensures remains { IfOk result (λ next. Remains next self.old.running.script
@@ -144,7 +139,7 @@ impl Machine {
             self.new.running.self) }
         ensures cut { OnErr result (IsHalfway world.old.world (world_behind (step
             (host (scripts_of scripts.now)
-            (engine_view table.now (map (λ h. h.known) hooks.now.all.items)))
+            (engine_view table.now (known_by hooks.now)))
             (state self.old world.old.world)) world.old.world) world.new.world) }
     {
         place_laws();

@@ -10,16 +10,17 @@ use Rattle.nss_tree.specs.declared.statements.Stmt.{Stmt}
 use Rattle.nss_tree.specs.declared.units.Item.{Item}
 use Rattle.nss_tree.specs.Reading.{plain_expr, plain_exprs, plain_name, plain_names, plain_stmt, plain_stmts, plain_item}
 use Rattle.nss_tree.specs.Readings.{stmts_more, map_stmts_none, plain_exprs_none, plain_exprs_more}
-use Rattle.nss_tree.specs.Source.{SourceParameter}
+use Rattle.nss_tree.specs.Source.{SourceLine, SourceParameter}
 use Rattle.nss_tree.specs.Statements.{map_stmts, more_stmts, no_stmt}
 use Rattle.nwq_value.specs.declared.value.Ty.{Ty}
 use Rattle.nwq_value.specs.declared.engine.Param.{Param}
 use Rattle.typing_rules.specs.Rules.{others, takes_action}
-use Rattle.typing_rules.specs.Sight.{Head, Sight, declared}
+use Rattle.typing_rules.specs.Sight.{Head, Sight, Structure, declared}
 use Rattle.typing_rules.specs.Verdicts.{after, afters, after_names, after_item, after_items, after_params, late_after, parameter_declared}
 use Rattle.nss_reasons.specs.declared.reason.Reason.{Reason}
-use Rattle.nss_reasons.specs.Reasons.{nodes, all_nodes, nodes_there, value_nodes, variable_why, names_nodes, stmt_nodes, stmts_nodes, parameter_why, params_nodes, item_nodes, items_nodes}
+use Rattle.nss_reasons.specs.Reasons.{nodes, all_nodes, nodes_there, value_nodes, variable_why, names_nodes, stmt_nodes, stmts_nodes, parameter_why, params_nodes, fields_nodes, item_nodes, items_nodes}
 use Rattle.nss_reasons.specs.Seen.{Node, own, seen, seen_append}
+use Rattle.nss_reasons.specs.Why.{line_why}
 
 pub record RowLaws {C R : Type 0} (after : C → R → C) (own_nodes : C → R → List Node)
     (Nodes : C → List R → List Node) (After : C → List R → C) : Type 0 where
@@ -116,6 +117,19 @@ item_laws hs = record {
   nodes_more = λ c x xs. refl;
   nodes_none = λ c. refl;
   after_more = λ c x xs. refl;
+  after_none = λ c. refl;
+}
+
+-- lines of fields, before which the same structs stand
+pub field_laws : RowLaws
+    (λ (structs : List Structure) (l : SourceLine). structs)
+    (λ structs l. own l.token (line_why structs l.ty))
+    fields_nodes
+    (λ structs ls. structs)
+field_laws = record {
+  nodes_more = λ c l ls. refl;
+  nodes_none = λ c. refl;
+  after_more = λ c l ls. refl;
   after_none = λ c. refl;
 }
 

@@ -2,24 +2,24 @@
 -- nodes with the same sight as the list of faults does, and speaks of those whose rule joins types,
 -- counts or values.
 use Rattle.std.specs.Prelude.{ℕ, Bool, false, List, [], ◌∷◌, ◌++◌, Option, None, Some}
-use Rattle.std.specs.Option.{option_map, option_and_then}
+use Rattle.std.specs.Option.{option_map}
 use Rattle.nss_tree.specs.declared.constants.Constant.{Constant}
 use Rattle.nss_tree.specs.declared.constants.TypeName.{TypeName}
 use Rattle.nss_tree.specs.Expressions.{PlainExpr, PlainExprs, int, float, text, object_self, object_invalid, name, call, member, prefix, postfix, binary, assign, no_expr, more_exprs}
 use Rattle.nss_tree.specs.Statements.{block, empty, expression, if_only, if_else, while_loop, do_loop, for_loop, switch, break_off, continue_on, return_from, declaration, case_label, default_label, no_stmt, more_stmts}
 use Rattle.nss_tree.specs.Units.{structure, constant, global, function}
-use Rattle.nss_tree.specs.Source.{SourceDeclared, SourceStmt, SourceStmts, SourceItem, SourceTree, SourceParameter}
+use Rattle.nss_tree.specs.Source.{SourceDeclared, SourceStmt, SourceStmts, SourceItem, SourceTree, SourceLine, SourceParameter}
 use Rattle.nwq_value.specs.declared.value.Ty.{Ty}
 use Rattle.nwq_value.specs.declared.engine.Const.{Const}
 use Rattle.nwq_value.specs.declared.engine.Param.{Param}
 use Rattle.nwq_value.specs.Engine.{EngineTable}
 use Rattle.typing_rules.specs.Nodes.{two, if_there}
-use Rattle.typing_rules.specs.Sight.{Head, Sight, start, callee, wanted, type_means, value_type, declared_type, declared, scope_entered, inside, looped, switched}
-use Rattle.typing_rules.specs.Rules.{takes_action, others, member_rule, prefix_rule, postfix_rule, binary_rule, assign_rule, variable_rule, constant_name_rule, return_rule, case_rule, parameter_of}
+use Rattle.typing_rules.specs.Sight.{Head, Sight, Structure, Is, start, callee, wanted, type_means, declared, scope_entered, inside, looped, switched}
+use Rattle.typing_rules.specs.Rules.{takes_action, others, member_rule, prefix_rule, postfix_rule, binary_rule, assign_rule, variable_rule, constant_name_rule, return_rule, case_rule, parameter_rule}
 use Rattle.typing_rules.specs.Verdicts.{value, all_fine, constant_value, constant_parts, line_type, after, after_then, after_item, in_function, in_body, parameter_declared, late_after, heads}
 use Rattle.nss_reasons.specs.declared.reason.Reason.{Reason}
 use Rattle.nss_reasons.specs.Seen.{Node, own, seen}
-use Rattle.nss_reasons.specs.Why.{because, operands, assign_reason, prefix_reason, postfix_reason, member_reason, call_why, condition_rule, condition_reason, return_reason, case_reason, variable_reason, constant_reason, parameter_reason}
+use Rattle.nss_reasons.specs.Why.{because, operands, assign_reason, prefix_reason, postfix_reason, member_reason, call_why, condition_rule, condition_reason, return_reason, case_reason, variable_reason, constant_reason, parameter_reason, line_why, constant_line_why}
 
 -- of a part that may be absent
 abbrev pub nodes_there : {A : Type 0} → (A → List Node) → Option A → List Node
@@ -80,6 +80,11 @@ names_nodes hs c t (d ∷ ds) =
     (nodes_there (value_nodes hs c) d.value ++ own d.token (variable_why hs c t d))
     ++ names_nodes hs (declared c d.name t) t ds
 
+-- a line of variables with this token
+abbrev pub line_nodes : List Head → Sight → ℕ → TypeName → List SourceDeclared → List Node
+line_nodes hs c n t ds = own n (line_why c.structs t)
+    ++ names_nodes hs c (line_type c.structs t) ds
+
 abbrev pub return_why : List Head → Sight → ℕ → Option PlainExpr → Option Reason
 return_why hs c n e = because (return_rule n) return_reason
     (two c.result (if_there (value hs c) e))
@@ -105,7 +110,7 @@ abbrev mutual
   stmt_nodes hs c (continue_on n) = []
   stmt_nodes hs c (return_from n e) = nodes_there (value_nodes hs c) e
       ++ own n (return_why hs c n e)
-  stmt_nodes hs c (declaration n t ds) = names_nodes hs c (line_type c.structs t) ds
+  stmt_nodes hs c (declaration n t ds) = line_nodes hs c n t ds
   stmt_nodes hs c (case_label n k) = own n (case_why c n k)
   stmt_nodes hs c (default_label n) = []
 
@@ -115,14 +120,18 @@ abbrev mutual
 
 -- ---- items
 
--- a parameter whose type is one of a value; late: one with a default stands before
+abbrev pub fields_nodes : List Structure → List SourceLine → List Node
+fields_nodes structs [] = []
+fields_nodes structs (l ∷ ls) = own l.token (line_why structs l.ty) ++ fields_nodes structs ls
+
+-- a parameter of this type; late: one with a default stands before
 abbrev pub parameter_by : Sight → Bool → SourceParameter → Ty × Option Const → Option Reason
-parameter_by c late p q = because (parameter_of c late p q.1)
-    (parameter_reason c late p.name q.1) (Some q.0)
+parameter_by c late p q = because (parameter_rule c late p)
+    (parameter_reason c late p.name) (Some (Is q.0, q.1))
 
 abbrev pub parameter_why : Sight → Bool → SourceParameter → Option Reason
-parameter_why c late p = option_and_then (parameter_by c late p)
-    (two (declared_type c.structs p.ty) (if_there (constant_value c) p.default))
+parameter_why c late p = because (parameter_rule c late p) (parameter_reason c late p.name)
+    (two (type_means c.structs p.ty) (if_there (constant_value c) p.default))
 
 abbrev pub params_nodes : Sight → Bool → List SourceParameter → List Node
 params_nodes c late [] = []
@@ -133,9 +142,10 @@ abbrev pub constant_why : Sight → TypeName → List ℕ → Constant → Optio
 constant_why c t x k = because (constant_name_rule c x) (constant_reason c x) (constant_parts c t k)
 
 abbrev pub item_nodes : List Head → Sight → SourceItem → List Node
-item_nodes hs c (structure n x ls) = []
-item_nodes hs c (constant n t x k) = own x.token (constant_why c t x.name k)
-item_nodes hs c (global n t ds) = names_nodes hs c (line_type c.structs t) ds
+item_nodes hs c (structure n x ls) = fields_nodes c.structs ls
+item_nodes hs c (constant n t x k) = own n (constant_line_why c.structs t)
+    ++ own x.token (constant_why c t x.name k)
+item_nodes hs c (global n t ds) = line_nodes hs c n t ds
 item_nodes hs c (function n t x ps body) = params_nodes (in_function c t) false ps
     ++ nodes_there (stmts_nodes hs (in_body c t ps)) body
 

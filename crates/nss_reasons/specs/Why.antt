@@ -2,6 +2,7 @@
 -- that they have and the one that is wanted, the counts, or what else the rule asks for.
 use Rattle.std.specs.Prelude.{ℕ, ℤ, ◌+◌, Bool, true, false, not, ◌&&◌, ◌||◌, List, [], ◌∷◌, length, Option, None, Some, is_none, is_some, if◌then◌else◌}
 use Rattle.std.specs.Option.{option_map}
+use Rattle.nss_tree.specs.declared.constants.TypeName.{TypeName}
 use Rattle.nss_tree.specs.declared.operators.PrefixOperator.{PrefixOperator}
 use Rattle.nss_tree.specs.Source.{SourceParameter}
 use Rattle.nwq_value.specs.declared.value.Ty.{Ty}
@@ -12,10 +13,10 @@ use Rattle.nwq_value.specs.declared.engine.Param.{Param}
 use Rattle.nwq_value.specs.Engine.{const_type}
 use Rattle.typing_rules.specs.Types.{is_int, is_void, same_type, is_step}
 use Rattle.typing_rules.specs.Typed.{TypedExpr, TypedExprs, no_typed, more_typed, type_of, is_place}
-use Rattle.typing_rules.specs.Sight.{Sight, Labels, Called, is_taken, crosses_with, cells}
-use Rattle.typing_rules.specs.Rules.{when, takes, filled, is_barred, is_again, is_outside, is_behind, default_fits}
+use Rattle.typing_rules.specs.Sight.{Sight, Structure, Labels, Called, Meant, Is, IsRefused, IsMissing, is_taken, crosses_with, cells, type_means, value_type}
+use Rattle.typing_rules.specs.Rules.{when, takes, filled, is_barred, is_again, is_outside, is_behind, constant_type}
 use Rattle.nss_reasons.specs.declared.reason.Reason.{Reason}
-use Rattle.nss_reasons.specs.declared.reason.Reason.TheVariants.{Operands, Operand, NoPlace, Uncallable, NoFunction, Arguments, Barred, Argument, NoMember, Condition, Returned, Taken, Value, Default, Cells, Again, Misplaced, Label, NoDefault}
+use Rattle.nss_reasons.specs.declared.reason.Reason.TheVariants.{Operands, Operand, NoPlace, Uncallable, NoFunction, Arguments, Barred, Argument, NoMember, Condition, Returned, Taken, Value, Default, Cells, Again, Misplaced, Label, NoDefault, NoVariable, NoConstant, LeftOut, NoStruct}
 
 abbrev pub unless : {B : Type 0} → Option B → Reason → Option Reason
 unless None r = Some r
@@ -151,12 +152,36 @@ constant_reason c x p = if is_taken c x then Taken else Value (const_type p.1) p
 abbrev pub const_type_there : Option Const → Option Ty
 const_type_there v = option_map const_type v
 
-abbrev pub default_reason : Ty → Option Ty → Reason
-default_reason t None = Cells
-default_reason t (Some s) = if same_type t s then Cells else Default s t
+abbrev pub default_by : Ty → Option Ty → Reason
+default_by t None = Cells
+default_by t (Some s) = if same_type t s then Cells else Default s t
 
--- a parameter whose type is one of a value
-abbrev pub parameter_reason : Sight → Bool → List ℕ → Option Const → Ty → Reason
-parameter_reason c late x v t =
+abbrev pub default_reason : Ty → Option Ty → Reason
+default_reason t s = if is_void t then NoVariable t else default_by t s
+
+abbrev pub default_fits_type : Ty → Option Ty → Bool
+default_fits_type t s = not (is_void t) && fits_type t s
+
+-- ---- types as they are written
+
+-- by what is said of a type that is none there
+abbrev pub line_reason : (Ty → Reason) → Meant → Reason
+line_reason f (Is t) = f t
+line_reason f IsRefused = LeftOut
+line_reason f IsMissing = NoStruct
+
+-- the line of variables, or of fields
+abbrev pub line_why : List Structure → TypeName → Option Reason
+line_why structs t = because value_type (line_reason NoVariable) (type_means structs t)
+
+-- and that of a constant
+abbrev pub constant_line_why : List Structure → TypeName → Option Reason
+constant_line_why structs t = because constant_type (line_reason NoConstant) (type_means structs t)
+
+abbrev pub parameter_named : Sight → Bool → List ℕ → Option Const → Ty → Reason
+parameter_named c late x v t =
     if is_taken c x then Taken else
     (if is_behind late v then NoDefault else default_reason t (const_type_there v))
+
+abbrev pub parameter_reason : Sight → Bool → List ℕ → Meant × Option Const → Reason
+parameter_reason c late x q = line_reason (parameter_named c late x q.1) q.0

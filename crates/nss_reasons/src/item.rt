@@ -1,14 +1,15 @@
 //! The walk over the items of a unit.
 
 ghost use Rattle.std.specs.Prelude.{◌≡◌, false, OnOk, map};
-ghost use Rattle.std.specs.Option.{option_and_then, option_map};
+ghost use Rattle.std.specs.Option.{option_map};
 ghost use Rattle.nss_tree.specs.Reading.{plain_item, plain_stmts};
 ghost use Rattle.typing_rules.specs.Nodes.{two};
-ghost use Rattle.typing_rules.specs.Rules.{constant_name_rule, is_behind};
+ghost use Rattle.typing_rules.specs.Rules.{constant_name_rule, is_behind, parameter_rule};
 ghost use Rattle.typing_rules.specs.Types.{same_type};
 ghost use Rattle.typing_rules.specs.Verdicts.{after_body, after_item, after_items, after_params};
 ghost use Rattle.typing_rules.specs.Verdicts.{in_body, in_function, late_after};
 ghost use Rattle.typing_rules.specs.Verdicts.{parameter_declared};
+ghost use Rattle.nss_scopes.specs.Entries.{meant_of};
 ghost use Rattle.nss_scopes.specs.Views.{in_sight};
 ghost use Rattle.nss_expressions.specs.Views.{heads_in, sight_in};
 ghost use Rattle.nss_reasons.specs.Reasons.{constant_why, item_nodes, items_nodes, nodes_there};
@@ -16,18 +17,21 @@ ghost use Rattle.nss_reasons.specs.Reasons.{parameter_by, parameter_why, params_
 ghost use Rattle.nss_reasons.specs.Reasons.{stmts_nodes};
 ghost use Rattle.nss_reasons.specs.Seen.{noted, seen};
 ghost use Rattle.nss_reasons.specs.Why.{because, constant_reason, const_type_there};
-ghost use Rattle.nss_reasons.specs.Why.{declared_by, default_reason, parameter_by_tests};
+ghost use Rattle.nss_reasons.specs.Why.{declared_by, default_by, default_fits_type};
+ghost use Rattle.nss_reasons.specs.Why.{default_reason, parameter_by_tests, parameter_reason};
 ghost use Rattle.nss_reasons.specs.declared.reason.Reason.TheVariants.{Value};
 
-use crate::declared::{names, value_fits};
+use crate::declared::value_fits;
 use crate::found::note;
+use crate::line::{fields, line, own_constant_line};
 use crate::reason::Reason;
 use crate::statement::statements;
 use nss_expressions::constant::{constant, constant_there};
 use nss_expressions::given::Given;
-use nss_expressions::line::{constant_line_type, declared_type, line_type, result_type};
-use nss_scopes::Sight;
+use nss_expressions::line::{constant_line_type, declared_type, result_type, type_means};
+use nss_expressions::rules::is_void;
 use nss_scopes::laws::scopes_are_left;
+use nss_scopes::{Meant, Sight};
 use nss_tree::{Constant, Identifier, Item, Parameter, Stmt, TypeName};
 use nss_types::item as typed;
 use nwq_value::{Const, Items, NoMemory, Table, Ty};
@@ -46,8 +50,8 @@ fn default_type(value: &Option<Const>) -> Option<Ty>
 }
 
 /// What is wrong with a default of this type, or with the cells of its parameter.
-fn default_reason(wanted: Ty, given: Option<Ty>) -> Reason
-    ensures { result ≡ default_reason wanted given }
+fn default_by(wanted: Ty, given: Option<Ty>) -> Reason
+    ensures { result ≡ default_by wanted given }
 {
     match given {
         None => Reason::Cells,
@@ -59,6 +63,24 @@ fn default_reason(wanted: Ty, given: Option<Ty>) -> Reason
             }
         }
     }
+}
+
+/// What is wrong with the type of a parameter, with its default or with its cells.
+fn default_reason(wanted: Ty, given: Option<Ty>) -> Reason
+    ensures { result ≡ default_reason wanted given }
+{
+    if is_void(wanted) {
+        Reason::NoVariable { ty: wanted }
+    } else {
+        default_by(wanted, given)
+    }
+}
+
+/// Whether a parameter may be of this type, and its default, if one is given, of the other.
+fn default_fits(wanted: Ty, given: Option<Ty>) -> bool
+    ensures { result ≡ default_fits_type wanted given }
+{
+    !is_void(wanted) && value_fits(wanted, given)
 }
 
 /// What is wrong with a parameter, if something is.
@@ -103,33 +125,54 @@ fn parameter_by(
     let taken = c.is_taken(table, p.name.bytes());
     let behind = is_behind(late, value);
     let given = default_type(value);
-    let fits = value_fits(ty, given);
+    let fits = default_fits(ty, given);
     let crosses = c.crosses_with(c.structs.cells(ty));
     let reason = default_reason(ty, given);
     parameter_by_tests(taken, behind, fits, crosses, reason)
 }
 
-/// A parameter of this type and this default, if they are typed.
+/// A parameter whose type means this, and of this default.
+fn parameter_meant(
+    table: &Table,
+    c: &Sight,
+    late: bool,
+    p: &Parameter,
+    meant: Meant,
+    value: &Option<Const>,
+) -> Option<Reason>
+    ensures { result ≡ because (parameter_rule (in_sight table.now c.now) late p.now)
+        (parameter_reason (in_sight table.now c.now) late p.now.name)
+        (Some (meant_of meant, value.now)) }
+{
+    match meant {
+        Meant::Is(ty) => parameter_by(table, c, late, p, ty, value),
+        Meant::Refused => Some(Reason::LeftOut),
+        Meant::Missing => Some(Reason::NoStruct),
+    }
+}
+
+/// A parameter whose type means this, and of this default, if they are typed.
 fn parameter_why(
     table: &Table,
     c: &Sight,
     late: bool,
     p: &Parameter,
-    ty: Option<Ty>,
+    meant: Option<Meant>,
     value: Option<Option<Const>>,
 ) -> Option<Reason>
-    ensures { result ≡ option_and_then (parameter_by (in_sight table.now c.now) late p.now)
-        (two ty value) }
+    ensures { result ≡ because (parameter_rule (in_sight table.now c.now) late p.now)
+        (parameter_reason (in_sight table.now c.now) late p.now.name)
+        (two (option_map meant_of meant) value) }
 {
-    match ty {
+    match meant {
         None => {
             drop(value);
             None
         }
-        Some(ty) => match value {
+        Some(meant) => match value {
             None => None,
             Some(value) => {
-                let why = parameter_by(table, c, late, p, ty, &value);
+                let why = parameter_meant(table, c, late, p, meant, &value);
                 drop(value);
                 why
             }
@@ -154,8 +197,8 @@ fn own_parameter(
     }
     let mut ignored = None;
     let value = constant_there(given.alloc, given.table, c, &mut ignored, &p.default)?;
-    let ty = declared_type(&c.structs, &p.ty);
-    note(found, parameter_why(given.table, c, late, p, ty, value));
+    let meant = type_means(&c.structs, &p.ty);
+    note(found, parameter_why(given.table, c, late, p, meant, value));
     Ok(())
 }
 
@@ -366,13 +409,17 @@ fn item(
         ≡ after_item (sight_in given.now c.old) (plain_item x.now)) }
 {
     match x {
-        Item::Struct { .. } => go_behind(given, c, x),
+        Item::Struct { fields: ls, .. } => {
+            fields(&c.structs, k, found, ls.as_slice());
+            go_behind(given, c, x)
+        }
         Item::Const {
+            token,
             ty,
             name,
             value,
-            ..
         } => {
+            own_constant_line(&c.structs, k, found, *token, ty);
             own_constant(given, c, k, found, ty, name, value)?;
             go_behind(given, c, x)
         }
@@ -380,11 +427,7 @@ fn item(
             token,
             ty,
             names: ds,
-        } => {
-            let mut ignored = None;
-            let ty = line_type(&mut ignored, *token, &c.structs, ty);
-            names(given, c, k, found, ty, ds.as_slice())
-        }
+        } => line(given, c, k, found, *token, ty, ds.as_slice()),
         Item::Function {
             result,
             parameters,

@@ -16,6 +16,8 @@ pub mod expression;
 pub mod found;
 #[tactic(auto, using(crate::specs::Seen::seen_append))]
 pub mod item;
+#[tactic(auto, using(crate::specs::Seen::seen_append))]
+pub mod line;
 pub mod reason;
 #[tactic(auto, using(crate::specs::Seen::seen_append))]
 pub mod statement;

@@ -73,4 +73,16 @@ pub enum Reason {
     },
     /// The parameter has no default, and one before it has.
     NoDefault,
+    /// No variable, field or parameter is of this type.
+    NoVariable {
+        ty: Ty,
+    },
+    /// No constant is of this type.
+    NoConstant {
+        ty: Ty,
+    },
+    /// The type as it is written is left out.
+    LeftOut,
+    /// No struct has the name.
+    NoStruct,
 }

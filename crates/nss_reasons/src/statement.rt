@@ -16,14 +16,14 @@ ghost use Rattle.nss_reasons.specs.Why.{because, case_reason, has_case, label_fi
 ghost use Rattle.nss_reasons.specs.Why.{label_reason};
 ghost use Rattle.nwq_value.specs.Engine.{EngineTable};
 
-use crate::declared::{names, typed_there, value_there};
+use crate::declared::{typed_there, value_there};
 use crate::expression::{condition, expression};
 use crate::found::note;
+use crate::line::line;
 use crate::reason::Reason;
 use crate::value::return_why;
 use nss_expressions::constant::constant;
 use nss_expressions::given::Given;
-use nss_expressions::line::line_type;
 use nss_expressions::rules::is_int;
 use nss_scopes::laws::scopes_are_left;
 use nss_scopes::{Labels, Sight};
@@ -433,9 +433,7 @@ fn declaration(
         ≡ after (sight_in given.now sight.old)
         (tree.declaration token ty.now (plain_names declared.now))) }
 {
-    let mut ignored = None;
-    let ty = line_type(&mut ignored, token, &sight.structs, ty);
-    names(given, sight, k, found, ty, declared)?;
+    line(given, sight, k, found, token, ty, declared)?;
     sight.see_declaration();
     Ok(())
 }

@@ -8,9 +8,10 @@
 //! what hooks promise in `hook_table`. See docs/ENGINE.md.
 #![tactic(auto)]
 
-ghost use Rattle.std.specs.Prelude.{◌≡◌, ◌≤◌, ◌+◌, [], map, IfOk, Ok, OnOk};
+ghost use Rattle.std.specs.Prelude.{◌≡◌, ◌≤◌, ◌+◌, [], IfOk, Ok, OnOk};
 ghost use Rattle.hook_table.specs.Served.{AreFirst};
 ghost use Rattle.hook_table.specs.Standard.{function_numbered, types_of_values, IsAnswer};
+ghost use Rattle.hook_table.specs.InHooks.{known_by};
 ghost use Rattle.world_core.specs.Calls.{AreServing, tables_of};
 
 use hook_table::laws::standard_hooks_are_put_one_by_one;
@@ -92,13 +93,13 @@ fn result_of(n: u8) -> Ty
 #[tactic(auto, using(crate::proofs::HookLemmas::next_first, crate::proofs::HookLemmas::name_kept))]
 pub fn put_hook(alloc: Global, hooks: &mut Hooks, n: u8, call: Call) -> Result<(), NoMemory>
     requires number { n ≤ 9 }
-    requires first { AreFirst n (map (λ h. h.known) hooks.old.all.items) }
+    requires first { AreFirst n (known_by hooks.old) }
     requires callable { (args : _) → types_of_values args.now ≡ (function_numbered n).params
         → Call.pre call args }
     requires answers { (args : _) (v : _) → types_of_values args.now ≡ (function_numbered n).params
         → Call.post call args (Ok v) → IsAnswer [] (function_numbered n).name
         (function_numbered n).result args.now v }
-    ensures next { OnOk result (AreFirst (n + 1) (map (λ h. h.known) hooks.new.all.items)) }
+    ensures next { OnOk result (AreFirst (n + 1) (known_by hooks.new)) }
 {
     standard_hooks_are_put_one_by_one();
     let name = Text::of(alloc, name_of(n).as_bytes())?;
@@ -116,14 +117,14 @@ pub fn put_cell_hook(
     call: Call,
     tables: Tables,
 ) -> Result<(), NoMemory>
-    requires first { AreFirst 9 (map (λ h. h.known) hooks.old.all.items) }
+    requires first { AreFirst 9 (known_by hooks.old) }
     requires callable { (args : _) → types_of_values args.now ≡ (function_numbered 9).params
         → Call.pre call args }
     requires answers { (args : _) (v : _) → types_of_values args.now ≡ (function_numbered 9).params
         → Call.post call args (Ok v) → IsAnswer tables (function_numbered 9).name
         (function_numbered 9).result args.now v }
-    ensures next { OnOk result (AreFirst 10 (map (λ h. h.known) hooks.new.all.items)) }
-    ensures tables { OnOk result (tables_of (map (λ h. h.known) hooks.new.all.items) ≡ tables) }
+    ensures next { OnOk result (AreFirst 10 (known_by hooks.new)) }
+    ensures tables { OnOk result (tables_of (known_by hooks.new) ≡ tables) }
 {
     standard_hooks_are_put_one_by_one();
     let name = Text::of(alloc, name_of(9).as_bytes())?;
@@ -134,6 +135,6 @@ pub fn put_cell_hook(
 /// Ten hooks that were put so are one for each function.
 #[tactic(auto, using(crate::proofs::HookLemmas::ten_serve))]
 pub fn all_are_put(hooks: &Hooks)
-    requires ten { AreFirst 10 (map (λ h. h.known) hooks.now.all.items) }
-    ensures serving { AreServing (map (λ h. h.known) hooks.now.all.items) }
+    requires ten { AreFirst 10 (known_by hooks.now) }
+    ensures serving { AreServing (known_by hooks.now) }
 {}

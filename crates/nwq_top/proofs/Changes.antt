@@ -1,5 +1,5 @@
 -- What a command changes.
-use Rattle.std.proofs.Common.{◌≡◌, ◌⊎◌, inl, inr, Bool, true, false, ℕ, List, [], ◌∷◌, ◌++◌, Option, Some, None, Result, Ok, Err, codes, bytes_eq, refl, sym, subst, ap, ◌∙◌}
+use Rattle.std.proofs.Common.{◌≡◌, ◌⊎◌, inl, inr, Bool, true, false, ℕ, List, [], ◌∷◌, ◌++◌, Option, Some, None, Result, Ok, Err, codes, bytes_eq, refl, sym, subst, ap}
 use Rattle.nwq_value.specs.Engine.{EngineTable}
 use Rattle.nwq_outside.specs.Outside.{Contents, with_content}
 use Rattle.gff_write.specs.declared.fault.WriteFault.{WriteFault}

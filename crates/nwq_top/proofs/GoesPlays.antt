@@ -1,5 +1,5 @@
 -- Plans, areas, listed scripts and plays: it can't be that they come to no end.
-use Rattle.std.proofs.Common.{◌≡◌, ℕ, nat_lt, min, ◌-◌, ◌^◌, Bool, true, false, cond, List, [], ◌∷◌, ◌++◌, length, Option, Some, Result, Ok, Err, refl, sym, subst, ◌∙◌, append_assoc}
+use Rattle.std.proofs.Common.{◌≡◌, ℕ, nat_lt, min, ◌-◌, ◌^◌, Bool, true, false, cond, List, [], ◌∷◌, ◌++◌, length, Result, Ok, Err, refl, sym, subst, ◌∙◌, append_assoc}
 use Rattle.std.proofs.lemmas.List.{append-nil}
 use Rattle.nwq_value.specs.Limits.{file_limit}
 use Rattle.nwq_value.specs.Engine.{EngineTable, IsTable}

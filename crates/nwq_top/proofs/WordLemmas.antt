@@ -1,5 +1,5 @@
 -- The work of equal words.
-use Rattle.std.proofs.Common.{◌≡◌, ℕ, List, map, String, Global, string_bytes, Result, Ok, Err, IfErr, sym, ap, subst}
+use Rattle.std.proofs.Common.{◌≡◌, ℕ, List, map, String, Global, string_bytes, Result, Ok, Err, IfErr, sym, subst}
 use Rattle.nwq_outside.specs.Outside.{Contents}
 use Rattle.world_rules.specs.Pure.{CellLookup}
 use Rattle.command_work.specs.declared.status.Status.{Status}

@@ -1,4 +1,5 @@
 ghost use Rattle.std.specs.Prelude.{◌≡◌, map, string_bytes, IsTrue};
+ghost use Rattle.hook_table.specs.InHooks.{known_by};
 ghost use Rattle.world_core.specs.Calls.{cells_of, AreServing};
 ghost use Rattle.command_work.specs.Work.{Does, ending};
 ghost use Rattle.command_work.specs.Counts.{Counted, Tallies, KeepsBut};
@@ -29,9 +30,9 @@ pub fn command<F: Files, S: Sink>(
     hooks: &Hooks,
     remarks: &mut Remarks,
 ) -> Result<(), Status>
-    requires hooks { AreServing (map (λ h. h.known) hooks.now.all.items) }
+    requires hooks { AreServing (known_by hooks.now) }
     ensures does { IsTrue F.tells → IsTrue S.tells →
-        Does (work_of (cells_of (map (λ h. h.known) hooks.now.all.items))
+        Does (work_of (cells_of (known_by hooks.now))
         (form_of (map string_bytes words.now)))
         (F.contents files.old) (S.taken out.old)
         result (F.contents files.new) (S.taken out.new) }
@@ -102,9 +103,9 @@ pub fn status_of_words<F: Files, S: Sink>(
     hooks: &Hooks,
     remarks: &mut Remarks,
 ) -> Status
-    requires hooks { AreServing (map (λ h. h.known) hooks.now.all.items) }
+    requires hooks { AreServing (known_by hooks.now) }
     ensures does { IsTrue F.tells → IsTrue S.tells →
-        Does (work_of (cells_of (map (λ h. h.known) hooks.now.all.items))
+        Does (work_of (cells_of (known_by hooks.now))
         (form_of (map string_bytes words.now)))
         (F.contents files.old) (S.taken out.old)
         (ending result) (F.contents files.new) (S.taken out.new) }

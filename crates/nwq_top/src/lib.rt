@@ -38,6 +38,7 @@ mod told;
 pub mod word_laws;
 
 ghost use Rattle.std.specs.Prelude.{map, string_bytes, IsTrue};
+ghost use Rattle.hook_table.specs.InHooks.{known_by};
 ghost use Rattle.world_core.specs.Calls.{cells_of, AreServing};
 ghost use Rattle.command_work.specs.Work.{IsCut, Does, ending};
 ghost use Rattle.command_work.specs.Counts.{Counted, Tallies, KeepsBut};
@@ -70,25 +71,25 @@ pub fn nwq_main<F: Files, S: Sink>(
     hooks: &Hooks,
 ) -> Status
     // The hooks are one for each of the functions of strings, numbers and tables.
-    requires hooks { AreServing (map (λ h. h.known) hooks.now.all.items) }
+    requires hooks { AreServing (known_by hooks.now) }
     // Where the files tell what they hold: the call did the work of the words, in order. A failed
     // call or want of memory cut it only where something was still to be read, made, written or
     // put; what is written and put whole ends with its own status.
     ensures does { IsTrue F.tells → Told S.tells (S.taken out.old) (S.taken out.new) (λ t t'.
-        Does (work_of (cells_of (map (λ h. h.known) hooks.now.all.items))
+        Does (work_of (cells_of (known_by hooks.now))
         (form_of (map string_bytes words.now)))
         (F.contents files.old) t (ending result) (F.contents files.new) t') }
     // Unless a failed call or want of memory cut it short, it also refused what is to be refused,
     // wrote files that pass the stack checker, and told and left what the source texts mean.
     ensures means { IsTrue F.tells → (IsCut (ending result) → ⊥) →
         Told S.tells (S.taken out.old) (S.taken out.new) (λ t t'.
-        Means (cells_of (map (λ h. h.known) hooks.now.all.items))
+        Means (cells_of (known_by hooks.now))
         (form_of (map string_bytes words.now))
         (F.contents files.old) t (ending result) (F.contents files.new) t') }
     // Where one did, what was put and left is a front of what is put and left else.
     ensures cut { IsTrue F.tells → IsCut (ending result) →
         Told S.tells (S.taken out.old) (S.taken out.new) (λ t t'.
-        IsFrontOf (work_of (cells_of (map (λ h. h.known) hooks.now.all.items))
+        IsFrontOf (work_of (cells_of (known_by hooks.now))
         (form_of (map string_bytes words.now)))
         (F.contents files.old) t (F.contents files.new) t') }
     // A read, write or put that was refused is the last one, and the status says which.

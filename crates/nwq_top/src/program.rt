@@ -1,5 +1,6 @@
-ghost use Rattle.std.specs.Prelude.{◌≡◌, [], drop, map, None, Ok, IsTrue, IfErr};
+ghost use Rattle.std.specs.Prelude.{◌≡◌, [], drop, None, Ok, IsTrue, IfErr};
 ghost use Rattle.std.specs.Prelude.{OnOk, OnErr};
+ghost use Rattle.hook_table.specs.InHooks.{known_by};
 ghost use Rattle.world_core.specs.Calls.{cells_of, AreServing};
 ghost use Rattle.command_work.specs.Work.{IsCut, Does, ending};
 ghost use Rattle.command_work.specs.Counts.{Counted, Tallies, KeepsBut, StopsArea};
@@ -84,17 +85,17 @@ pub fn nwq_program<F: Files, S: Sink>(
     hooks: &Hooks,
     remarks: &mut Remarks,
 ) -> u8
-    requires hooks { AreServing (map (λ h. h.known) hooks.now.all.items) }
+    requires hooks { AreServing (known_by hooks.now) }
     // It is the number of a status, and what the top call promises of the words was done with this
     // status.
     ensures number { status_number (status_numbered result) ≡ result }
     ensures does { IsTrue F.tells → IsTrue S.tells →
-        Does (work_of (cells_of (map (λ h. h.known) hooks.now.all.items))
+        Does (work_of (cells_of (known_by hooks.now))
         (form_of (words_of all.now))) (F.contents files.old) (S.taken out.old)
         (ending (status_numbered result)) (F.contents files.new) (S.taken out.new) }
     ensures means { IsTrue F.tells → IsTrue S.tells →
         (IsCut (ending (status_numbered result)) → ⊥) →
-        Means (cells_of (map (λ h. h.known) hooks.now.all.items))
+        Means (cells_of (known_by hooks.now))
         (form_of (words_of all.now)) (F.contents files.old) (S.taken out.old)
         (ending (status_numbered result)) (F.contents files.new) (S.taken out.new) }
     ensures counts { Tallies (ending (status_numbered result))

@@ -1,4 +1,5 @@
 ghost use Rattle.std.specs.Prelude.{◌≡◌, map, string_bytes, IsTrue};
+ghost use Rattle.hook_table.specs.InHooks.{known_by};
 ghost use Rattle.world_core.specs.Calls.{cells_of, AreServing};
 ghost use Rattle.command_work.specs.Work.{Does, ending};
 ghost use Rattle.command_work.specs.Counts.{Counted, Tallies, KeepsBut};
@@ -26,11 +27,11 @@ pub(crate) fn status_told<'a, F: Files, S: Sink, L: Loan>(
     out: &'a mut S,
     hooks: &Hooks,
 ) -> (Status, &'a mut S)
-    requires hooks { AreServing (map (λ h. h.known) hooks.now.all.items) }
+    requires hooks { AreServing (known_by hooks.now) }
     requires loan { out.ghost_name ≡ L.name }
     ensures loan { result.1.ghost_name ≡ out.entry.ghost_name }
     ensures does { IsTrue F.tells → Told S.tells (S.taken out.old) (S.taken result.1.now) (λ t t'.
-        Does (work_of (cells_of (map (λ h. h.known) hooks.now.all.items))
+        Does (work_of (cells_of (known_by hooks.now))
         (form_of (map string_bytes words.now)))
         (F.contents files.old) t (ending result.0) (F.contents files.new) t') }
     ensures counts { Tallies (ending result.0) (Counted (F.counts files.old) (S.faults out.old))

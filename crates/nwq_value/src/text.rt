@@ -78,9 +78,11 @@ impl Text {
     pub fn join(&self, alloc: Global, other: &Text) -> Result<Text, NoMemory>
         ensures ok { IfOk result (λ text. text ≡ take text_limit (self.now ++ other.now)) }
     {
-        let room = TEXT_BYTES - self.bytes().len();
-        let mut bytes = Vec::from_slice(alloc, self.bytes())?;
-        bytes.extend_from_slice(prefix(other.bytes(), room))?;
+        let first = self.bytes();
+        let second = prefix(other.bytes(), TEXT_BYTES - first.len());
+        let mut bytes = Vec::with_capacity(alloc, first.len() + second.len())?;
+        bytes.extend_from_slice(first)?;
+        bytes.extend_from_slice(second)?;
         Ok(Text {
             bytes: Rc::new(alloc, bytes)?,
         })

@@ -15,6 +15,7 @@ pub mod Sharing
 pub mod Opening
 pub mod Accepting
 pub mod Saving
+pub mod Bounds
 pub mod Holding
 pub mod FileBytes
 pub mod Sizes

@@ -4,17 +4,19 @@ ghost use Rattle.std.specs.Prelude.{◌≡◌, length, IfOk, MatchResult};
 ghost use Rattle.std.specs.List.{AllByRecursion};
 ghost use Rattle.std.specs.Option.{option_map};
 ghost use Rattle.world_parts.specs.Saved.{put_together};
+ghost use Rattle.module_player.specs.Limits.{limits_in};
 ghost use Rattle.state_format.specs.Fields.{parts_bytes};
 ghost use Rattle.state_parts.specs.Keeping.{KindHasValues};
 ghost use Rattle.play_save.specs.Keeping.{IsKept, QueuesHaveValues};
 ghost use Rattle.play_save.specs.Telling.{IsTold, IsToldAs, resting_parts};
 ghost use Rattle.play_save.specs.States.{IsLargeState, IsStateFor, IsWrittenState, MayCount};
-ghost use Rattle.play_save.specs.States.{MayLimit, MayList, MayRest};
+ghost use Rattle.play_save.specs.States.{MayList, MayRest};
 
 use crate::put::put_resting;
 use crate::told::{Numbers, PlayCounts, Resting};
 use area_tree::Area;
 use engine_table::laws::one_header;
+use module_player::PlayLimits;
 use ncs_code::spelling_laws;
 use ncs_machine::Scripts;
 use nwq_value::{FILE_BYTES, NoMemory};
@@ -78,7 +80,7 @@ fn saved_bytes(
     file: &[u8],
     area: &Area,
     saved: WorldParts<Saved>,
-    limits: (u64, u64, u64),
+    limits: PlayLimits,
     counts: PlayCounts,
 ) -> Result<Vec<u8>, SaveFault>
     requires counted { length saved.objects ≡ length area.now.objects }
@@ -86,9 +88,9 @@ fn saved_bytes(
     requires entries { AllByRecursion (λ e. KindHasValues e.kind) saved.agenda.waiting.entries }
     ensures exact { MatchResult result
         (λ v. IsWrittenState (IsKept (option_map (λ text. text.items) header.now) scripts.now
-        file.now limits counts.taken counts.done (put_together area.now saved)) v.items)
+        file.now (limits_in limits) counts.taken counts.done (put_together area.now saved)) v.items)
         (IsLargeState (IsKept (option_map (λ text. text.items) header.now) scripts.now
-        file.now limits counts.taken counts.done (put_together area.now saved))) }
+        file.now (limits_in limits) counts.taken counts.done (put_together area.now saved))) }
 {
     let WorldParts {
         clock,
@@ -99,12 +101,11 @@ fn saved_bytes(
     } = saved;
     let next = agenda.next_number();
     let waiting = entries(alloc, agenda)?;
-    let (limit, most, until) = limits;
     let numbers = Numbers {
         version,
-        limit,
-        entries: most,
-        until,
+        limit: limits.instructions,
+        entries: limits.entries,
+        until: limits.until,
         clock,
         taken: counts.taken,
         done: counts.done,
@@ -137,20 +138,19 @@ pub fn put_play(
     scripts: &Scripts,
     area: Vec<u8>,
     world: World<Saved>,
-    limits: (u64, u64, u64),
+    limits: PlayLimits,
     taken: u64,
     done: u64,
 ) -> Result<Vec<u8>, SaveFault>
-    requires limits { MayLimit limits }
     requires listed { MayList (option_map (λ text. text.items) header) scripts.now }
     requires rests { MayRest scripts.now area.items world.world }
-    requires come { MayCount limits world.world taken done }
+    requires come { MayCount (limits_in limits) world.world taken done }
     // The bytes are those of a state of the play, or so many has one of it.
     ensures exact { MatchResult result
         (λ v. IsWrittenState (IsStateFor (option_map (λ text. text.items) header) scripts.now
-        area.items limits taken done world.world) v.items)
+        area.items (limits_in limits) taken done world.world) v.items)
         (IsLargeState (IsStateFor (option_map (λ text. text.items) header) scripts.now area.items
-        limits taken done world.world)) }
+        (limits_in limits) taken done world.world)) }
 {
     spelling_laws();
     fits_too();

@@ -7,6 +7,7 @@ ghost use Rattle.stack_rules.specs.Laws.{AllMeet};
 ghost use Rattle.stack_check.specs.Checked.{AllStand};
 ghost use Rattle.ncs_machine.specs.Host.{scripts_of, tables_of};
 ghost use Rattle.ncs_machine.specs.Stored.{StatesFit};
+ghost use Rattle.module_player.specs.Limits.{limits_in};
 ghost use Rattle.state_format.specs.Fields.{parts_bytes};
 ghost use Rattle.state_format.specs.Parts.{HasForm};
 ghost use Rattle.state_format.specs.Place.{StateOf, IsTooLarge};
@@ -22,6 +23,7 @@ use crate::fault::StateFault;
 use crate::prepare::Prepared;
 use crate::rules::test_parts;
 use crate::world::world;
+use module_player::PlayLimits;
 use ncs_machine::Scripts;
 use nwq_value::{NoMemory, Table};
 use saved_state::Saved;
@@ -59,15 +61,14 @@ impl Drop for State {
     }
 }
 
-/// What a play goes on from: its header's table, its scripts, its world, how far it may go
-/// (instructions an entry, entries in all, and until when), how many entries it took, and how many
-/// instructions it executed.
+/// What a play goes on from: its header's table, its scripts, its world, how far it may go, how many
+/// entries it took, and how many instructions it executed.
 #[derive(Drop)]
 pub struct Opened {
     pub table: Table,
     pub scripts: Scripts,
     pub world: World<Saved>,
-    pub limits: (u64, u64, u64),
+    pub limits: PlayLimits,
     pub taken: u64,
     pub done: u64,
 }
@@ -78,7 +79,7 @@ impl State {
         // What the play is of, and how far it has come.
         ensures header { IfOk result (λ o. IsHeaderOf self.header o.table) }
         ensures play { IfOk result (λ o. IsPlayOf self self.header (script_parts o.scripts)
-            self.area o.limits) }
+            self.area (limits_in o.limits)) }
         ensures come { IfOk result (λ o. HasCome self o.taken o.done) }
         // The world is the one that the state tells.
         ensures world { IfOk result (λ o. IsWorldOf self o.world.world) }
@@ -121,7 +122,7 @@ pub(crate) fn open(alloc: Global, parts: &Parts, prepared: Prepared) -> Result<O
     requires prepared { IsPreparedFor parts.now prepared }
     ensures header { IfOk result (λ o. IsHeaderOf parts.now.header o.table) }
     ensures play { IfOk result (λ o. IsPlayOf parts.now parts.now.header
-        (script_parts o.scripts) parts.now.area o.limits) }
+        (script_parts o.scripts) parts.now.area (limits_in o.limits)) }
     ensures come { IfOk result (λ o. HasCome parts.now o.taken o.done) }
     ensures world { IfOk result (λ o. IsWorldOf parts.now o.world.world) }
     ensures few { IfOk result (λ o. length o.scripts < 2 ^ 32) }
@@ -148,7 +149,11 @@ pub(crate) fn open(alloc: Global, parts: &Parts, prepared: Prepared) -> Result<O
             table,
             scripts,
             world,
-            limits: (parts.limit, parts.entries, parts.until),
+            limits: PlayLimits {
+                instructions: parts.limit,
+                entries: parts.entries,
+                until: parts.until,
+            },
             taken: parts.taken,
             done: parts.done,
         }),

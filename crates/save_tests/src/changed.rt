@@ -1,6 +1,6 @@
 //! States with a byte changed: each is refused, or the play goes on from it.
 
-ghost use Rattle.std.specs.Prelude.{map};
+ghost use Rattle.hook_table.specs.InHooks.{known_by};
 ghost use Rattle.world_core.specs.Calls.{AreServing};
 
 use crate::built::bytes;
@@ -15,7 +15,7 @@ use std::alloc::Global;
 
 /// Whether a play goes on from a state, and comes to no fault.
 fn is_played(alloc: Global, state: State, hooks: &Hooks) -> bool
-    requires hooks { AreServing (map (λ h. h.known) hooks.now.all.items) }
+    requires hooks { AreServing (known_by hooks.now) }
 {
     let mut out = MemSink::new(alloc);
     match go_on_from(alloc, state, hooks, &mut out) {
@@ -26,7 +26,7 @@ fn is_played(alloc: Global, state: State, hooks: &Hooks) -> bool
 
 /// Whether a state is written as the bytes that it was read from, and a play goes on from it.
 fn stands(alloc: Global, state: State, bytes: &[u8], hooks: &Hooks) -> bool
-    requires hooks { AreServing (map (λ h. h.known) hooks.now.all.items) }
+    requires hooks { AreServing (known_by hooks.now) }
 {
     let written = is_written(alloc, &state, bytes);
     is_played(alloc, state, hooks) && written
@@ -35,7 +35,7 @@ fn stands(alloc: Global, state: State, bytes: &[u8], hooks: &Hooks) -> bool
 /// Whether a play goes on from these bytes; `None` where they are neither refused nor those of a
 /// state that stands.
 fn tried(alloc: Global, bytes: &[u8], hooks: &Hooks) -> Option<bool>
-    requires hooks { AreServing (map (λ h. h.known) hooks.now.all.items) }
+    requires hooks { AreServing (known_by hooks.now) }
 {
     if bytes.len() > FILE_BYTES {
         return None;
@@ -61,7 +61,7 @@ fn tried_with(
     byte: u8,
     hooks: &Hooks,
 ) -> Option<bool>
-    requires hooks { AreServing (map (λ h. h.known) hooks.now.all.items) }
+    requires hooks { AreServing (known_by hooks.now) }
 {
     if place >= bytes.len() {
         return None;
@@ -83,7 +83,7 @@ fn next(number: u32) -> u32 {
 /// From how many of 250 changed states plays go on; `None` where one neither is refused nor
 /// stands. A row of numbers gives the place of each change, and the byte.
 fn count(alloc: Global, bytes: &mut Vec<u8>, first: u32, hooks: &Hooks) -> Option<u32>
-    requires hooks { AreServing (map (λ h. h.known) hooks.now.all.items) }
+    requires hooks { AreServing (known_by hooks.now) }
 {
     let mut number = first;
     let mut played = 0u32;
@@ -110,7 +110,7 @@ pub fn all_stand(
     first: u32,
     hooks: &Hooks,
 ) -> Result<bool, NoMemory>
-    requires hooks { AreServing (map (λ h. h.known) hooks.now.all.items) }
+    requires hooks { AreServing (known_by hooks.now) }
 {
     let mut bytes = bytes(alloc, sketch)?;
     let itself = tried(alloc, bytes.as_slice(), hooks);

@@ -1,6 +1,7 @@
 //! The play of the example `examples/saved`, resumed from its state.
 
-ghost use Rattle.std.specs.Prelude.{◌≤◌, map};
+ghost use Rattle.std.specs.Prelude.{◌≤◌};
+ghost use Rattle.hook_table.specs.InHooks.{known_by};
 ghost use Rattle.world_core.specs.Calls.{AreServing};
 
 use crate::going::{go_on_from, is_written};
@@ -14,7 +15,7 @@ use std::alloc::Global;
 
 /// Whether the play goes on as it is to.
 fn is_played(alloc: Global, state: State, hooks: &Hooks) -> bool
-    requires hooks { AreServing (map (λ h. h.known) hooks.now.all.items) }
+    requires hooks { AreServing (known_by hooks.now) }
 {
     let mut out = MemSink::new(alloc);
     match go_on_from(alloc, state, hooks, &mut out) {
@@ -30,7 +31,7 @@ fn is_played(alloc: Global, state: State, hooks: &Hooks) -> bool
 
 /// Whether the state is read, written again, and resumed.
 pub fn is_resumed(alloc: Global, hooks: &Hooks) -> bool
-    requires hooks { AreServing (map (λ h. h.known) hooks.now.all.items) }
+    requires hooks { AreServing (known_by hooks.now) }
 {
     if STATE.len() > FILE_BYTES {
         return false;

@@ -1,10 +1,10 @@
 //! Plays that go on from a state.
 
-ghost use Rattle.std.specs.Prelude.{◌≡◌, ◌≤◌, ◌<◌, ◌^◌, [], length, map};
+ghost use Rattle.std.specs.Prelude.{◌≡◌, ◌≤◌, []};
+ghost use Rattle.hook_table.specs.InHooks.{known_by};
 ghost use Rattle.world_core.specs.Calls.{AreServing};
-ghost use Rattle.stack_rules.specs.Laws.{AllMeet};
-ghost use Rattle.ncs_machine.specs.Host.{scripts_of, tables_of};
-ghost use Rattle.ncs_machine.specs.Stored.{StatesFit};
+ghost use Rattle.ncs_machine.specs.InSetting.{seen};
+ghost use Rattle.ncs_machine.specs.Settings.{FitIn};
 
 use hook_table::Hooks;
 use module_player::{PlayLimits, Played, play_on};
@@ -18,7 +18,9 @@ use world_core::World;
 
 /// How many instructions an entry may take here.
 fn at_most(limit: u64) -> u64
-    ensures { result ≤ 3000 }
+    requires some { 1 ≤ limit }
+    ensures some { 1 ≤ result }
+    ensures few { result ≤ 3000 }
 {
     if limit < 3_000 { limit } else { 3_000 }
 }
@@ -27,30 +29,26 @@ fn at_most(limit: u64) -> u64
 /// the entries taken and the instructions done; `None` where one of these numbers is too large.
 fn go_on_by(
     alloc: Global,
-    setting: &PlaySetting<'_>,
+    setting: &PlaySetting<'_, '_>,
     world: &mut World<Saved>,
-    limits: (u64, u64, u64),
+    limits: PlayLimits,
     taken: u64,
     done: u64,
     out: &mut MemSink,
 ) -> Option<Played>
-    requires few { length setting.now.scripts.now < 2 ^ 32 }
-    requires meets { AllMeet setting.now.table.now (scripts_of setting.now.scripts.now)
-        (tables_of setting.now.scripts.now) }
-    requires fit { StatesFit (scripts_of setting.now.scripts.now)
-        (tables_of setting.now.scripts.now) world.old.world }
+    requires fit { FitIn (seen setting.now) world.old.world }
     requires quiet { world.old.world.trace ≡ [] }
-    requires hooks { AreServing (map (λ h. h.known) setting.now.hooks.now.all.items) }
 {
-    let (limit, entries, until) = limits;
-    if taken > entries || entries > 1_000_000 || until > 4_294_967_295 {
-        return None;
-    }
-    if done >= 1 << 61 || world.next_number() >= 1 << 61 {
+    let PlayLimits {
+        instructions,
+        entries,
+        until,
+    } = limits;
+    if taken > entries || done >= 1 << 61 || world.next_number() >= 1 << 61 {
         return None;
     }
     let limits = PlayLimits {
-        instructions: at_most(limit),
+        instructions: at_most(instructions),
         entries,
         until,
     };
@@ -58,44 +56,28 @@ fn go_on_by(
     Some(play_on(alloc, setting, world, limits, stop, taken, done, out))
 }
 
-/// The same of a state that is opened.
-fn go_on(alloc: Global, opened: Opened, hooks: &Hooks, out: &mut MemSink) -> Option<Played>
-    requires few { length opened.scripts < 2 ^ 32 }
-    requires meets { AllMeet opened.table (scripts_of opened.scripts)
-        (tables_of opened.scripts) }
-    requires fit { StatesFit (scripts_of opened.scripts) (tables_of opened.scripts)
-        opened.world.world }
-    requires quiet { opened.world.world.trace ≡ [] }
-    requires hooks { AreServing (map (λ h. h.known) hooks.now.all.items) }
-{
-    let Opened {
-        table,
-        scripts,
-        mut world,
-        limits,
-        taken,
-        done,
-    } = opened;
-    let setting = PlaySetting {
-        scripts: &scripts,
-        table: &table,
-        hooks,
-    };
-    let played = go_on_by(alloc, &setting, &mut world, limits, taken, done, out);
-    drop(world);
-    drop(scripts);
-    drop(table);
-    played
-}
-
 /// The same from a state.
-#[tactic(auto, using(crate::proofs::Quiet::rests))]
 pub fn go_on_from(alloc: Global, state: State, hooks: &Hooks, out: &mut MemSink) -> Option<Played>
-    requires hooks { AreServing (map (λ h. h.known) hooks.now.all.items) }
+    requires hooks { AreServing (known_by hooks.now) }
 {
     match state.restore(alloc) {
         Err(NoMemory) => None,
-        Ok(opened) => go_on(alloc, opened, hooks, out),
+        Ok(opened) => {
+            let Opened {
+                table,
+                scripts,
+                mut world,
+                limits,
+                taken,
+                done,
+            } = opened;
+            let setting = PlaySetting::of(&scripts, &table, hooks);
+            let played = go_on_by(alloc, &setting, &mut world, limits, taken, done, out);
+            drop(world);
+            drop(scripts);
+            drop(table);
+            played
+        }
     }
 }
 

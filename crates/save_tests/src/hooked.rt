@@ -1,7 +1,8 @@
 //! Plays with the hooks of a program without tables.
 
-ghost use Rattle.std.specs.Prelude.{◌≤◌, [], IfOk, map};
+ghost use Rattle.std.specs.Prelude.{◌≤◌, [], IfOk};
 ghost use Rattle.hook_table.specs.Standard.{function_numbered, IsAnswer};
+ghost use Rattle.hook_table.specs.InHooks.{known_by};
 ghost use Rattle.world_core.specs.Calls.{AreServing};
 
 use crate::bases::{BUSIER, DEEPER, OWN, WHOLE};
@@ -22,7 +23,7 @@ enum Trial<'a> {
 }
 
 fn holds(alloc: Global, trial: Trial<'_>, hooks: &Hooks) -> Result<bool, NoMemory>
-    requires hooks { AreServing (map (λ h. h.known) hooks.now.all.items) }
+    requires hooks { AreServing (known_by hooks.now) }
 {
     match trial {
         Trial::Example => Ok(is_resumed(alloc, hooks)),

@@ -35,14 +35,14 @@ put_down (c ∷ cells) (suc depth) new less =
     ∙ ap (λ (t : List Cell). c ∷ t) (put_down cells depth new (omega arith))
 
 -- the cells the other way round
-got_down : (cells : List Cell) (depth : ℕ) → depth < length cells → slice_get (reverse cells) depth ≡ slice_get cells (length cells - 1 - depth)
+pub got_down : (cells : List Cell) (depth : ℕ) → depth < length cells → slice_get (reverse cells) depth ≡ slice_get cells (length cells - 1 - depth)
 got_down cells depth less =
     let size = length-reverse cells in
     cell_down (reverse cells) depth (omega (arith, size, less))
     ∙ ap (λ (k : ℕ). cell_at (reverse cells) (k - 1 - depth)) size
     ∙ cell_got cells (length cells - 1 - depth) (omega (arith, less))
 
-set_is : (cells : List Cell) (depth : ℕ) (new : Cell) → depth < length cells → reverse (set cells (length cells - 1 - depth) new) ≡ slice_set (reverse cells) depth new
+pub set_is : (cells : List Cell) (depth : ℕ) (new : Cell) → depth < length cells → reverse (set cells (length cells - 1 - depth) new) ≡ slice_set (reverse cells) depth new
 set_is cells depth new less =
     let size = length-reverse cells in
     put_is cells (length cells - 1 - depth) new (omega (arith, less))

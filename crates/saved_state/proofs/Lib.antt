@@ -1,5 +1,6 @@
 mod Depths
 mod Examples
+pub mod Folds
 pub mod Piles
 pub mod Lists
 pub mod Lasts

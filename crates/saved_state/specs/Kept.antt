@@ -1,6 +1,6 @@
 -- A list of cells, wherever it has them. No public clause speaks of it.
-use Rattle.std.specs.Prelude.{ℕ, ℤ, List, ◌≡◌, ◌≤◌, ◌-◌, Some, length, slice_get}
-use Rattle.nwq_value.specs.declared.value.Value.TheVariants.{Int}
+use Rattle.std.specs.Prelude.{ℕ, List, ◌≡◌, ◌≤◌, ◌-◌, Bool, true, false, Some, length, slice_get}
+use Rattle.nwq_value.specs.declared.value.Value.TheVariants.{Int, Object}
 use Rattle.saved_state.specs.declared.cell.Cell.{Cell}
 use Rattle.saved_state.specs.declared.cell.Cell.TheVariants.{Value as Holds}
 use Rattle.saved_state.specs.declared.cells.Kept.{Kept}
@@ -18,7 +18,14 @@ abbrev pub OwnsFew : Kept → Type 0
 OwnsFew (Own cells) = length cells.items ≤ few_limit
 OwnsFew (Shared cells) = Unit {0}
 
--- the last cell holds an int
-pub record EndsWithInt (cells : List Cell) : Type 0 where
-  pub int : ℤ
-  pub is : slice_get cells (length cells - 1) ≡ Some (Holds (Int int))
+-- whether a cell owns no memory
+abbrev pub owns_nothing : Cell → Bool
+owns_nothing (Holds (Int n)) = true
+owns_nothing (Holds (Object n)) = true
+owns_nothing cell = false
+
+-- the last cell owns no memory
+pub record EndsPlainly (cells : List Cell) : Type 0 where
+  pub cell : Cell
+  pub is : slice_get cells (length cells - 1) ≡ Some cell
+  pub plain : owns_nothing cell ≡ true

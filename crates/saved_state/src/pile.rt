@@ -1,10 +1,10 @@
 ghost use Rattle.std.specs.Prelude.{◌≡◌, ◌<◌, ◌≤◌, ◌-◌, [], ◌∷◌, ◌++◌, length, take, drop};
-ghost use Rattle.std.specs.Prelude.{slice_get};
-ghost use Rattle.std.specs.Prelude.{slice_set, Some, OnOk, OnErr, IfOk, IfSome, ◌+◌, ◌^◌};
+ghost use Rattle.std.specs.Prelude.{slice_get, true, false};
+ghost use Rattle.std.specs.Prelude.{slice_set, Some, OnOk, OnErr, IfOk, IfSome, IsTrue, ◌+◌, ◌^◌};
 ghost use Rattle.std.specs.Vec.{vec_len, vec_capacity};
 ghost use Rattle.std.specs.Prelude.{if◌then◌else◌};
 ghost use Rattle.saved_state.specs.Cells.{run_written};
-ghost use Rattle.saved_state.specs.Kept.{EndsWithInt, OwnsFew, listed};
+ghost use Rattle.saved_state.specs.Kept.{EndsPlainly, OwnsFew, listed, owns_nothing};
 ghost use Rattle.nwq_value.specs.declared.value.Value.TheVariants.{Int as IntValue};
 ghost use Rattle.nwq_value.specs.declared.value.Value.TheVariants.{Object as ObjectValue};
 ghost use Rattle.saved_state.specs.declared.cell.Cell.TheVariants.{Value as ValueCell};
@@ -17,6 +17,7 @@ use nwq_value::{NoMemory, Value};
 use std::alloc::Global;
 use std::marker::Model;
 use std::mem;
+use std::mem::ManuallyDrop;
 
 /// The most cells that the pages of a pile hold, so that lengths can be added.
 const MOST_LOW: usize = 0x4000_0000_0000_0000;
@@ -304,6 +305,24 @@ impl Pile {
         }
     }
 
+    /// Puts a cell in the place of the two topmost ones, of which the upper one owns no memory.
+    /// `false` says that it was dropped, since not both are in the list on top.
+    #[inline(always)]
+    #[tactic(auto, using(crate::proofs::Folds::fold_lemmas))]
+    pub fn fold_near(&mut self, cell: Cell) -> bool
+        requires plain { EndsPlainly self.old }
+        ensures folded { result ≡ true → self.new ≡ take (length self.old - 1)
+            (slice_set self.old (length self.old - 2) cell) }
+        ensures two { result ≡ true → 2 ≤ length self.old }
+        ensures same { result ≡ false → self.new ≡ self.old }
+    {
+        if self.top.len() < 2 {
+            return false;
+        }
+        fold_top(&mut self.top, cell);
+        true
+    }
+
     /// Drops so many of the topmost cells.
     #[inline(always)]
     #[tactic(auto, using(crate::proofs::Piles::less_lemmas))]
@@ -420,6 +439,22 @@ fn copy_last(alloc: Global, top: &mut Vec<Cell>, index: usize) -> Result<(), NoM
             top.push_reserved(Cell::Value(Value::Int(copy)));
             Ok(())
         }
+        _ => copy_last_other(alloc, top, index),
+    }
+}
+
+/// The same where it isn't an int: two tests are shorter than a jump table.
+#[inline(always)]
+#[tactic(auto, using(crate::proofs::Piles::last_copy))]
+fn copy_last_other(alloc: Global, top: &mut Vec<Cell>, index: usize) -> Result<(), NoMemory>
+    requires inside { index < length top.old.items }
+    requires room { vec_len top.old < vec_capacity top.old }
+    ensures copied { OnOk result
+        (top.new.items ≡ top.old.items ++ take 1 (drop index top.old.items)) }
+    ensures len { OnOk result (vec_len top.new ≡ vec_len top.old + 1) }
+    ensures capacity { OnOk result (vec_capacity top.new ≡ vec_capacity top.old) }
+{
+    match &top[index] {
         Cell::Value(Value::Object(n)) => {
             let copy = *n;
             top.push_reserved(Cell::Value(Value::Object(copy)));
@@ -478,6 +513,25 @@ fn copy_over(alloc: Global, top: &mut Vec<Cell>, from: usize, onto: usize) -> Re
             put_int(top, onto, copy);
             Ok(())
         }
+        _ => copy_over_other(alloc, top, from, onto),
+    }
+}
+
+/// The same where it isn't an int.
+#[inline(always)]
+#[tactic(auto, using(crate::proofs::Runs::one_put))]
+fn copy_over_other(
+    alloc: Global,
+    top: &mut Vec<Cell>,
+    from: usize,
+    onto: usize,
+) -> Result<(), NoMemory>
+    requires from { from < length top.old.items }
+    requires onto { onto < length top.old.items }
+    ensures put { OnOk result (IfSome (slice_get top.old.items from)
+        (λ cell. top.new.items ≡ slice_set top.old.items onto cell)) }
+{
+    match &top[from] {
         Cell::Value(Value::Object(n)) => {
             let copy = *n;
             put_object(top, onto, copy);
@@ -548,49 +602,73 @@ fn put_object(top: &mut Vec<Cell>, index: usize, n: u32)
     }
 }
 
-/// Drops the last cell. That it is an int is seen before the list changes, so that whoever has
+/// Drops the last cell. That it holds an int is seen before the list changes, so that whoever has
 /// read it doesn't look twice.
 #[inline(always)]
-#[tactic(auto, using(crate::proofs::Lasts::end_lemmas))]
 fn drop_last(top: &mut Vec<Cell>)
     requires some { 0 < length top.old.items }
     ensures left { top.new.items ≡ take (length top.old.items - 1) top.old.items }
 {
-    match last_int(top.as_slice()) {
-        None => let_go(top.take_last()),
-        Some(_) => drop_int(top),
+    if ends_with_int(top.as_slice()) {
+        drop_plain(top);
+    } else {
+        drop_other(top);
     }
 }
 
-/// The int that the last cell holds.
-#[inline(always)]
-#[tactic(auto, using(crate::proofs::Lasts::read_lemmas))]
-fn last_int(top: &[Cell]) -> Option<i32>
-    requires some { 0 < length top.now }
-    ensures int { IfSome result (λ n. slice_get top.now (length top.now - 1)
-        ≡ Some (ValueCell (IntValue n))) }
-{
-    match &top[top.len() - 1] {
-        Cell::Value(Value::Int(n)) => Some(*n),
-        _ => None,
-    }
-}
-
-/// Drops the last cell, which holds an int.
-#[inline(always)]
-#[tactic(auto, using(crate::proofs::Lasts::taken_lemmas))]
-fn drop_int(top: &mut Vec<Cell>)
-    requires last { EndsWithInt top.old.items }
+/// The same of any cell, by a call of its own.
+#[inline(never)]
+fn drop_other(top: &mut Vec<Cell>)
+    requires some { 0 < length top.old.items }
     ensures left { top.new.items ≡ take (length top.old.items - 1) top.old.items }
 {
-    match top.take_last() {
-        Cell::Value(Value::Int(_)) => {}
-        Cell::Value(Value::Text(_)) => unreachable!(),
-        Cell::Value(Value::Object(_)) => unreachable!(),
-        Cell::Value(Value::Effect(_)) => unreachable!(),
-        Cell::Value(Value::Event(_)) => unreachable!(),
-        Cell::Base(_) => unreachable!(),
+    drop(top.take_last());
+}
+
+/// Whether a cell holds an int, and so owns no memory.
+#[inline(always)]
+fn is_int(cell: &Cell) -> bool
+    ensures plain { IsTrue result → owns_nothing cell.now ≡ true }
+{
+    match cell {
+        Cell::Value(Value::Int(_)) => true,
+        _ => false,
     }
+}
+
+/// Whether the last cell holds an int.
+#[inline(always)]
+#[tactic(auto, using(crate::proofs::Lasts::int_lemmas))]
+fn ends_with_int(top: &[Cell]) -> bool
+    requires some { 0 < length top.now }
+    ensures plain { IsTrue result → EndsPlainly top.now }
+{
+    is_int(&top[top.len() - 1])
+}
+
+/// Drops the last cell, which owns no memory, without a look at it.
+#[inline(always)]
+#[tactic(auto, using(crate::proofs::Lasts::some_last))]
+fn drop_plain(top: &mut Vec<Cell>)
+    requires last { EndsPlainly top.old.items }
+    ensures left { top.new.items ≡ take (length top.old.items - 1) top.old.items }
+{
+    let _cell = ManuallyDrop::new(top.take_last());
+}
+
+/// Puts a cell in the place of the two last ones, of which the last one owns no memory. That one is
+/// seen to be so before anything is written.
+#[inline(always)]
+#[tactic(auto, using(crate::proofs::Folds::last_lemmas))]
+fn fold_top(top: &mut Vec<Cell>, cell: Cell)
+    requires two { 2 ≤ length top.old.items }
+    requires plain { EndsPlainly top.old.items }
+    ensures folded { top.new.items ≡ take (length top.old.items - 1)
+        (slice_set top.old.items (length top.old.items - 2) cell) }
+{
+    let lower = top.len() - 2;
+    put_over(top, lower, cell);
+    drop_plain(top);
 }
 
 /// Drops all cells but the `n` first ones.

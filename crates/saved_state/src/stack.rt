@@ -1,7 +1,7 @@
 ghost use Rattle.std.specs.Prelude.{◌≡◌, ◌≢◌, ◌<◌, ◌≤◌, ℕ, Some, [], ◌∷◌, length, drop, OnOk};
 ghost use Rattle.std.specs.Prelude.{OnErr, IfOk, IfSome, slice_get, slice_set, take, ◌+◌, ◌++◌};
 ghost use Rattle.saved_state.specs.Cells.{cell_at, with_cell, captured, resumed, run_written};
-ghost use Rattle.std.specs.Prelude.{if◌then◌else◌};
+ghost use Rattle.std.specs.Prelude.{if◌then◌else◌, true, false};
 ghost use Rattle.saved_state.specs.declared.cell.Cell.TheVariants.{Value as ValueCell};
 ghost use Rattle.saved_state.specs.declared.cell.Cell.TheVariants.{Base as BaseCell};
 ghost use Rattle.nwq_value.specs.declared.value.Value.TheVariants.{Int as IntValue};
@@ -120,6 +120,21 @@ impl Stack {
         ensures dropped { self.new ≡ record self.old { cells = drop 1 self.old.cells } }
     {
         self.cells.drop_one();
+    }
+
+    /// Puts a value in the place of the two topmost cells, of which the upper one holds the int
+    /// `y`. `false` says that the value was dropped and nothing was done, since they don't both lie
+    /// where this takes no look-up.
+    #[inline(always)]
+    pub fn fold_near(&mut self, y: i32, value: Value) -> bool
+        requires upper { slice_get self.old.cells 0 ≡ Some (ValueCell (IntValue y)) }
+        ensures folded { result ≡ true → self.new ≡ record self.old {
+          cells = drop 1 (slice_set self.old.cells 1 (ValueCell value));
+        } }
+        ensures same { result ≡ false → self.new ≡ self.old }
+    {
+        let _upper = y;
+        self.cells.fold_near(Cell::Value(value))
     }
 
     /// Drops the `n` topmost cells. BP stays, even where its place is among them.

@@ -86,10 +86,7 @@ drain_less a b c spot seen h k e =
     let y = ap (λ (z : List Spot). length z) h ∙ length-append (waiting b) (spot ∷ []) in
     omega (arith, x, y)
 
-pub drain_none : (a b : Worklist) → waiting a ≡ [] → b ≡ a → waiting b ≡ []
-drain_none a b h e = ap (λ (w : Worklist). waiting w) e ∙ h
-
-pub ruleset draining = (drain_begin, drain_step, drain_changed, drain_bad, drain_done, drain_less, drain_none)
+pub ruleset draining = (drain_begin, drain_step, drain_changed, drain_bad, drain_done, drain_less)
 
 -- ---- one turn
 

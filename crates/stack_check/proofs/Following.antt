@@ -1,20 +1,24 @@
 -- What is kept where a shape is reached that every table has.
-use Rattle.std.proofs.Common.{arith, ◌≡◌, ℕ, List, [], ◌∷◌, ◌++◌, inl, inr, ◌⊎◌, sym, subst, ◌∙◌, ap, refl}
-use Rattle.std.specs.Prelude.{Result, Ok, Err, IfOk}
+use Rattle.std.proofs.Common.{arith, ◌≡◌, ℕ, List, [], ◌∷◌, ◌++◌, inl, inr, ◌⊎◌, sym, subst, ◌∙◌, ap, refl, Some, slice_get}
+use Rattle.std.specs.Prelude.{Result, Ok, Err, IfOk, Contains}
+use Rattle.std.proofs.lemmas.List.Elements.{Contains-append_left}
 use Rattle.nwq_value.specs.Engine.{EngineTable}
 use Rattle.ncs_code.specs.Plain.{PlainOp}
 use Rattle.stack_shape.specs.Stored.{TopShape}
 use Rattle.stack_lists.specs.declared.held.Held.{Held}
 use Rattle.stack_lists.specs.declared.held.Heap.{Heap}
 use Rattle.stack_check.specs.declared.facts.Facts.{Facts}
+use Rattle.stack_check.specs.declared.facts.Trial.{Trial}
+use Rattle.stack_shape.specs.declared.shape.Entry.{Entry}
+use Rattle.stack_shape.specs.declared.shape.Entry.TheVariants.{Start, Called, Stored}
 use Rattle.stack_check.specs.declared.seen.Seen.{Seen}
 use Rattle.stack_check.specs.declared.seen.Seen.TheVariants.{Quiet, Changed, Bad}
 use Rattle.stack_check.specs.declared.leads.Lead.TheVariants.{One, Two}
 use Rattle.stack_lists.specs.Held.{IsIn, shape_of}
 use Rattle.stack_lists.specs.Rows.{row_in}
 use Rattle.stack_lists.specs.declared.todo.Spot.{Spot}
-use Rattle.stack_lists.specs.Worklist.{CallKept, Worklist, calls_of, waiting}
-use Rattle.stack_check.specs.Inference.{IsKept, IsNext, Keeps, NothingNew, Visited, WhereQuiet, Owed, RowIs, Reached, RowsKept, Takes, AllLed, after_change}
+use Rattle.stack_lists.specs.Worklist.{CallKept, SameCalls, Worklist, waiting}
+use Rattle.stack_check.specs.Inference.{CallsAgain, CallsOfWait, CallsWait, IsKept, IsNext, Keeps, NothingNew, Visited, WhereQuiet, Owed, RowIs, Reached, RowsKept, Takes, AllLed, after_change}
 use Rattle.stack_check.specs.Facts.{FindsMore}
 use Rattle.stack_check.proofs.Left.{more_row}
 use Rattle.stack_check.proofs.Steps.{step_kept}
@@ -151,11 +155,21 @@ waits_after a b c Bad k h = tt
 pub next_of : (a b : Worklist) (spot : Spot) → waiting b ≡ waiting a ++ spot ∷ [] → IsNext b spot
 next_of a b spot h = record { others = waiting a; is = h }
 
-pub kept_of : (a b : Worklist) (target : ℕ) (spot : Spot) → CallKept a b target spot → IsKept b target spot
-kept_of a b target spot k = elim k.here [
-  | inl e ↦ record { others = calls_of a target; is = e }
-  | inr e ↦ record { others = e.1.0; is = e.0 ∙ e.1.1 }
-]
+pub kept_of : (a b : Worklist) (row target : ℕ) (spot : Spot) → CallKept a b row (record { spot = spot; target = target }) → IsKept b target spot
+kept_of a b row target spot k = k.here
+
+-- what was handed in before the spot waits, too
+wait_more : (a mid b c : Worklist) (entry : Entry) (spot : Spot) → SameCalls a mid → CallsAgain mid b entry → waiting c ≡ waiting b ++ spot ∷ []
+    → CallsWait a c entry
+wait_more a mid b c Start spot s again w = tt
+wait_more a mid b c (Called target) spot s again w = λ call i.
+    subst (λ z. Contains z call.spot) (sym w)
+    (Contains-append_left (waiting b) (spot ∷ []) call.spot (again.all call (subst (λ z. Contains z call) (sym (s.by target)) i)))
+wait_more a mid b c (Stored site) spot s again w = tt
+
+pub calls_wait : (a mid b c : Worklist) (facts : Facts) (number : ℕ) (trial : Trial) (spot : Spot) → slice_get facts.trials number ≡ Some trial
+    → SameCalls a mid → CallsAgain mid b trial.entry → waiting c ≡ waiting b ++ spot ∷ [] → CallsOfWait a c facts number
+calls_wait a mid b c facts number trial spot h s again w = record { trial = trial; has = h; by = wait_more a mid b c trial.entry spot s again w }
 
 pub ruleset nexting = (next_of)
 

@@ -20,7 +20,7 @@ use Rattle.stack_check.specs.declared.leads.Lead.{Lead}
 use Rattle.stack_lists.specs.Held.{AfterStep, shape_of}
 use Rattle.stack_lists.specs.Rows.{row_in}
 use Rattle.stack_check.specs.Facts.{FindsMore, trial_table}
-use Rattle.stack_check.specs.Inference.{AllLed, Keeps, Visited, WhereQuiet, IsStep, IsThere, Within, AsksFurtherOf, Takes, Sound, Sees, SeesStep, RowsKept, IsPlain, leads_of}
+use Rattle.stack_check.specs.Inference.{AllLed, Keeps, Visited, WhereQuiet, IsStep, IsThere, Within, AsksFurtherOf, Takes, Sound, Sees, SeesStep, IsPlain, leads_of}
 use Rattle.stack_lists.specs.Growth.{still_shape}
 use Rattle.stack_check.proofs.Keeping.{keeps_grows}
 use Rattle.stack_check.proofs.Steps.{looks_owed, no_rule, rule_there, step_made, step_sound}

@@ -1,6 +1,6 @@
 -- What an inference keeps true: what it has found is there in every table that meets the rules,
 -- perhaps with fewer slots beneath.
-use Rattle.std.specs.Prelude.{◌≡◌, ◌≤◌, ◌<◌, ◌+◌, ◌-◌, ◌^◌, ℕ, ℤ, List, [], ◌++◌, ◌∷◌, length, take, min, Bool, true, false, Option, None, Some, IfSome, slice_get, ◌⊎◌}
+use Rattle.std.specs.Prelude.{◌≡◌, ◌≤◌, ◌<◌, ◌+◌, ◌-◌, ◌^◌, ℕ, ℤ, List, [], ◌++◌, ◌∷◌, length, take, min, Bool, true, false, Option, None, Some, IfSome, slice_get, ◌⊎◌, Contains}
 use Rattle.nwq_value.specs.Engine.{EngineTable}
 use Rattle.ncs_code.specs.Plain.{PlainOp}
 use Rattle.ncs_code.specs.Plain as ops
@@ -29,6 +29,7 @@ use Rattle.stack_check.specs.declared.leads.Kind.TheVariants.{Call, Return, Stor
 use Rattle.stack_lists.specs.Shared.{read}
 use Rattle.stack_lists.specs.Held.{HeapGrows, IsIn, shape_of}
 use Rattle.stack_lists.specs.Rows.{RowAdded, row_in}
+use Rattle.stack_lists.specs.declared.todo.Call.{Call as KeptCall}
 use Rattle.stack_lists.specs.declared.todo.Spot.{Spot}
 use Rattle.stack_lists.specs.Worklist.{CallersAdded, Worklist, calls_of, waiting}
 use Rattle.stack_check.specs.Facts.{FindsMore, current, first_place, first_held, callee_of, trial_table, unseen_cells, unseen_under}
@@ -186,9 +187,8 @@ pub record IsNext (w : Worklist) (spot : Spot) : Type 0 where
   pub is : waiting w ≡ others ++ spot ∷ []
 
 -- the call is kept of the routine that begins there, so it is looked at when more is known of that
-pub record IsKept (w : Worklist) (target : ℕ) (spot : Spot) : Type 0 where
-  pub others : List Spot
-  pub is : calls_of w target ≡ spot ∷ others
+abbrev pub IsKept : Worklist → ℕ → Spot → Type 0
+IsKept w target spot = Contains (calls_of w target) (record { spot = spot; target = target })
 
 -- ---- one shape
 
@@ -445,6 +445,19 @@ abbrev pub CallsAgain : Worklist → Worklist → Entry → Type 0
 CallsAgain before after Start = after ≡ before
 CallsAgain before after (Called target) = CallersAdded before after target
 CallsAgain before after (Stored site) = after ≡ before
+
+-- Each call that was kept of the routine waits.
+abbrev pub CallsWait : Worklist → Worklist → Entry → Type 0
+CallsWait before after Start = Unit {0}
+CallsWait before after (Called target) = (call : KeptCall) → Contains (calls_of before target) call
+    → Contains (waiting after) call.spot
+CallsWait before after (Stored site) = Unit {0}
+
+-- of the trial with this number
+pub record CallsOfWait (before after : Worklist) (facts : Facts) (number : ℕ) : Type 0 where
+  pub trial : Trial
+  pub has : slice_get facts.trials number ≡ Some trial
+  pub by : CallsWait before after trial.entry
 
 -- ---- stored states
 

@@ -16,7 +16,7 @@ use crate::rings::{Window, grows_for_ever};
 use crate::see::see;
 use crate::seen::Seen;
 use nwq_value::NoMemory;
-use stack_lists::{Heap, Held, Side, Spot, Todo, with_cells};
+use stack_lists::{Call, Heap, Held, Side, Spot, Todo, with_cells};
 use stack_shape::{Entry, Reach};
 use std::alloc::Global;
 
@@ -299,11 +299,15 @@ pub fn call(
         (record { trial = at.from.trial; place = at.from.place })) }
 {
     let seen = call_routine(alloc, judged, heap, facts, todo, at)?;
-    let spot = Spot {
-        trial: at.from.trial,
-        place: at.from.place,
+    let row = facts.rows.number(at.from.trial, at.from.place);
+    let call = Call {
+        spot: Spot {
+            trial: at.from.trial,
+            place: at.from.place,
+        },
+        target: at.target,
     };
-    todo.add_call(at.target, spot)?;
+    todo.add_call(row, call)?;
     Ok(seen)
 }
 

@@ -1,10 +1,10 @@
 ghost use Rattle.std.specs.Prelude.{◌≡◌, ◌<◌, ◌↔◌, Some, IfOk, IsTrue, OnOk, min, true, false};
 ghost use Rattle.stack_lists.specs.Rows.{row_in};
-ghost use Rattle.stack_lists.specs.Worklist.{waiting};
+ghost use Rattle.stack_lists.specs.Worklist.{SameCalls, waiting};
 ghost use Rattle.stack_check.specs.Facts.{FindsMore};
 ghost use Rattle.stack_lists.specs.Held.{shape_of};
-ghost use Rattle.stack_check.specs.Inference.{CallsAgain, IsNext, IsThere, Keeps, LooksOwed};
-ghost use Rattle.stack_check.specs.Inference.{Within, narrowed, unseen_after};
+ghost use Rattle.stack_check.specs.Inference.{CallsAgain, CallsOfWait, IsNext, IsThere, Keeps};
+ghost use Rattle.stack_check.specs.Inference.{LooksOwed, Within, narrowed, unseen_after};
 
 use crate::facts::{Facts, Trial, Unseen, narrow};
 use crate::judged::Judged;
@@ -76,6 +76,7 @@ fn note_growth(
     place: u32,
 ) -> Result<(), NoMemory>
     ensures waits { waiting todo.new ≡ waiting todo.old }
+    ensures calls { SameCalls todo.old todo.new }
 {
     if after.cells < before.cells {
         todo.grew(number, Side::Cells, place)?;
@@ -119,6 +120,9 @@ pub fn see(
     ensures same { IfOk result (λ more. more ≡ false → todo.new ≡ todo.old) }
     ensures handed { IfOk result (λ more. more ≡ true → IsNext todo.new
         (record { trial = from.trial; place = from.place })) }
+    // Once its window has grown, the routine's calls are looked at again.
+    ensures again { IfOk result (λ more. more ≡ true → CallsOfWait todo.old todo.new facts.old
+        from.trial) }
 {
     match facts.trials.get(from.trial as usize) {
         None => unreachable!(),

@@ -5,4 +5,5 @@ pub mod Numbers
 pub mod RowLemmas
 pub mod Links
 mod Worklists
+mod Waits
 pub mod RowListLemmas

@@ -37,6 +37,20 @@ put_set before more after place number same in_ e = record {
 
 pub ruleset putting = (put_set)
 
+past_end : (a : List ℕ) (place : ℕ) → (place < length a → ⊥) → get_or a place 0 ≡ 0
+past_end [] zero h = refl
+past_end [] (suc place) h = refl
+past_end (x ∷ a) zero h = absurd (h (omega arith))
+past_end (x ∷ a) (suc place) h = past_end a place (λ l. h (omega (arith, l)))
+
+pub clear_set : (before after : List ℕ) (place : ℕ) → place < length before → after ≡ slice_set before place 0 → PutAt before after place 0
+clear_set before after place in_ e = put_set before before after place 0 (same_begin before) in_ e
+
+pub clear_none : (before : List ℕ) (place : ℕ) → (place < length before → ⊥) → PutAt before before place 0
+clear_none before place h = record { here = past_end before place h; others = λ k ne. refl }
+
+pub ruleset clearing = (clear_set, clear_none)
+
 pub got_some : (xs : List ℕ) (k x : ℕ) → Some x ≡ slice_get xs k → x ≡ get_or xs k 0
 got_some [] k x h = absurd cc
 got_some (y ∷ xs) zero x h = cc

@@ -11,7 +11,7 @@ use Rattle.std.proofs.lemmas.List.{length-append}
 use Rattle.stack_lists.specs.declared.held.Held.{Held}
 use Rattle.stack_lists.specs.declared.rows.ShapeRow.{ShapeRow}
 use Rattle.nwq_value.specs.declared.memory.NoMemory.{NoMemory}
-use Rattle.stack_lists.specs.Rows.{AreIndexed, IsIndexed, IsKept, PutAt, RowAdded, SameNumbers, StillKept, held_in, row_in, row_key}
+use Rattle.stack_lists.specs.Rows.{IsNumberOf, AreIndexed, IsIndexed, IsKept, PutAt, RowAdded, SameNumbers, StillKept, held_in, row_in, row_key}
 
 some_is : {A : Type 0} (a b : A) → Some a ≡ Some b → a ≡ b
 some_is a b h = cc
@@ -172,6 +172,23 @@ find_key rows firsts index t p first number other None all f n none k e = sym (n
     let s = found_at rows t p h r in
     let at = some_is other s.number (k ∙ later_row rows firsts index t p first number h all f n none r) in
     held_other (slice_get rows other) s.row t p (ap (slice_get rows) at ∙ s.has) s.key e))
+
+-- ---- the number of a row
+
+pub number_none : (rows : List ShapeRow) (t p number : ℕ) → None ≡ row_in rows t p → IsNumberOf rows t p number
+number_none rows t p number n held e = absurd (none_some held (n ∙ e))
+
+pub number_held : (rows : List ShapeRow) (firsts : List ℕ) (index : BTreeMap ℕ ℕ) (number : ℕ) (t p : ℕ) (h : Held) → AreIndexed rows firsts index
+    → Some h ≡ held_in (slice_get rows number) t p → IsNumberOf rows t p number
+number_held rows firsts index number t p h all e held r = sym e ∙ find_held rows firsts index number t p h all e ∙ r
+
+pub number_keyed : (rows : List ShapeRow) (firsts : List ℕ) (index : BTreeMap ℕ ℕ) (t p first number other : ℕ) → AreIndexed rows firsts index
+    → first ≡ get_or firsts (p / 2) 0 → number ≡ first - 1 → None ≡ held_in (slice_get rows number) t p → Some other ≡ get nat_cmp index (row_key t p)
+    → IsNumberOf rows t p other
+number_keyed rows firsts index t p first number other all f n none k held r =
+    find_key rows firsts index t p first number other (held_in (slice_get rows other) t p) all f n none k refl ∙ r
+
+pub ruleset counting = (number_none, number_held, number_keyed)
 
 number_inside : (rows : List ShapeRow) (number : ℕ) (row : ShapeRow) → slice_get rows number ≡ Some row → number < length rows
 number_inside [] number row h = absurd cc

@@ -1,13 +1,13 @@
 -- Rows in short: what is added leaves those that were there as they were.
-use Rattle.std.proofs.Common.{arith, ◌≡◌, ◌≤◌, ◌<◌, ◌+◌, ℕ, zero, suc, List, [], ◌∷◌, ◌++◌, length, map, Option, None, Some, slice_get, inl, inr, ◌⊎◌, sym, subst, ◌∙◌, ap, refl}
-use Rattle.std.specs.Prelude.{◌-◌, Result, Ok, Err, OnOk, OnErr}
+use Rattle.std.proofs.Common.{arith, ◌≡◌, ◌<◌, ℕ, zero, suc, List, [], ◌∷◌, ◌++◌, length, None, Some, slice_get, inl, inr, ◌⊎◌, sym, subst, ◌∙◌, ap, refl}
+use Rattle.std.specs.Prelude.{Result, Ok, Err, OnOk, OnErr}
 use Rattle.std.specs.Option.{option_map}
 use Rattle.std.proofs.lemmas.List.{length-append, length-map}
 use Rattle.std.proofs.lemmas.Option.{slice_get-map, slice_get_within}
 use Rattle.stack_lists.specs.declared.rows.ShapeRow.{ShapeRow}
 use Rattle.stack_lists.specs.declared.row_list.Setting.{Setting}
 use Rattle.stack_lists.specs.declared.row_list.ShortRow.{ShortRow}
-use Rattle.stack_lists.specs.RowLists.{HaveSettings, StillThere, row_of, rows_of, setting_of, with_setting}
+use Rattle.stack_lists.specs.RowLists.{HaveSettings, StillThere, row_of, rows_of, with_setting}
 
 none_some : {A : Type 0} (a : A) → None ≡ Some a → ⊥
 none_some a h = absurd cc

@@ -1,25 +1,18 @@
 -- The worklist: what is handed in and out, and the calls that are kept.
-use Rattle.std.proofs.Common.{arith, ◌≡◌, ◌≤◌, ℕ, zero, suc, List, [], ◌∷◌, ◌++◌, length, get_or, inl, inr, sym, ◌∙◌, ap, refl, append-nil}
-use Rattle.std.specs.Prelude.{Result, Ok, Err, OnOk}
+use Rattle.std.proofs.Common.{arith, ◌≡◌, ◌≤◌, ◌<◌, ℕ, zero, suc, List, [], ◌∷◌, ◌++◌, length, map, get_or, inl, inr, sym, subst, ◌∙◌, ap, refl, append-nil}
+use Rattle.std.specs.Prelude.{Result, Ok, Err, OnOk, Contains}
 use Rattle.std.proofs.lemmas.Bool.{cases_eq}
-use Rattle.std.proofs.lemmas.List.{append_assoc}
+use Rattle.std.proofs.lemmas.List.{append_assoc, length-append, map-append}
+use Rattle.std.proofs.lemmas.List.Elements.{Contains-append_left, Contains-append_right, Contains-append_cases}
 use Rattle.stack_lists.specs.declared.lists.Node.{Node}
+use Rattle.stack_lists.specs.declared.todo.Again.{Again}
+use Rattle.stack_lists.specs.declared.todo.Call.{Call}
 use Rattle.stack_lists.specs.declared.todo.Spot.{Spot}
 use Rattle.stack_lists.specs.Shared.{Grows, read}
 use Rattle.stack_lists.specs.Rows.{PutAt, SameNumbers}
-use Rattle.stack_lists.specs.Worklist.{AreThere, CallKept, CallersAdded, SameCalls, Worklist}
+use Rattle.stack_lists.specs.Worklist.{AllWait, AreMarked, AreThere, CallKept, CallersAdded, CallsPut, IsMarked, IsTop, SameCalls, Worklist, calls_of, spot_of}
 use Rattle.stack_lists.specs.Growth.{read_empty}
-
--- ---- a list is put last
-
-pub put_step : (spots more rest all begin : List Spot) (spot : Spot) → spots ++ all ≡ begin → all ≡ spot ∷ rest → more ≡ spots ++ spot ∷ [] → more ++ rest ≡ begin
-put_step spots more rest all begin spot h a m =
-    ap (λ (z : List Spot). z ++ rest) m ∙ append_assoc spots (spot ∷ []) rest ∙ ap (λ (z : List Spot). spots ++ z) (sym a) ∙ h
-
-pub put_end : (spots all begin : List Spot) → spots ++ all ≡ begin → all ≡ [] → spots ≡ begin
-put_end spots all begin h a = sym (append-nil spots) ∙ ap (λ (z : List Spot). spots ++ z) (sym a) ∙ h
-
-pub ruleset adding = (put_step, put_end)
+use Rattle.stack_lists.specs.Budget.{most}
 
 -- ---- the first of all
 
@@ -27,10 +20,10 @@ none_there : (t : ℕ) → get_or (let xs : List ℕ = [] in xs) t 0 ≡ 0
 none_there zero = refl
 none_there (suc t) = refl
 
-pub there_none : (calls : List (Node Spot)) (called : List ℕ) → called ≡ [] → AreThere calls called
+pub there_none : (calls : List (Node Call)) (called : List ℕ) → called ≡ [] → AreThere calls called
 there_none calls called e = record { by = λ t. let z = ap (λ (ns : List ℕ). get_or ns t 0) e ∙ none_there t in omega (arith, z) }
 
-pub no_calls : (calls : List (Node Spot)) (called : List ℕ) (target : ℕ) → called ≡ [] → read calls (get_or called target 0) ≡ []
+pub no_calls : (calls : List (Node Call)) (called : List ℕ) (target : ℕ) → called ≡ [] → read calls (get_or called target 0) ≡ []
 no_calls calls called target e = ap (read calls) (ap (λ (ns : List ℕ). get_or ns target 0) e ∙ none_there target) ∙ read_empty calls
 
 pub ruleset beginning = (there_none, no_calls)
@@ -38,23 +31,46 @@ pub ruleset beginning = (there_none, no_calls)
 -- ---- handing in and out
 
 pub same_calls : (before after : Worklist) → after.calls ≡ before.calls → after.called ≡ before.called → SameCalls before after
-same_calls before after c d = record { by = λ t. ap (λ (ns : List (Node Spot)). read ns (get_or after.called t 0)) c ∙ ap (λ (ns : List ℕ). read before.calls (get_or ns t 0)) d }
+same_calls before after c d = record { by = λ t. ap (λ (ns : List (Node Call)). read ns (get_or after.called t 0)) c ∙ ap (λ (ns : List ℕ). read before.calls (get_or ns t 0)) d }
 
-pub next_first : (later first less : List Spot) (spot : Spot) → first ≡ less ++ spot ∷ [] → later ++ first ≡ (later ++ less) ++ spot ∷ []
-next_first later first less spot e = ap (λ (z : List Spot). later ++ z) e ∙ sym (append_assoc later less (spot ∷ []))
+-- the last spot is handed out
+pub next_first : (calls first less : List Spot) (spot : Spot) → first ≡ less ++ spot ∷ [] → calls ++ first ≡ (calls ++ less) ++ spot ∷ []
+next_first calls first less spot e = ap (λ (z : List Spot). calls ++ z) e ∙ sym (append_assoc calls less (spot ∷ []))
 
-pub next_later : (later less first : List Spot) (spot : Spot) → first ≡ [] → later ≡ less ++ spot ∷ [] → later ++ first ≡ (less ++ first) ++ spot ∷ []
-next_later later less first spot f e =
-    ap (λ (z : List Spot). later ++ z) f ∙ append-nil later ∙ e ∙ ap (λ (z : List Spot). z ++ spot ∷ []) (sym (ap (λ (z : List Spot). less ++ z) f ∙ append-nil less))
+-- the last call is
+map_end : (all : List Again) (again : Again) → map spot_of (all ++ again ∷ []) ≡ map spot_of all ++ again.spot ∷ []
+map_end [] again = refl
+map_end (a ∷ all) again = ap (λ (z : List Spot). a.spot ∷ z) (map_end all again)
 
-pub next_none : (later first : List Spot) → first ≡ [] → later ≡ [] → later ++ first ≡ []
-next_none later first f e = ap (λ (z : List Spot). z ++ first) e ∙ f
+pub next_again : (later now less : List Again) (again : Again) (first : List Spot) → first ≡ [] → now ≡ less ++ again ∷ []
+    → map spot_of (later ++ now) ++ first ≡ (map spot_of (later ++ less) ++ first) ++ again.spot ∷ []
+next_again later now less again first f e =
+    let z = ap (λ (z : List Spot). map spot_of (later ++ now) ++ z) f ∙ append-nil (map spot_of (later ++ now)) in
+    let m = ap (λ (z : List Again). map spot_of (later ++ z)) e ∙ ap (map spot_of) (sym (append_assoc later less (again ∷ []))) ∙ map_end (later ++ less) again in
+    let n = ap (λ (z : List Spot). z ++ again.spot ∷ []) (sym (ap (λ (z : List Spot). map spot_of (later ++ less) ++ z) f ∙ append-nil (map spot_of (later ++ less)))) in
+    z ∙ m ∙ n
 
-pub ruleset handing = (same_calls, next_first, next_later, next_none)
+-- those that were handed in since are the next
+pub next_since : (later soon : List Again) (first : List Spot) → soon ≡ [] → map spot_of (soon ++ later) ++ first ≡ map spot_of (later ++ soon) ++ first
+next_since later soon first e = ap (λ (z : List Again). map spot_of z ++ first)
+    (ap (λ (z : List Again). z ++ later) e ∙ sym (append-nil later) ∙ ap (λ (z : List Again). later ++ z) (sym e))
+
+pub next_none : (later now : List Again) (first : List Spot) → first ≡ [] → later ≡ [] → now ≡ [] → map spot_of (later ++ now) ++ first ≡ []
+next_none later now first f l n =
+    ap (λ (z : List Spot). map spot_of (later ++ now) ++ z) f ∙ append-nil (map spot_of (later ++ now))
+    ∙ ap (λ (z : List Again). map spot_of (z ++ now)) l ∙ ap (map spot_of) n
+
+pub ruleset handing = (same_calls, next_first, next_again, next_since, next_none)
 
 -- ---- calls
 
-pub there_put : (calls more : List (Node Spot)) (called after : List ℕ) (target number : ℕ) → AreThere calls called → length calls ≤ length more → number ≤ length more
+never_top : (call : Call) (older : List Call) → [] ≡ call ∷ older → ⊥
+never_top call older h = absurd cc
+
+top_is : (a b : Call) (x y : List Call) → a ∷ x ≡ b ∷ y → a ≡ b
+top_is a b x y h = cc
+
+pub there_put : (calls more : List (Node Call)) (called after : List ℕ) (target number : ℕ) → AreThere calls called → length calls ≤ length more → number ≤ length more
     → PutAt called after target number → AreThere more after
 there_put calls more called after target number there longer inside p = record {
   by = λ t. elim (cases_eq t target) [
@@ -63,58 +79,179 @@ there_put calls more called after target number there longer inside p = record {
   ];
 }
 
-pub there_same : (calls more : List (Node Spot)) (called after : List ℕ) → AreThere calls called → length calls ≤ length more → SameNumbers called after
+pub there_same : (calls more : List (Node Call)) (called after : List ℕ) → AreThere calls called → length calls ≤ length more → SameNumbers called after
     → AreThere more after
 there_same calls more called after there longer s = record { by = λ t. let z = s.by t in let b = there.by t in omega (arith, z, b, longer) }
 
-pub there_more : (calls more : List (Node Spot)) (called : List ℕ) → AreThere calls called → length calls ≤ length more → AreThere more called
+pub there_more : (calls more : List (Node Call)) (called : List ℕ) → AreThere calls called → length calls ≤ length more → AreThere more called
 there_more calls more called there longer = record { by = λ t. let b = there.by t in omega (arith, b, longer) }
 
-pub call_newest : (w : Worklist) (target below : ℕ) (spot newest : Spot) (rest : List Spot) → below ≡ get_or w.called target 0 → newest ≡ spot
-    → read w.calls below ≡ newest ∷ rest → CallKept w w target spot
-call_newest w target below spot newest rest b e r = record {
-  here = inr (refl, (rest, ap (read w.calls) (sym b) ∙ r ∙ ap (λ s. s ∷ rest) e));
-  once = λ rest h. refl;
+-- ---- marks
+
+pub marked_is : (calls : List (Node Call)) (marks : List ℕ) (row number : ℕ) (call kept : Call) (older : List Call) → number ≡ get_or marks row 0
+    → number ≤ length calls → read calls number ≡ kept ∷ older → kept ≡ call → IsTop calls (get_or marks row 0) call
+marked_is calls marks row number call kept older n l r e = record {
+  inside = omega (arith, n, l);
+  older = older;
+  is = ap (read calls) (sym n) ∙ r ∙ ap (λ c. c ∷ older) e;
+}
+
+pub marked_no_top : (calls : List (Node Call)) (marks : List ℕ) (row number : ℕ) (call : Call) → number ≡ get_or marks row 0 → read calls number ≡ []
+    → IsTop calls (get_or marks row 0) call → ⊥
+marked_no_top calls marks row number call n r top = never_top call top.older (sym r ∙ ap (read calls) n ∙ top.is)
+
+pub marked_other : (calls : List (Node Call)) (marks : List ℕ) (row number : ℕ) (call kept : Call) (older : List Call) → number ≡ get_or marks row 0
+    → read calls number ≡ kept ∷ older → (kept ≡ call → ⊥) → IsTop calls (get_or marks row 0) call → ⊥
+marked_other calls marks row number call kept older n r ne top =
+    ne (top_is kept call older top.older (sym r ∙ ap (read calls) n ∙ top.is))
+
+pub mark_inside : (calls : List (Node Call)) (called marks : List ℕ) (row number : ℕ) → AreMarked calls called marks → number ≡ get_or marks row 0
+    → number ≤ length calls
+mark_inside calls called marks row number m n = let l = m.there row in omega (arith, n, l)
+
+pub ruleset marking = (marked_is, marked_no_top, marked_other, mark_inside)
+
+-- where lists are only added, what was a top is one
+pub still_top : (calls more : List (Node Call)) (number : ℕ) (call : Call) → Grows calls more → number ≤ length calls → IsTop more number call
+    → IsTop calls number call
+still_top calls more number call g l top = record { inside = l; older = top.older; is = sym (g.same number l) ∙ top.is }
+
+pub top_still : (calls more : List (Node Call)) (number : ℕ) (call : Call) → Grows calls more → IsTop calls number call → IsTop more number call
+top_still calls more number call g top =
+    record { inside = (let k = g.longer in let l = top.inside in omega (arith, k, l)); older = top.older; is = g.same number top.inside ∙ top.is }
+
+among_more : (calls more : List Call) (call newest : Call) → more ≡ newest ∷ calls → Contains calls call → Contains more call
+among_more calls more call newest e among = subst (λ cs. Contains cs call) (sym e) (Contains-append_right (newest ∷ []) calls call among)
+
+among_same : (calls more : List Call) (call : Call) → more ≡ calls → Contains calls call → Contains more call
+among_same calls more call e among = subst (λ cs. Contains cs call) (sym e) among
+
+among_newest : (calls more : List Call) (call : Call) → more ≡ call ∷ calls → Contains more call
+among_newest calls more call e = subst (λ cs. Contains cs call) (sym e) (0, omega arith, refl)
+
+-- a list is added
+pub marked_grows : (calls more : List (Node Call)) (called after marks : List ℕ) → AreThere calls called → AreMarked calls called marks
+    → Grows calls more → SameNumbers called after → AreMarked more after marks
+marked_grows calls more called after marks there m g s = record {
+  there = λ row. let l = m.there row in let k = g.longer in omega (arith, l, k);
+  by = λ row call top.
+      among_same (read calls (get_or called call.target 0)) (read more (get_or after call.target 0)) call
+      (ap (read more) (s.by call.target) ∙ g.same (get_or called call.target 0) (there.by call.target))
+      (m.by row call (still_top calls more (get_or marks row 0) call g (m.there row) top));
+}
+
+pub marked_put : (calls more : List (Node Call)) (called after marks : List ℕ) (below number : ℕ) (call : Call) → AreThere calls called
+    → AreMarked calls called marks → Grows calls more → below ≡ get_or called call.target 0 → read more number ≡ call ∷ read calls below
+    → PutAt called after call.target number → AreMarked more after marks
+marked_put calls more called after marks below number call there m g b r p = record {
+  there = λ row. let l = m.there row in let k = g.longer in omega (arith, l, k);
+  by = λ row c top.
+      let among = m.by row c (still_top calls more (get_or marks row 0) c g (m.there row) top) in
+      elim (cases_eq c.target call.target) [
+        | inl e ↦ among_more (read calls (get_or called c.target 0)) (read more (get_or after c.target 0)) c call
+            (ap (λ t. read more (get_or after t 0)) e ∙ ap (read more) p.here ∙ r
+            ∙ ap (λ n. call ∷ read calls n) (b ∙ ap (λ t. get_or called t 0) (sym e))) among
+        | inr ne ↦ among_same (read calls (get_or called c.target 0)) (read more (get_or after c.target 0)) c
+            (ap (read more) (p.others c.target ne) ∙ g.same (get_or called c.target 0) (there.by c.target)) among
+      ];
+}
+
+pub marked_same : (calls : List (Node Call)) (called marks after : List ℕ) → AreMarked calls called marks → SameNumbers marks after
+    → AreMarked calls called after
+marked_same calls called marks after m s = record {
+  there = λ row. let l = m.there row in let e = s.by row in omega (arith, l, e);
+  by = λ row call top. m.by row call (subst (λ n. IsTop calls n call) (s.by row) top);
+}
+
+-- the mark of the call that is kept now
+pub marked_here : (calls : List (Node Call)) (called marks after : List ℕ) (row number : ℕ) (call : Call) (older : List Call) → AreMarked calls called marks
+    → number ≤ length calls → read calls number ≡ call ∷ older → get_or called call.target 0 ≡ number → PutAt marks after row number
+    → AreMarked calls called after
+marked_here calls called marks after row number call older m l r at p = record {
+  there = λ k. elim (cases_eq k row) [
+    | inl e ↦ let z = ap (λ h. get_or after h 0) e ∙ p.here in omega (arith, z, l)
+    | inr ne ↦ let z = p.others k ne in let i = m.there k in omega (arith, z, i)
+  ];
+  by = λ k c top. elim (cases_eq k row) [
+    | inl e ↦
+        let is : call ≡ c = top_is call c older top.older (sym r ∙ ap (read calls) (sym (ap (λ h. get_or after h 0) e ∙ p.here)) ∙ top.is) in
+        subst (λ c. Contains (read calls (get_or called c.target 0)) c) is
+        (among_newest older (read calls (get_or called call.target 0)) call (ap (read calls) at ∙ r))
+    | inr ne ↦ m.by k c (subst (λ n. IsTop calls n c) (p.others k ne) top)
+  ];
+}
+
+-- there was room for one call more
+pub few_more : (calls more : List (Node Call)) (count : ℕ) (node : Node Call) → count ≡ length calls → count < most → more ≡ calls ++ node ∷ []
+    → length more ≤ most
+few_more calls more count node n l e = let z = ap length e ∙ length-append calls (node ∷ []) in omega (arith, z, n, l)
+
+-- ---- a call is kept
+
+pub call_marked : (w : Worklist) (row : ℕ) (call : Call) → AreMarked w.calls w.called w.marks → IsMarked w row call → CallKept w w row call
+call_marked w row call m is = record {
+  here = m.by row call is;
+  marked = is;
+  added = inl refl;
+  once = λ h. refl;
   others = λ t ne. refl;
 }
 
-pub call_added : (before after : Worklist) (target below number : ℕ) (spot : Spot) → AreThere before.calls before.called → Grows before.calls after.calls
-    → below ≡ get_or before.called target 0 → read after.calls number ≡ spot ∷ read before.calls below → PutAt before.called after.called target number
-    → ((rest : List Spot) → read before.calls below ≡ spot ∷ rest → ⊥) → CallKept before after target spot
-call_added before after target below number spot there g b r p ne = record {
-  here = inl (ap (read after.calls) p.here ∙ r ∙ ap (λ n. spot ∷ read before.calls n) b);
-  once = λ rest h. absurd (ne rest (ap (read before.calls) b ∙ h));
+pub call_added : (before after : Worklist) (row below number : ℕ) (call : Call) → AreThere before.calls before.called → Grows before.calls after.calls
+    → below ≡ get_or before.called call.target 0 → read after.calls number ≡ call ∷ read before.calls below → number ≤ length after.calls
+    → PutAt before.called after.called call.target number → PutAt before.marks after.marks row number
+    → (IsMarked before row call → ⊥) → CallKept before after row call
+call_added before after row below number call there g b r l p k ne = record {
+  here = among_newest (calls_of before call.target) (calls_of after call.target) call newest;
+  marked = record {
+    inside = (let z = k.here in omega (arith, z, l));
+    older = read before.calls below;
+    is = ap (read after.calls) k.here ∙ r;
+  };
+  added = inr newest;
+  once = λ h. absurd (ne h);
   others = λ t ne. ap (read after.calls) (p.others t ne) ∙ g.same (get_or before.called t 0) (there.by t);
 }
-
--- the newest call is another one, or there is none
-pub newest_other : (calls : List Spot) (spot newest : Spot) (more : List Spot) → calls ≡ newest ∷ more → (newest ≡ spot → ⊥) → (rest : List Spot) → calls ≡ spot ∷ rest → ⊥
-newest_other calls spot newest more e ne rest h = ne (top_is newest spot more rest (sym e ∙ h))
   where
-    top_is : (a b : Spot) (x y : List Spot) → a ∷ x ≡ b ∷ y → a ≡ b
-    top_is a b x y h = cc
+    newest : calls_of after call.target ≡ call ∷ calls_of before call.target
+    newest = ap (read after.calls) p.here ∙ r ∙ ap (λ n. call ∷ read before.calls n) b
 
-pub newest_none : (calls : List Spot) (spot : Spot) → calls ≡ [] → (rest : List Spot) → calls ≡ spot ∷ rest → ⊥
-newest_none calls spot e rest h = never spot rest (sym e ∙ h)
-  where
-    never : (b : Spot) (y : List Spot) → [] ≡ b ∷ y → ⊥
-    never b y h = absurd cc
+pub ruleset keeping = (there_put, there_same, there_more, marked_grows, marked_put, marked_same, marked_here, call_marked, call_added)
 
-pub ruleset keeping = (newest_other, newest_none, there_put, there_same, there_more, call_newest, call_added)
+-- ---- the calls of a routine are handed in
 
-pub callers_added : (before after : Worklist) (target number : ℕ) → after.first ≡ before.first → after.calls ≡ before.calls → number ≡ get_or before.called target 0
-    → after.later ≡ before.later ++ read before.calls number → PutAt before.called after.called target 0 → CallersAdded before after target
-callers_added before after target number f c n l p = record {
+all_wait : (later now : List Again) (first : List Spot) (spot : Spot) → Contains (map spot_of (now ++ later)) spot
+    → Contains (map spot_of (later ++ now) ++ first) spot
+all_wait later now first spot c =
+    Contains-append_left (map spot_of (later ++ now)) first spot (subst (λ z. Contains z spot) (sym (map-append spot_of later now))
+    (elim (Contains-append_cases (map spot_of now) (map spot_of later) spot (subst (λ z. Contains z spot) (map-append spot_of now later) c)) [
+      | inl i ↦ Contains-append_right (map spot_of later) (map spot_of now) spot i
+      | inr i ↦ Contains-append_left (map spot_of later) (map spot_of now) spot i
+    ]))
+
+pub callers_added : (before after : Worklist) (target number : ℕ) → after.first ≡ before.first → after.soon ≡ before.soon → after.calls ≡ before.calls
+    → after.called ≡ before.called → number ≡ get_or before.called target 0 → AllWait before.calls before.waits (before.soon ++ before.later)
+    → CallsPut before.calls before.later before.waits after.later (read before.calls number) → CallersAdded before after target
+callers_added before after target number f w c d n all p = record {
   first = f;
-  later = l ∙ ap (λ n. before.later ++ read before.calls n) n;
-  none = ap (read after.calls) p.here ∙ read_empty after.calls;
-  others = λ t ne. ap (λ (ns : List (Node Spot)). read ns (get_or after.called t 0)) c ∙ ap (read before.calls) (p.others t ne);
+  soon = w;
+  added = p.added;
+  later = p.is;
+  all = λ call i. all_wait after.later after.soon after.first call.spot
+      (subst (λ z. Contains (map spot_of (z ++ after.later)) call.spot) (sym w)
+      (p.by before.soon all call (subst (λ n. Contains (read before.calls n) call) (sym n) i)));
+  calls = same_calls before after c d;
 }
 
-pub callers_done : {E : Type 0} (before after : Worklist) (target number : ℕ) (r : Result (Unit {0}) E) → after.first ≡ before.first → after.calls ≡ before.calls
-    → number ≡ get_or before.called target 0 → OnOk r (after.later ≡ before.later ++ read before.calls number) → PutAt before.called after.called target 0
-    → OnOk r (CallersAdded before after target)
-callers_done before after target number (Ok u) f c n l p = callers_added before after target number f c n l p
-callers_done before after target number (Err e) f c n l p = tt
+pub callers_done : {E : Type 0} (before after : Worklist) (target number : ℕ) (r : Result (Unit {0}) E) → after.first ≡ before.first → after.soon ≡ before.soon
+    → after.calls ≡ before.calls → after.called ≡ before.called → number ≡ get_or before.called target 0
+    → AllWait before.calls before.waits (before.soon ++ before.later)
+    → OnOk r (CallsPut before.calls before.later before.waits after.later (read before.calls number)) → OnOk r (CallersAdded before after target)
+callers_done before after target number (Ok u) f w c d n all p = callers_added before after target number f w c d n all p
+callers_done before after target number (Err e) f w c d n all p = tt
 
-pub ruleset calling = (there_put, there_same, callers_added)
+pub list_inside : (calls : List (Node Call)) (called : List ℕ) (target number : ℕ) → AreThere calls called → number ≡ get_or called target 0
+    → number ≤ length calls
+list_inside calls called target number there n = let l = there.by target in omega (arith, l, n)
+
+pub ruleset calling = (list_inside, callers_added)

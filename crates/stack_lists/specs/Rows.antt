@@ -27,6 +27,11 @@ RowsAreNumbered = (rows : List ShapeRow) (trial place : ℕ) (held : Held)
     → (number : ℕ) × (row : ShapeRow) × (slice_get rows number ≡ Some row) × (row.trial ≡ trial)
     × (row.place ≡ place)
 
+-- the row of a trial at a place has this number, if it has one there
+abbrev pub IsNumberOf : List ShapeRow → ℕ → ℕ → ℕ → Type 0
+IsNumberOf rows trial place number = (held : Held) → row_in rows trial place ≡ Some held
+    → held_in (slice_get rows number) trial place ≡ Some held
+
 -- ---- where rows are found
 
 -- The row with this number, of this trial and place, is found: it is the first of its place, or the

@@ -27,4 +27,4 @@ pub use places::Places;
 pub use rows::{Rows, ShapeRow};
 pub use slots::same;
 pub use stacks::Stacks;
-pub use todo::{Side, Spot, Todo};
+pub use todo::{Call, Side, Spot, Todo};

@@ -55,6 +55,16 @@ impl Places {
         self.numbers.set(place as usize, number);
         Ok(())
     }
+
+    /// Puts 0 at a place.
+    #[tactic(auto, using(crate::proofs::Numbers::clearing))]
+    pub fn clear(&mut self, place: u32)
+        ensures cleared { PutAt self.old self.new place 0 }
+    {
+        if (place as usize) < self.numbers.len() {
+            self.numbers.set(place as usize, 0);
+        }
+    }
 }
 
 /// Puts zeros last, until there is a number at the place.

@@ -1,7 +1,8 @@
 ghost use Rattle.std.specs.Prelude.{◌≡◌, ◌≤◌, ◌^◌, [], None, Some, OnOk, IfSome, ◌<◌, length};
 ghost use Rattle.std.specs.Prelude.{slice_get};
 ghost use Rattle.stack_lists.specs.Budget.{most};
-ghost use Rattle.stack_lists.specs.Rows.{IsKept, RowAdded, StillKept, held_in, row_in, row_key};
+ghost use Rattle.stack_lists.specs.Rows.{IsKept, IsNumberOf, RowAdded, StillKept, held_in, row_in};
+ghost use Rattle.stack_lists.specs.Rows.{row_key};
 
 use crate::budget::room;
 use crate::held::Held;
@@ -150,6 +151,24 @@ impl Rows {
             None => match self.index.get(&key_of(trial, place)) {
                 None => None,
                 Some(number) => self.held_of(*number as usize, trial, place),
+            },
+        }
+    }
+
+    /// The number of the row of a trial at a place, 0 where it has none.
+    #[tactic(auto, using(crate::proofs::RowLemmas::finding, crate::proofs::RowLemmas::counting))]
+    pub fn number(&self, trial: u32, place: u32) -> u32
+        ensures number { IsNumberOf self.now trial place result }
+    {
+        let first = self.firsts.get(place / 2);
+        if first == 0 {
+            return 0;
+        }
+        match self.held_of(first as usize - 1, trial, place) {
+            Some(_) => first - 1,
+            None => match self.index.get(&key_of(trial, place)) {
+                None => 0,
+                Some(number) => *number,
             },
         }
     }

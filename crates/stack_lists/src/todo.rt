@@ -1,8 +1,9 @@
 ghost use Rattle.std.specs.Prelude.{◌≡◌, ◌++◌, ◌∷◌, ◌↔◌, [], ℕ, MatchOption, OnOk, IsTrue, get_or};
+ghost use Rattle.std.specs.Prelude.{◌≤◌, length, true, false};
 ghost use Rattle.stack_lists.specs.Rows.{PutAt};
 ghost use Rattle.stack_lists.specs.Shared.{read};
-ghost use Rattle.stack_lists.specs.Worklist.{CallKept, CallersAdded, SameCalls, calls_of, growths};
-ghost use Rattle.stack_lists.specs.Worklist.{waiting};
+ghost use Rattle.stack_lists.specs.Worklist.{CallKept, CallersAdded, CallsPut, IsMarked, IsTop};
+ghost use Rattle.stack_lists.specs.Worklist.{KeepsWaiting, SameCalls, calls_of, growths, waiting};
 
 use crate::budget::room;
 use crate::lists::Lists;
@@ -10,12 +11,27 @@ use crate::places::Places;
 use nwq_value::NoMemory;
 use std::alloc::Global;
 use std::marker::Model;
+use std::mem::swap;
 
 /// A trial and a place of it.
 #[derive(Clone, Copy, PartialEq, Eq)]
 pub struct Spot {
     pub trial: u32,
     pub place: u32,
+}
+
+/// A call: where it stands, and the place at which the routine begins that it calls.
+#[derive(Clone, Copy, PartialEq, Eq)]
+pub struct Call {
+    pub spot: Spot,
+    pub target: u32,
+}
+
+/// A call that waits: where it stands, and the number of the list whose top it is.
+#[derive(Clone, Copy)]
+pub struct Again {
+    pub spot: Spot,
+    pub number: u32,
 }
 
 /// The two lists of a trial.
@@ -31,11 +47,17 @@ pub enum Side {
 pub struct Todo {
     first: Vec<Spot>,
     /// Calls that are looked at again once there is nothing else.
-    later: Vec<Spot>,
+    soon: Vec<Again>,
+    /// Calls that were handed in since; they are looked at once there is none of those.
+    later: Vec<Again>,
     /// The calls of each routine, as lists; they are looked at again when more is known of it.
-    calls: Lists<Spot>,
+    calls: Lists<Call>,
     /// By the place at which a routine begins: the number of the list of its calls.
     called: Places,
+    /// By the number of a call's row: the number of the list whose top it is.
+    marks: Places,
+    /// By that number: 1 where the call waits, so it waits once.
+    waits: Places,
     /// By trial: the place of the call that made its window of the cells grow last, 0 where no call
     /// did.
     cells: Places,
@@ -46,72 +68,144 @@ pub struct Todo {
 }
 
 impl Model for Todo {
-    ghost use Rattle.stack_lists.specs.Worklist.{AreThere, Worklist};
+    ghost use Rattle.stack_lists.specs.Worklist.{AllWait, AreMarked, AreThere, Worklist};
 
     ghost Value = { Worklist };
 
     ghost view = { λ t. record {
       first = t.first.items;
+      soon = t.soon.items;
       later = t.later.items;
       calls = t.calls;
       called = t.called;
+      marks = t.marks;
+      waits = t.waits;
       cells = t.cells;
       under = t.under;
     } };
 
-    ghost use Rattle.std.specs.Prelude.{◌≤◌, length};
+    ghost use Rattle.std.specs.Prelude.{◌++◌, ◌≤◌, length};
     ghost use Rattle.stack_lists.specs.Budget.{most};
 
-    ghost invariant = { λ t. AreThere t.calls t.called × (length t.calls ≤ most) };
+    ghost invariant = { λ t. AreThere t.calls t.called × AreMarked t.calls t.called t.marks
+        × AllWait t.calls t.waits (t.soon.items ++ t.later.items) × (length t.calls ≤ most) };
 }
 
 /// Whether both are the same.
-fn is_same(a: Spot, b: Spot) -> bool
+fn is_same(a: Call, b: Call) -> bool
     ensures { IsTrue result ↔ (a ≡ b) }
 {
     a == b
 }
 
-/// Puts a list of spots last, its top first.
-#[tactic(auto, using(crate::proofs::Worklists::adding))]
-fn put_all(spots: &mut Vec<Spot>, calls: &Lists<Spot>, number: u32) -> Result<(), NoMemory>
-    ensures put { OnOk result (spots.new.items ≡ spots.old.items ++ read calls.now number) }
+/// Has the call that is the top of a list wait, unless it does.
+#[tactic(auto, using(crate::proofs::Waits::adding))]
+fn put_call(
+    later: &mut Vec<Again>,
+    waits: &mut Places,
+    calls: &Lists<Call>,
+    number: u32,
+    call: Call,
+) -> Result<(), NoMemory>
+    requires top { IsTop calls.now number call }
+    ensures keeps { KeepsWaiting calls.now later.old.items waits.old later.new.items waits.new }
+    ensures put { OnOk result (CallsPut calls.now later.old.items waits.old later.new.items (call
+        ∷ [])) }
+{
+    if waits.get(number) == 0 {
+        later.push(Again {
+            spot: call.spot,
+            number,
+        })?;
+        waits.put(number, 1)?;
+    }
+    Ok(())
+}
+
+/// Has all calls of a list wait.
+#[tactic(auto, using(crate::proofs::Waits::adding_all))]
+fn put_all(
+    later: &mut Vec<Again>,
+    waits: &mut Places,
+    calls: &Lists<Call>,
+    number: u32,
+) -> Result<(), NoMemory>
+    requires inside { number ≤ length calls.now }
+    ensures keeps { KeepsWaiting calls.now later.old.items waits.old later.new.items waits.new }
+    ensures put { OnOk result (CallsPut calls.now later.old.items waits.old later.new.items (read
+        calls.now number)) }
 {
     let mut at = number;
-    while let Some((spot, below)) = calls.pop(at) {
-        spots.push(spot)?;
+    while let Some((call, below)) = calls.pop(at) {
+        put_call(later, waits, calls, at, call)?;
         at = below;
     }
     Ok(())
 }
 
 impl Todo {
-    #[tactic(auto, using(crate::proofs::Worklists::beginning))]
+    #[tactic(auto, using(crate::proofs::Worklists::beginning, crate::proofs::Waits::beginning))]
     pub fn new(alloc: Global) -> Todo
         ensures empty { waiting result ≡ [] }
         ensures none { (target : ℕ) → calls_of result target ≡ [] }
     {
         Todo {
             first: Vec::new(alloc),
+            soon: Vec::new(alloc),
             later: Vec::new(alloc),
             calls: Lists::new(alloc),
             called: Places::new(alloc),
+            marks: Places::new(alloc),
+            waits: Places::new(alloc),
             cells: Places::new(alloc),
             under: Places::new(alloc),
             grown: 0,
         }
     }
 
+    /// Has the calls that were handed in since be the next, where none is left of those before.
+    #[tactic(auto, using(crate::proofs::Worklists::handing, crate::proofs::Waits::handing))]
+    fn begin_round(&mut self)
+        ensures same { waiting self.new ≡ waiting self.old }
+        ensures first { self.new.first ≡ self.old.first }
+        ensures calls { SameCalls self.old self.new }
+        ensures none { self.new.soon ≡ [] → self.new.later ≡ [] }
+    {
+        if !self.soon.is_empty() {
+            return;
+        }
+        swap(&mut self.soon, &mut self.later);
+    }
+
+    /// Hands out a call that waits. All that waited are handed out before one that was handed in
+    /// since, so what grows along many ways is looked at once for each call and step.
+    #[tactic(auto, using(crate::proofs::Worklists::handing, crate::proofs::Waits::handing))]
+    fn next_call(&mut self) -> Option<Spot>
+        requires none { self.old.first ≡ [] }
+        ensures next { MatchOption result ((waiting self.old ≡ []) × (waiting self.new ≡ []))
+            (λ spot. waiting self.old ≡ waiting self.new ++ spot ∷ []) }
+        ensures calls { SameCalls self.old self.new }
+    {
+        self.begin_round();
+        match self.soon.pop() {
+            None => None,
+            Some(again) => {
+                self.waits.clear(again.number);
+                Some(again.spot)
+            }
+        }
+    }
+
     /// Hands out the last spot, which is no more to be looked at then.
     #[tactic(auto, using(crate::proofs::Worklists::handing))]
     pub fn next(&mut self) -> Option<Spot>
-        ensures next { MatchOption result ((waiting self.old ≡ []) × (self.new ≡ self.old))
+        ensures next { MatchOption result ((waiting self.old ≡ []) × (waiting self.new ≡ []))
             (λ spot. waiting self.old ≡ waiting self.new ++ spot ∷ []) }
         ensures calls { SameCalls self.old self.new }
     {
         match self.first.pop() {
             Some(spot) => Some(spot),
-            None => self.later.pop(),
+            None => self.next_call(),
         }
     }
 
@@ -125,22 +219,34 @@ impl Todo {
         Ok(())
     }
 
-    /// Keeps a call of the routine that begins at `target`. What is to be looked at stays.
-    /// `NoMemory` comes where memory is refused, and past 2^25 calls that were kept.
-    #[tactic(auto, using(crate::proofs::Worklists::keeping))]
-    pub fn add_call(&mut self, target: u32, spot: Spot) -> Result<(), NoMemory>
-        ensures same { waiting self.new ≡ waiting self.old }
-        ensures kept { OnOk result (CallKept self.old self.new target spot) }
+    /// Whether a call is kept, by the mark of its row.
+    #[tactic(auto, using(crate::proofs::Worklists::marking))]
+    fn is_marked(&self, row: u32, call: Call) -> bool
+        ensures marked { result ≡ true → IsMarked self.now row call }
+        ensures none { result ≡ false → IsMarked self.now row call → ⊥ }
     {
-        let below = self.called.get(target);
-        if let Some((newest, _)) = self.calls.pop(below) {
-            if is_same(newest, spot) {
-                return Ok(());
-            }
+        match self.calls.pop(self.marks.get(row)) {
+            None => false,
+            Some((kept, _)) => is_same(kept, call),
+        }
+    }
+
+    /// Keeps a call of a routine, once for the row with this number. What is to be looked at stays.
+    /// `NoMemory` comes where memory is refused, and past 2^25 calls that were kept.
+    #[tactic(auto, using(crate::proofs::Worklists::keeping, crate::proofs::Waits::keeping))]
+    pub fn add_call(&mut self, row: u32, call: Call) -> Result<(), NoMemory>
+        ensures same { waiting self.new ≡ waiting self.old }
+        ensures kept { OnOk result (CallKept self.old self.new row call) }
+    {
+        if self.is_marked(row, call) {
+            return Ok(());
         }
         room(self.calls.len())?;
-        let number = self.calls.push(below, spot)?;
-        self.called.put(target, number)
+        let below = self.called.get(call.target);
+        let number = self.calls.push(below, call)?;
+        self.called.put(call.target, number)?;
+        self.marks.put(row, number)?;
+        Ok(())
     }
 
     /// Has the calls of a routine looked at again, after the spots that are looked at first.
@@ -149,8 +255,7 @@ impl Todo {
         ensures added { OnOk result (CallersAdded self.old self.new target) }
     {
         let number = self.called.get(target);
-        self.called.put(target, 0)?;
-        put_all(&mut self.later, &self.calls, number)
+        put_all(&mut self.later, &mut self.waits, &self.calls, number)
     }
 
     /// The place of the call that made a window of a trial grow last, 0 where no call did.

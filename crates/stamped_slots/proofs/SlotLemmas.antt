@@ -1,10 +1,10 @@
 -- What is found among slots, put into them and taken out of them.
-use Rattle.std.proofs.Common.{◌≡◌, ◌≢◌, ◌<◌, ◌≤◌, ◌+◌, ◌-◌, ◌*◌, ◌==◌, ◌∷◌, ◌++◌, [], ℕ, zero, suc, Bool, true, false, cond, not, List, length, filter, drop, insert, slice_get, get_or, Option, None, Some, is_some, refl, sym, ap, subst, ◌∙◌, arith}
+use Rattle.std.proofs.Common.{◌≡◌, ◌≢◌, ◌<◌, ◌≤◌, ◌+◌, ◌*◌, ◌==◌, ◌∷◌, ◌++◌, [], ℕ, zero, suc, Bool, true, false, not, List, length, filter, drop, insert, slice_get, get_or, Option, None, Some, is_some, refl, sym, ap, subst, ◌∙◌, arith}
 use Rattle.std.specs.Prelude.{if◌then◌else◌, nat_lt, slice_set}
 use Rattle.std.proofs.lemmas.Bool.Decides.{nat_tests}
 use Rattle.std.proofs.lemmas.Bool.{eqb-true, eq-eqb, ltb-true, ltb-false}
 use Rattle.stamped_slots.specs.declared.slots.Slot.{Slot}
-use Rattle.stamped_slots.specs.Stamps.{at, put, without, Rise}
+use Rattle.stamped_slots.specs.Stamps.{at, put, replaced, without, Rise}
 use Rattle.stamped_slots.specs.Kept.{seen_before, seen, Ascend, below, has_stamp, item_at, written, is_full, front_is_empty, IsKept}
 
 not_eq : (n g : ℕ) → n ≢ g → (n == g) ≡ false
@@ -185,6 +185,26 @@ long_put stamp x (e ∷ es) = by (nat_lt e.0 stamp) (long_put stamp x es)
     by : (b : Bool) → length (put stamp x es) ≡ length es + 1 → length (if b then e ∷ put stamp x es else (stamp, x) ∷ e ∷ es) ≡ suc (length es) + 1
     by true more = omega (arith, more)
     by false more = omega arith
+
+-- ---- what is put in the place of another
+
+stays_by : {T : Type 0} (stamp own : ℕ) (x : T) (item : Option T) (es : List (ℕ × T)) → own ≢ stamp → replaced stamp x (seen_before own item es) ≡ seen_before own item (replaced stamp x es)
+stays_by stamp own x None es other = refl
+stays_by stamp own x (Some y) es other = rw (not_eq own stamp other) refl
+
+full_written : {T : Type 0} (low stamp : ℕ) (x y : T) (slots : List (Slot T)) → Ascend low slots → has_stamp stamp (below stamp slots) slots ≡ true → item_at (below stamp slots) slots ≡ Some y
+    → seen (written (below stamp slots) (Some x) slots) ≡ replaced stamp x (seen slots)
+full_written low stamp x y [] up is there = absurd cc
+full_written low stamp x y (s ∷ slots) up is there = by (nat_lt s.stamp stamp) refl is there (full_written (s.stamp + 1) stamp x y slots up.1)
+  where
+    by : (b : Bool) → nat_lt s.stamp stamp ≡ b → has_stamp stamp (if b then suc (below stamp slots) else 0) (s ∷ slots) ≡ true
+        → item_at (if b then suc (below stamp slots) else 0) (s ∷ slots) ≡ Some y
+        → (has_stamp stamp (below stamp slots) slots ≡ true → item_at (below stamp slots) slots ≡ Some y → seen (written (below stamp slots) (Some x) slots) ≡ replaced stamp x (seen slots))
+        → seen (written (if b then suc (below stamp slots) else 0) (Some x) (s ∷ slots)) ≡ replaced stamp x (seen (s ∷ slots))
+    by true e here full more =
+        let lt = ltb-true s.stamp stamp e in
+        ap (seen_before s.stamp s.item) (more here full) ∙ sym (stays_by stamp s.stamp x s.item (seen slots) (λ same. omega (arith, lt, same)))
+    by false e here full more = sym (ap (λ o. replaced stamp x (seen_before s.stamp o (seen slots))) full ∙ rw here refl)
 
 -- ---- what is taken out
 
@@ -415,6 +435,58 @@ kept_empty live room now_room i slots now kept now_is none room_is =
 
 pub lacks_at : {T : Type 0} (live stamp room i : ℕ) (slots : List (Slot T)) → IsKept live slots room → i ≡ below stamp slots → false ≡ has_stamp stamp i slots → at stamp (seen slots) ≡ None
 lacks_at live stamp room i slots kept place is = lacks 0 stamp slots kept.ascend (sym (is ∙ ap (λ k. has_stamp stamp k slots) place))
+
+pub long_replaced : {T : Type 0} (stamp : ℕ) (x : T) (es : List (ℕ × T)) → length (replaced stamp x es) ≡ length es
+long_replaced stamp x [] = refl
+long_replaced stamp x (e ∷ es) = by (e.0 == stamp) (long_replaced stamp x es)
+  where
+    by : (b : Bool) → length (replaced stamp x es) ≡ length es → length (if b then (e.0, x) ∷ es else e ∷ replaced stamp x es) ≡ suc (length es)
+    by true more = refl
+    by false more = ap suc more
+
+pub replaced_none : {T : Type 0} (stamp : ℕ) (x : T) (es : List (ℕ × T)) → at stamp es ≡ None → replaced stamp x es ≡ es
+replaced_none stamp x [] none = refl
+replaced_none stamp x (e ∷ es) none = by (e.0 == stamp) none (replaced_none stamp x es)
+  where
+    by : (b : Bool) → (if b then Some e.1 else at stamp es) ≡ None → (at stamp es ≡ None → replaced stamp x es ≡ es) → (if b then (e.0, x) ∷ es else e ∷ replaced stamp x es) ≡ e ∷ es
+    by true lack more = absurd cc
+    by false lack more = ap (λ t. e ∷ t) (more lack)
+
+none_of : {T : Type 0} (o : Option T) → is_some o ≡ false → o ≡ None
+none_of None e = refl
+none_of (Some x) e = absurd cc
+
+some_of : {T : Type 0} (o : Option T) → is_some o ≡ true → (x : T) × (o ≡ Some x)
+some_of None e = absurd cc
+some_of (Some x) e = (x, refl)
+
+-- the slot of the stamp is empty
+pub empty_at : {T : Type 0} (live stamp room i : ℕ) (slots : List (Slot T)) → IsKept live slots room → i ≡ below stamp slots → true ≡ has_stamp stamp i slots → is_some (item_at i slots) ≡ false
+    → at stamp (seen slots) ≡ None
+empty_at live stamp room i slots kept place is none =
+    sym (found 0 stamp slots kept.ascend (sym (is ∙ ap (λ k. has_stamp stamp k slots) place)))
+    ∙ ap (λ k. item_at k slots) (sym place) ∙ none_of (item_at i slots) none
+
+-- once another item stands in the slot
+pub kept_replaced : {T : Type 0} (live stamp room now_room i : ℕ) (x : T) (slots now : List (Slot T)) (item : Option T) → IsKept live slots room → i ≡ below stamp slots → true ≡ has_stamp stamp i slots
+    → is_some (item_at i slots) ≡ true → now ≡ written i (Some x) slots → item ≡ item_at i slots → now_room ≡ room
+    → (seen now ≡ replaced stamp x (seen slots)) × (item ≡ at stamp (seen slots)) × IsKept live now now_room
+kept_replaced live stamp room now_room i x slots now item kept place is full now_is item_is room_is =
+    let here : has_stamp stamp (below stamp slots) slots ≡ true = sym (is ∙ ap (λ k. has_stamp stamp k slots) place) in
+    let there = some_of (item_at i slots) full in
+    let put_is : seen now ≡ replaced stamp x (seen slots) = ap seen (now_is ∙ ap (λ k. written k (Some x) slots) place)
+    ∙ full_written 0 stamp x there.0 slots kept.ascend here (ap (λ k. item_at k slots) (sym place) ∙ there.1) in
+    let as_long = ap length now_is ∙ long_written i (Some x) slots in (
+      put_is,
+      item_is ∙ ap (λ k. item_at k slots) place ∙ found 0 stamp slots kept.ascend here,
+      record {
+        ascend = subst (Ascend 0) (sym now_is) (ascend_written 0 i (Some x) slots kept.ascend);
+        counted = kept.counted ∙ sym (ap length put_is ∙ long_replaced stamp x (seen slots));
+        first = ap front_is_empty now_is ∙ first_written i x slots kept.first;
+        few = subst (λ n. n ≤ 2 * live) (sym as_long) kept.few;
+        gone = λ none. room_is ∙ kept.gone none;
+      },
+    )
 
 pub one_less : {T : Type 0} (live stamp room : ℕ) (x : T) (slots now : List (Slot T)) → IsKept live slots room
     → seen now ≡ without stamp (seen slots) → Some x ≡ at stamp (seen slots) → length (seen now) + 1 ≡ live

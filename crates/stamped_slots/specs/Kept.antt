@@ -1,5 +1,5 @@
 -- How the slots are kept. No public clause speaks of it.
-use Rattle.std.specs.Prelude.{◌≡◌, ℕ, zero, suc, ◌+◌, ◌*◌, ◌≤◌, ◌==◌, List, [], ◌∷◌, length, Bool, true, false, not, is_some, Option, None, Some, nat_lt, if◌then◌else◌}
+use Rattle.std.specs.Prelude.{◌≡◌, ℕ, zero, suc, ◌+◌, ◌*◌, ◌≤◌, ◌==◌, List, [], ◌∷◌, length, Bool, false, not, is_some, Option, None, Some, nat_lt, if◌then◌else◌}
 use Rattle.stamped_slots.specs.declared.slots.Slot.{Slot}
 
 -- what stands in a slot, if it isn't empty, before these

@@ -23,6 +23,11 @@ abbrev pub without : {T : Type 0} → ℕ → List (ℕ × T) → List (ℕ × T
 without stamp [] = []
 without stamp (e ∷ es) = if e.0 == stamp then es else e ∷ without stamp es
 
+-- with another item under a stamp, where there is one
+abbrev pub replaced : {T : Type 0} → ℕ → T → List (ℕ × T) → List (ℕ × T)
+replaced stamp x [] = []
+replaced stamp x (e ∷ es) = if e.0 == stamp then (e.0, x) ∷ es else e ∷ replaced stamp x es
+
 -- each stamp is above those before it, the first at least this
 abbrev pub Rise : {T : Type 0} → ℕ → List (ℕ × T) → Type 0
 Rise low [] = Unit {0}

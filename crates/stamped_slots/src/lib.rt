@@ -5,8 +5,8 @@
 //! search for its stamp. What is taken out leaves its slot empty, so that no other is moved; where
 //! half of the slots are empty they go, and their memory with them. The first slot never is empty.
 //!
-//! The entries of one due time, the places of Turns, and the effects of an object are kept so. A
-//! [`StampIndex`] leads from a key to the stamps under it.
+//! The entries of one due time, the places of Turns, and the effects and variables of an object are
+//! kept so. A [`StampIndex`] leads from a key to the stamps under it.
 #![tactic(auto)]
 
 mod slots;

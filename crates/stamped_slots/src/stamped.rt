@@ -2,7 +2,7 @@
 ghost use Rattle.std.specs.Prelude.{◌≡◌, ◌≤◌, ◌*◌, [], None, Some, length, slice_get, MatchOption};
 ghost use Rattle.std.specs.Prelude.{OnOk, OnErr, IfErr};
 ghost use Rattle.std.specs.Option.{option_copied};
-ghost use Rattle.stamped_slots.specs.Stamps.{at, put, without, Rise};
+ghost use Rattle.stamped_slots.specs.Stamps.{at, put, replaced, without, Rise};
 
 use crate::slots::{Slots, below, exchange, is_of, put_among, put_only, settle};
 use crate::walk::Walk;
@@ -107,6 +107,20 @@ impl<T: Drop> Stamped<T> {
         put_among(&mut self.slots, self.live, stamp, item)?;
         self.live += 1;
         Ok(())
+    }
+
+    /// Puts an item in the place of the one under a stamp, which comes back and costs no memory.
+    /// Where there is none nothing changes, and the item is dropped.
+    pub fn replace(&mut self, stamp: u64, item: T) -> Option<T>
+        ensures was { result ≡ at stamp self.old.items }
+        ensures now { self.new.items ≡ replaced stamp item self.old.items }
+    {
+        let at = below(&self.slots, stamp);
+        if !is_of(&self.slots, at, stamp) || self.slots[at].item.is_none() {
+            drop(item);
+            return None;
+        }
+        exchange(&mut self.slots, at, Some(item))
     }
 
     /// Takes the item under a stamp out, where there is one; the others keep their stamps.

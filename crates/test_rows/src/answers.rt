@@ -1,6 +1,6 @@
 //! Words over files and a sink that are held in memory, and what is to come of them, row by row.
 
-ghost use Rattle.std.specs.Prelude.{map};
+ghost use Rattle.hook_table.specs.InHooks.{known_by};
 ghost use Rattle.world_core.specs.Calls.{AreServing};
 
 use crate::bases::{Base, files_of};
@@ -200,7 +200,7 @@ pub fn carry_on(
     found: &mut Outcome,
     hooks: &Hooks,
 ) -> Result<(), NoMemory>
-    requires hooks { AreServing (map (λ h. h.known) hooks.now.all.items) }
+    requires hooks { AreServing (known_by hooks.now) }
 {
     let words = words_of(alloc, line)?;
     found.status = nwq_main(
@@ -281,7 +281,7 @@ fn is_as(alloc: Global, found: &Outcome, row: &Row) -> Result<bool, NoMemory> {
 
 /// Whether what is to come of a row does.
 pub fn comes(alloc: Global, row: &Row, found: &mut Outcome, hooks: &Hooks) -> Result<bool, NoMemory>
-    requires hooks { AreServing (map (λ h. h.known) hooks.now.all.items) }
+    requires hooks { AreServing (known_by hooks.now) }
 {
     if !row.left {
         begin(alloc, row.base, row.own, found)?;

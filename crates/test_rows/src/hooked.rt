@@ -1,7 +1,8 @@
 //! The hooks of scripts are made here, once, for all that a test tries.
 
-ghost use Rattle.std.specs.Prelude.{◌≤◌, [], IfOk, map};
+ghost use Rattle.std.specs.Prelude.{◌≤◌, [], IfOk};
 ghost use Rattle.hook_table.specs.Standard.{function_numbered, IsAnswer};
+ghost use Rattle.hook_table.specs.InHooks.{known_by};
 ghost use Rattle.world_core.specs.Calls.{AreServing};
 
 use crate::answers::{Outcome, begin, words_of};
@@ -33,7 +34,7 @@ pub trait Trial {
         found: &mut Outcome,
         hooks: &Hooks,
     ) -> Result<Option<Place>, NoMemory>
-        requires hooks { AreServing (map (λ h. h.known) hooks.now.all.items) };
+        requires hooks { AreServing (known_by hooks.now) };
 }
 
 /// The same of a group of tables, with the group's place.
@@ -44,7 +45,7 @@ pub fn first_wrong_in(
     found: &mut Outcome,
     hooks: &Hooks,
 ) -> Result<Option<Place>, NoMemory>
-    requires hooks { AreServing (map (λ h. h.known) hooks.now.all.items) }
+    requires hooks { AreServing (known_by hooks.now) }
 {
     for (place, table) in tables.iter().enumerate() {
         if let Some(row) = first_wrong(alloc, *table, found, hooks)? {
@@ -86,7 +87,13 @@ fn try_with<T: Trial>(
         move |args: &Args| -> Result<Value, NoMemory>
             ensures { IfOk result (λ v. IsAnswer own (function_numbered 9).name
                 (function_numbered 9).result args.now v) }
-        { cell_call(alloc, &own, args) },
+        {
+            if refused == 9 {
+                Err(NoMemory)
+            } else {
+                cell_call(alloc, &own, args)
+            }
+        },
     )?;
     put_cell_hook(alloc, &mut hooks, cells, tables)?;
     all_are_put(&hooks);

@@ -1,6 +1,6 @@
 //! Tables of rows: each is gone through, and the first row of which something else comes is told.
 
-ghost use Rattle.std.specs.Prelude.{map};
+ghost use Rattle.hook_table.specs.InHooks.{known_by};
 ghost use Rattle.world_core.specs.Calls.{AreServing};
 
 use crate::answers::{Failing, Held, Named, Outcome, PLAIN, Row, comes};
@@ -42,7 +42,7 @@ fn first_row(
     found: &mut Outcome,
     hooks: &Hooks,
 ) -> Result<Option<usize>, NoMemory>
-    requires hooks { AreServing (map (λ h. h.known) hooks.now.all.items) }
+    requires hooks { AreServing (known_by hooks.now) }
 {
     for (place, row) in rows.iter().enumerate() {
         if !comes(alloc, row, found, hooks)? {
@@ -59,7 +59,7 @@ fn first_line(
     found: &mut Outcome,
     hooks: &Hooks,
 ) -> Result<Option<usize>, NoMemory>
-    requires hooks { AreServing (map (λ h. h.known) hooks.now.all.items) }
+    requires hooks { AreServing (known_by hooks.now) }
 {
     for (place, line) in lines.iter().enumerate() {
         let row = Row { line, ..row };
@@ -77,7 +77,7 @@ fn first_source(
     found: &mut Outcome,
     hooks: &Hooks,
 ) -> Result<Option<usize>, NoMemory>
-    requires hooks { AreServing (map (λ h. h.known) hooks.now.all.items) }
+    requires hooks { AreServing (known_by hooks.now) }
 {
     for (place, (source, text)) in sources.iter().enumerate() {
         let row = Row {
@@ -99,7 +99,7 @@ fn first_cut(
     found: &mut Outcome,
     hooks: &Hooks,
 ) -> Result<Option<usize>, NoMemory>
-    requires hooks { AreServing (map (λ h. h.known) hooks.now.all.items) }
+    requires hooks { AreServing (known_by hooks.now) }
 {
     for (place, (failing, puts, text, after)) in cuts.iter().enumerate() {
         let row = Row {
@@ -122,7 +122,7 @@ fn first_told(
     found: &mut Outcome,
     hooks: &Hooks,
 ) -> Result<Option<usize>, NoMemory>
-    requires hooks { AreServing (map (λ h. h.known) hooks.now.all.items) }
+    requires hooks { AreServing (known_by hooks.now) }
 {
     for (place, (line, held, status, text, out)) in lines.iter().enumerate() {
         let row = Row {
@@ -150,7 +150,7 @@ fn first_size(
     found: &mut Outcome,
     hooks: &Hooks,
 ) -> Result<Option<usize>, NoMemory>
-    requires hooks { AreServing (map (λ h. h.known) hooks.now.all.items) }
+    requires hooks { AreServing (known_by hooks.now) }
 {
     let (from, below, text) = *short;
     for size in from..below {
@@ -174,7 +174,7 @@ fn first_short(
     found: &mut Outcome,
     hooks: &Hooks,
 ) -> Result<Option<usize>, NoMemory>
-    requires hooks { AreServing (map (λ h. h.known) hooks.now.all.items) }
+    requires hooks { AreServing (known_by hooks.now) }
 {
     for short in shorts {
         if let Some(size) = first_size(alloc, row, sample, short, found, hooks)? {
@@ -194,7 +194,7 @@ fn is_read(
     found: &mut Outcome,
     hooks: &Hooks,
 ) -> Result<bool, NoMemory>
-    requires hooks { AreServing (map (λ h. h.known) hooks.now.all.items) }
+    requires hooks { AreServing (known_by hooks.now) }
 {
     let text = format!(in alloc; "{} {name}\n", row.text)?;
     let row = Row {
@@ -213,7 +213,7 @@ fn first_read(
     found: &mut Outcome,
     hooks: &Hooks,
 ) -> Result<Option<usize>, NoMemory>
-    requires hooks { AreServing (map (λ h. h.known) hooks.now.all.items) }
+    requires hooks { AreServing (known_by hooks.now) }
 {
     for (place, (line, name)) in reads.iter().enumerate() {
         let row = Row { line, ..row };
@@ -232,7 +232,7 @@ pub fn first_wrong(
     found: &mut Outcome,
     hooks: &Hooks,
 ) -> Result<Option<usize>, NoMemory>
-    requires hooks { AreServing (map (λ h. h.known) hooks.now.all.items) }
+    requires hooks { AreServing (known_by hooks.now) }
 {
     match table {
         Table::Rows(rows) => first_row(alloc, rows, found, hooks),

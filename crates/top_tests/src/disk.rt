@@ -2,7 +2,7 @@
 //! and each call of the disk fails in turn: the file that the link leads to is as it was, or has
 //! all that is written.
 
-ghost use Rattle.std.specs.Prelude.{map};
+ghost use Rattle.hook_table.specs.InHooks.{known_by};
 ghost use Rattle.world_core.specs.Calls.{AreServing};
 
 use hook_table::Hooks;
@@ -106,7 +106,7 @@ fn carry_out(
     files: &mut RealFiles<MemoryDisk>,
     hooks: &Hooks,
 ) -> Result<Status, NoMemory>
-    requires hooks { AreServing (map (λ h. h.known) hooks.now.all.items) }
+    requires hooks { AreServing (known_by hooks.now) }
 {
     let words = words_of(alloc, line)?;
     let mut out = MemSink::new(alloc);
@@ -128,7 +128,7 @@ fn is_whole(
     wrong: Wrong,
     hooks: &Hooks,
 ) -> Result<bool, NoMemory>
-    requires hooks { AreServing (map (λ h. h.known) hooks.now.all.items) }
+    requires hooks { AreServing (known_by hooks.now) }
 {
     let mut files = RealFiles::new(alloc, disk_of(alloc, command, wrong)?);
     let status = carry_out(alloc, command.line, &mut files, hooks)?;
@@ -144,7 +144,7 @@ fn first_call(
     calls: u64,
     hooks: &Hooks,
 ) -> Result<Option<u64>, NoMemory>
-    requires hooks { AreServing (map (λ h. h.known) hooks.now.all.items) }
+    requires hooks { AreServing (known_by hooks.now) }
 {
     for call in 0..calls {
         if !is_whole(alloc, command, new, Wrong::Fails(call), hooks)?
@@ -158,7 +158,7 @@ fn first_call(
 
 /// Whether a command writes what it is to write, and leaves its file whole whichever call fails.
 fn comes(alloc: Global, command: &Command, hooks: &Hooks) -> Result<bool, NoMemory>
-    requires hooks { AreServing (map (λ h. h.known) hooks.now.all.items) }
+    requires hooks { AreServing (known_by hooks.now) }
 {
     let mut files = RealFiles::new(alloc, disk_of(alloc, command, Wrong::Nothing)?);
     let status = carry_out(alloc, command.line, &mut files, hooks)?;
@@ -180,7 +180,7 @@ fn comes(alloc: Global, command: &Command, hooks: &Hooks) -> Result<bool, NoMemo
 
 /// The place of the first command of which something else comes, if there is one.
 pub fn first_command(alloc: Global, hooks: &Hooks) -> Result<Option<usize>, NoMemory>
-    requires hooks { AreServing (map (λ h. h.known) hooks.now.all.items) }
+    requires hooks { AreServing (known_by hooks.now) }
 {
     for (place, command) in COMMANDS.iter().enumerate() {
         if !comes(alloc, command, hooks)? {

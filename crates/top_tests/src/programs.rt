@@ -1,6 +1,6 @@
 //! The whole program, but for real files and streams.
 
-ghost use Rattle.std.specs.Prelude.{map};
+ghost use Rattle.hook_table.specs.InHooks.{known_by};
 ghost use Rattle.world_core.specs.Calls.{AreServing};
 
 use command_messages::{End, LastLine, tell_end};
@@ -131,7 +131,7 @@ fn end_of(
     err: &mut MemSink,
     hooks: &Hooks,
 ) -> u8
-    requires hooks { AreServing (map (λ h. h.known) hooks.now.all.items) }
+    requires hooks { AreServing (known_by hooks.now) }
 {
     let mut remarks = Remarks::none();
     let number = nwq_program(alloc, all, files, out, hooks, &mut remarks);
@@ -148,7 +148,7 @@ fn end_of(
 
 /// Whether what is to come of the program over these files does.
 fn ends(alloc: Global, row: &Program, all: &[String], files: &mut MemFiles, hooks: &Hooks) -> bool
-    requires hooks { AreServing (map (λ h. h.known) hooks.now.all.items) }
+    requires hooks { AreServing (known_by hooks.now) }
 {
     let mut out = LastLine::new(alloc, MemSink::new(alloc));
     let mut err = MemSink::new(alloc);
@@ -158,7 +158,7 @@ fn ends(alloc: Global, row: &Program, all: &[String], files: &mut MemFiles, hook
 
 /// The same over the files that it is over.
 fn comes(alloc: Global, row: &Program, found: &mut Outcome, hooks: &Hooks) -> Result<bool, NoMemory>
-    requires hooks { AreServing (map (λ h. h.known) hooks.now.all.items) }
+    requires hooks { AreServing (known_by hooks.now) }
 {
     if !row.left {
         begin(alloc, row.base, &[], found)?;
@@ -174,7 +174,7 @@ pub fn first_program(
     found: &mut Outcome,
     hooks: &Hooks,
 ) -> Result<Option<usize>, NoMemory>
-    requires hooks { AreServing (map (λ h. h.known) hooks.now.all.items) }
+    requires hooks { AreServing (known_by hooks.now) }
 {
     for (place, row) in rows.iter().enumerate() {
         if !comes(alloc, row, found, hooks)? {

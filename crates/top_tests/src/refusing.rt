@@ -1,12 +1,78 @@
-//! A hook that finds no memory, and cells that the hooks look up in a table.
+//! Hooks that find no memory, each in its turn, and cells that the hooks look up in a table.
 
 use nwq_top::Status;
 use test_rows::answers::{Held, PLAIN, Row};
 use test_rows::bases::Base;
 use test_rows::samples::Sample;
 
-/// The number of the hook that finds none: IntToString.
+/// The number of the hook that finds none beside these rows: IntToString.
 pub const REFUSED: u8 = 1;
+
+/// A script that asks a hook, and what comes of it where that hook finds memory, and where not.
+macro_rules! asks {
+    ($source:literal, $text:literal) => {
+        [
+            Row {
+                line: "run - p",
+                own: &[("p.nss", Held::Bytes($source))],
+                puts: Some(2),
+                text: $text,
+                ..PLAIN
+            },
+            Row {
+                line: "run - p",
+                own: &[("p.nss", Held::Bytes($source))],
+                status: Status::Memory,
+                puts: Some(0),
+                ..PLAIN
+            },
+        ]
+    };
+}
+
+/// A script for each of the ten hooks.
+pub const ASKED: &[[Row; 2]] = &[
+    asks!(
+        b"void main() { PrintInteger(abs(-1)); }",
+        "0 #0 print 1\nend done clock 0 entries 1 instructions 7\n"
+    ),
+    asks!(
+        b"void main() { PrintString(IntToString(1)); }",
+        "0 #0 print 1\nend done clock 0 entries 1 instructions 6\n"
+    ),
+    asks!(
+        b"void main() { PrintInteger(StringToInt(\"1\")); }",
+        "0 #0 print 1\nend done clock 0 entries 1 instructions 6\n"
+    ),
+    asks!(
+        b"void main() { PrintString(IntToHexString(1)); }",
+        "0 #0 print 0x00000001\nend done clock 0 entries 1 instructions 6\n"
+    ),
+    asks!(
+        b"void main() { PrintInteger(GetStringLength(\"a\")); }",
+        "0 #0 print 1\nend done clock 0 entries 1 instructions 6\n"
+    ),
+    asks!(
+        b"void main() { PrintString(GetStringLeft(\"ab\", 1)); }",
+        "0 #0 print a\nend done clock 0 entries 1 instructions 7\n"
+    ),
+    asks!(
+        b"void main() { PrintString(GetStringRight(\"ab\", 1)); }",
+        "0 #0 print b\nend done clock 0 entries 1 instructions 7\n"
+    ),
+    asks!(
+        b"void main() { PrintString(GetSubString(\"ab\", 1, 1)); }",
+        "0 #0 print b\nend done clock 0 entries 1 instructions 8\n"
+    ),
+    asks!(
+        b"void main() { PrintString(InsertString(\"a\", \"b\", 0)); }",
+        "0 #0 print ba\nend done clock 0 entries 1 instructions 8\n"
+    ),
+    asks!(
+        b"void main() { PrintString(Get2DAString(\"x\", \"COST\", 0)); }",
+        "0 #0 print 10\nend done clock 0 entries 1 instructions 8\n"
+    ),
+];
 
 pub const LINE: &str = "play - a.git x.plan f.git t.txt";
 

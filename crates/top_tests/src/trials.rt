@@ -152,8 +152,11 @@ impl Trial for Disks {
     }
 }
 
-/// A hook that finds no memory.
-struct Refusing;
+/// The hook of this number, below 10, finds no memory.
+#[derive(Drop)]
+struct Refusing {
+    hook: u8,
+}
 
 impl Trial for Refusing {
     fn given(&self) -> (Base, &'static str) {
@@ -161,16 +164,31 @@ impl Trial for Refusing {
     }
 
     fn refused(&self) -> u8 {
-        refusing::REFUSED
+        self.hook
     }
 
+    // What asks the hook ends for want of memory, and what asks any other doesn't.
     fn first_wrong(
         &self,
         alloc: Global,
         found: &mut Outcome,
         hooks: &Hooks,
     ) -> Result<Option<Place>, NoMemory> {
-        first_wrong_in(alloc, 0, &[Table::Rows(refusing::ROWS)], found, hooks)
+        for (hook, [answered, refused]) in refusing::ASKED.iter().enumerate() {
+            let row = if hook == self.hook as usize {
+                refused
+            } else {
+                answered
+            };
+            let table = Table::Rows(std::slice::from_ref(row));
+            if let Some(place) = first_wrong_in(alloc, hook, &[table], found, hooks)? {
+                return Ok(Some(place));
+            }
+        }
+        if self.hook != refusing::REFUSED {
+            return Ok(None);
+        }
+        first_wrong_in(alloc, 10, &[Table::Rows(refusing::ROWS)], found, hooks)
     }
 }
 
@@ -194,6 +212,8 @@ fn commands_over_a_disk(rt: HostRuntime) -> Result<(), Fail> {
 
 #[test]
 fn a_hook_finds_no_memory(rt: HostRuntime) -> Result<(), Fail> {
-    assert_eq!(rt; first_other(rt.alloc(), &Refusing)?, Ok(None));
+    for hook in 0u8..10 {
+        assert_eq!(rt; first_other(rt.alloc(), &Refusing { hook })?, Ok(None));
+    }
     Ok(())
 }

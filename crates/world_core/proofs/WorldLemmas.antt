@@ -1,5 +1,5 @@
 -- What worlds keep through calls.
-use Rattle.std.proofs.Common.{◌≡◌, ◌≤◌, ℕ, suc, Bool, true, false, cond, List, [], ◌∷◌, drop, arith, Result, Ok, Err, Option, None, Some, slice_get, sym, ap, subst}
+use Rattle.std.proofs.Common.{◌≡◌, ◌≤◌, ℕ, suc, Bool, true, false, cond, List, [], ◌∷◌, drop, arith, Result, Ok, Err, Option, None, Some, slice_get, sym, ap, subst, ◌∙◌}
 use Rattle.std.specs.List.{AllByRecursion}
 use Rattle.std.specs.Option.{IfSome}
 use Rattle.std.specs.Result.{IfOk, OnErr}
@@ -7,10 +7,12 @@ use Rattle.delay_agenda.specs.declared.entry.Entry.{Entry}
 use Rattle.delay_agenda.specs.Laws.{TakeKeeps}
 use Rattle.delay_agenda.specs.Waiting.{is_turn_of, turn_count}
 use Rattle.nwq_value.specs.Engine.{EngineTable}
+use Rattle.nwq_value.specs.declared.engine.Role.{Role}
+use Rattle.nwq_value.specs.declared.engine.Role.TheVariants.{Pure}
 use Rattle.nwq_value.specs.declared.engine.Routine.{Routine}
 use Rattle.nwq_value.specs.declared.memory.NoMemory.{NoMemory}
 use Rattle.nwq_value.specs.declared.value.Value.{Value}
-use Rattle.world_rules.specs.Pure.{CellLookup}
+use Rattle.world_rules.specs.Pure.{CellLookup, pure}
 use Rattle.world_rules.specs.World.{World, count}
 use Rattle.world_rules.specs.Rows.{Answered, Call}
 use Rattle.world_rules.specs.Engine.{by_role, by_routine, engine}
@@ -30,6 +32,21 @@ unfolding engine
 engine_kept {X = X} keeps table cell n r c w v result there ok err world caller =
     answered result (by_role cell n r r.role c w) w v ok err world
     (subst (λ (o : Option Routine). IsWorld (by_routine cell n o c w).world) (sym there) (keeps table cell n c w world caller).world)
+
+-- what a function of strings and numbers gives is the engine's answer, whoever calls
+function_is : {X : Type 0} → (table : EngineTable) (cell : CellLookup) (n k : ℕ) (r : Routine) (c : Call X) (w : World X) (v : Option Value) →
+    slice_get table.routines n ≡ Some r → r.role ≡ Pure k → v ≡ pure cell k c.values → record { value = v; world = w } ≡ engine table cell n c w
+unfolding engine
+function_is {X = X} table cell n k r c w v listed role is =
+    ap (λ (v : Option Value). record { value = v; world = w }) is
+    ∙ ap (λ (o : Role). by_role cell n r o c w) (sym role)
+    ∙ ap (λ (o : Option Routine). by_routine cell n o c w) (sym listed)
+
+pub function_answers : {X : Type 0} → (result : Result (Option Value) NoMemory) (table : EngineTable) (cell : CellLookup) (n k : ℕ) (r : Routine) (c : Call X) (w : World X) →
+    slice_get table.routines n ≡ Some r → r.role ≡ Pure k → IfOk result (λ value. value ≡ pure cell k c.values) →
+    IfOk result (λ value. record { value = value; world = w } ≡ engine table cell n c w)
+function_answers {X = X} (Ok value) table cell n k r c w listed role is = function_is table cell n k r c w value listed role is
+function_answers {X = X} (Err e) table cell n k r c w listed role is = tt
 
 -- an entry that is begun
 pub begun_kept : {X : Type 0} → BeginKeeps X → (until : ℕ) (w v : World X) (entry : Option (Entry X)) → IsWorld w → IsBegunAs until w entry v →

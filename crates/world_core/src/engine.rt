@@ -1,5 +1,5 @@
 //! What a call of a header's routine does, by the routine's role.
-ghost use Rattle.std.specs.Prelude.{◌≡◌, ◌<◌, ◌≤◌, ◌+◌, ◌^◌, ◌++◌, ◌∷◌, [], drop, map, slice_get};
+ghost use Rattle.std.specs.Prelude.{◌≡◌, ◌<◌, ◌≤◌, ◌+◌, ◌^◌, ◌++◌, ◌∷◌, [], drop, slice_get};
 ghost use Rattle.std.specs.Prelude.{ℕ, Some};
 ghost use Rattle.std.specs.Prelude.{IfOk, OnOk, OnErr};
 ghost use Rattle.nwq_value.specs.Engine.{IsRoutine};
@@ -13,6 +13,7 @@ ghost use Rattle.world_rules.specs.Kept.{IsWorld};
 ghost use Rattle.world_rules.specs.Pure.{pure};
 ghost use Rattle.world_rules.specs.World.{count};
 ghost use Rattle.hook_table.specs.Standard.{types_of_values};
+ghost use Rattle.hook_table.specs.InHooks.{known_by};
 ghost use Rattle.stack_shape.specs.Calls.{argument_types};
 ghost use Rattle.world_core.specs.Calls.{cells_of, AreServing, IsEarly};
 ghost use Rattle.world_parts.specs.Row.{does};
@@ -134,18 +135,18 @@ fn world_call<X: Drop>(
 }
 
 /// A function of strings and numbers, or the look-up of a cell: the hook of its number answers.
-fn pure_call(
+pub(crate) fn pure_call(
     hooks: &Hooks,
     k: u8,
     routine: &Routine,
     args: &Args,
 ) -> Result<Option<Value>, NoMemory>
-    requires hooks { AreServing (map (λ h. h.known) hooks.now.all.items) }
+    requires hooks { AreServing (known_by hooks.now) }
     requires routine { IsRoutine routine.now }
     requires role { routine.now.role ≡ role.Pure k }
     requires types { types_of_values args.now ≡ argument_types routine.now.params }
     ensures value { IfOk result
-        (λ value. value ≡ pure (cells_of (map (λ h. h.known) hooks.now.all.items)) k args.now) }
+        (λ value. value ≡ pure (cells_of (known_by hooks.now)) k args.now) }
 {
     roles_tell();
     standard_hooks_serve();
@@ -215,12 +216,12 @@ pub(crate) fn by_role<X: Drop>(
     requires room { room ≤ parts.old.posts }
     requires small { room ≤ 1 }
     requires hooks { (k : ℕ) → routine.now.role ≡ role.Pure k
-        → AreServing (map (λ h. h.known) hooks.now.all.items) }
+        → AreServing (known_by hooks.now) }
     requires routine { IsRoutine routine.now }
     requires types { (k : ℕ) → routine.now.role ≡ role.Pure k
         → types_of_values args ≡ argument_types routine.now.params }
     ensures ok { IfOk result (λ value. record { value = value; world = parts.new.world }
-        ≡ by_role (cells_of (map (λ h. h.known) hooks.now.all.items)) number routine.now
+        ≡ by_role (cells_of (known_by hooks.now)) number routine.now
         routine.now.role (call caller args action) parts.old.world) }
     ensures err { OnErr result (parts.new.world ≡ parts.old.world) }
     ensures posts { room ≤ parts.new.posts }

@@ -1,6 +1,8 @@
 //! The calls on a world.
 ghost use Rattle.std.specs.Prelude.{◌≡◌, ◌<◌, ◌≤◌, ◌+◌, ◌^◌, ◌++◌, [], drop, length, map};
-ghost use Rattle.std.specs.Prelude.{slice_get};
+ghost use Rattle.std.specs.Prelude.{slice_get, ℕ, Option};
+ghost use Rattle.nwq_value.specs.Engine.{IsRoutine};
+ghost use Rattle.nwq_value.specs.declared.engine.Role.TheVariants.{Pure};
 ghost use Rattle.std.specs.Prelude.{IfOk, IfSome, OnOk, OnErr, IsTrue, Some, pos};
 ghost use Rattle.std.specs.List.{AllByRecursion};
 ghost use Rattle.std.specs.Option.{option_copied};
@@ -12,18 +14,20 @@ ghost use Rattle.world_rules.specs.Trace.{trace_text};
 ghost use Rattle.world_rules.specs.Turns.{new_world, turn, turn_done, unapply, fault, drained};
 ghost use Rattle.world_rules.specs.Turns.{with_entries};
 ghost use Rattle.world_rules.specs.World.{count, effects_of, queue_of};
-ghost use Rattle.world_core.specs.Calls.{planned, cells_of, FitArguments, IsEarly, ServeRoutine};
+ghost use Rattle.hook_table.specs.InHooks.{known_by};
+ghost use Rattle.world_core.specs.Calls.{planned, cells_of, AreServing, FitArguments, IsEarly};
+ghost use Rattle.world_core.specs.Calls.{ServeRoutine};
 ghost use Rattle.world_parts.specs.Begun.{IsBegunAs};
 ghost use Rattle.world_parts.specs.Saved.{put_together};
 
-use crate::engine::{by_role, take_room};
+use crate::engine::{by_role, pure_call, take_room};
 use crate::start::{Events, post_all};
 use crate::trace::put_trace;
 use action_queue::Item;
 use area_tree::Area;
 use delay_agenda::{Entry, calls_keep_order};
 use hook_table::Hooks;
-use nwq_value::{Args, NoMemory, Randoms, Table, Text, Value};
+use nwq_value::{Args, NoMemory, Randoms, Routine, Table, Text, Value};
 use std::alloc::Global;
 use std::marker::Model;
 use world_parts::{Parts, WorldParts};
@@ -127,10 +131,10 @@ impl<X: Drop> World<X> {
         requires early { IsEarly self.old.world }
         requires caller { caller ≤ count self.old.world }
         requires hooks { ServeRoutine table.now routine
-            (map (λ h. h.known) hooks.now.all.items) }
+            (known_by hooks.now) }
         requires types { FitArguments table.now routine args }
         ensures ok { IfOk result (λ value. record { value = value; world = self.new.world }
-            ≡ engine table.now (cells_of (map (λ h. h.known) hooks.now.all.items)) routine
+            ≡ engine table.now (cells_of (known_by hooks.now)) routine
             (call caller args action) self.old.world) }
         ensures err { OnErr result (self.new.world ≡ self.old.world) }
         ensures room { self.old.room ≤ self.new.room }
@@ -156,6 +160,32 @@ impl<X: Drop> World<X> {
                 )
             }
         }
+    }
+
+    /// The call of a function of strings and numbers, or of a look-up of a cell: the routine of
+    /// this number, whose hook has number `k`. It changes nothing, so its arguments are lent.
+    #[inline(always)]
+    pub fn function(
+        &self,
+        hooks: &Hooks,
+        table: &Table,
+        number: u16,
+        routine: &Routine,
+        k: u8,
+        args: &Args,
+    ) -> Result<Option<Value>, NoMemory>
+        requires listed { slice_get table.now.routines number ≡ Some routine.now }
+        requires routine { IsRoutine routine.now }
+        requires role { routine.now.role ≡ Pure k }
+        requires hooks { AreServing (known_by hooks.now) }
+        requires types { FitArguments table.now number args.now }
+        ensures ok { (caller : ℕ) (action : Option X) → IfOk result (λ value.
+            record { value = value; world = self.now.world }
+            ≡ engine table.now (cells_of (known_by hooks.now)) number
+            (call caller args.now action) self.now.world) }
+    {
+        let (_table, _number) = (table, number);
+        pure_call(hooks, k, routine, args)
     }
 
     /// Takes the next entry that is due by a time, sets the clock to when it is due, and makes room

@@ -1,4 +1,5 @@
 use Rattle.std.proofs.Common.{map, rules, string_bytes}
+use Rattle.hook_table.specs.InHooks.{known_by}
 use Rattle.world_core.specs.Calls.{cells_of}
 use Rattle.command_work.specs.Counts.{KeepsBut}
 use Rattle.command_work.specs.Work.{Does, ending}
@@ -12,7 +13,7 @@ use Rattle.nwq_top.proofs.nwq_main.Goals as goal
 
 pub returns-clause-means : goal.returns-clause-means
 returns-clause-means g c = λ files_tell whole.
-    let cells = cells_of (map (λ h. h.known) c.args.hooks.now.all.items) in
+    let cells = cells_of (known_by c.args.hooks.now) in
     let form = form_of (map string_bytes c.args.words.now) in
     let before = g.F.Files.contents c.args.files.now in
     let after = g.F.Files.contents c.status_told-status.new.files in
@@ -26,7 +27,7 @@ returns-clause-means g c = λ files_tell whole.
 
 pub returns-clause-cut : goal.returns-clause-cut
 returns-clause-cut g c = λ files_tell cut.
-    let cells = cells_of (map (λ h. h.known) c.args.hooks.now.all.items) in
+    let cells = cells_of (known_by c.args.hooks.now) in
     let form = form_of (map string_bytes c.args.words.now) in
     let before = g.F.Files.contents c.args.files.now in
     let after = g.F.Files.contents c.status_told-status.new.files in
@@ -40,7 +41,7 @@ returns-clause-cut g c = λ files_tell cut.
 
 pub returns-clause-changes : goal.returns-clause-changes
 returns-clause-changes g c = λ files_tell.
-    let cells = cells_of (map (λ h. h.known) c.args.hooks.now.all.items) in
+    let cells = cells_of (known_by c.args.hooks.now) in
     let form = form_of (map string_bytes c.args.words.now) in
     let before = g.F.Files.contents c.args.files.now in
     let after = g.F.Files.contents c.status_told-status.new.files in

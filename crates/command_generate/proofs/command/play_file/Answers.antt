@@ -1,4 +1,4 @@
-use Rattle.std.proofs.Common.{map}
+use Rattle.hook_table.specs.InHooks.{known_by}
 use Rattle.world_core.specs.Calls.{cells_of}
 use Rattle.command_work.specs.Counts.{Counted}
 use Rattle.command_generate.proofs.CommandLemmas.{checked_then, counted_on}
@@ -9,8 +9,8 @@ play_code-requires-clause-meets g c = c.in-Ok.ensures.kept.meets
 
 pub returns-in-Ok-clause-does : goal.returns-in-Ok-clause-does
 returns-in-Ok-clause-does g c = λ tells d.
-    checked_then (cells_of (map (λ h. h.known) c.args.hooks.now.all.items)) c.args.number c.play_code.result d (g.S.Sink.taken c.args.out.now)
-    (g.S.Sink.taken c.load_checked.new.out) (g.S.Sink.taken c.play_code.new.out) c.args.table.now c.args.bytes.items c.in-Ok.code.code c.requires.header
+    checked_then (cells_of (known_by c.args.hooks.now)) c.args.number c.play_code.result d (g.S.Sink.taken c.args.out.now)
+    (g.S.Sink.taken c.load_checked.new.out) (g.S.Sink.taken c.play_code.new.out) c.args.table.now c.args.bytes.items c.in-Ok.code.code c.requires.made.built_in
     (c.in-Ok.ensures.does tells d) (c.play_code.ensures.does tells d)
 
 pub returns-in-Ok-clause-counts : goal.returns-in-Ok-clause-counts

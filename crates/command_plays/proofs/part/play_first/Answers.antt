@@ -1,17 +1,11 @@
-use Rattle.ncs_machine.specs.Host.{scripts_of, tables_of}
-use Rattle.command_plays.proofs.WorldLemmas.{world_fits, world_quiet, world_next, few_posted}
+use Rattle.ncs_machine.specs.InSetting.{seen}
+use Rattle.command_plays.proofs.WorldLemmas.{may_play, first_keeps}
 use Rattle.command_plays.proofs.part.play_first.Goals as goal
 
-pub play_part-requires-clause-fit : goal.play_part-requires-clause-fit
-play_part-requires-clause-fit g c =
-    world_fits c.args.area c.args.plan.now c.in-Ok.world.world c.in-Ok.ensures.world (scripts_of c.args.scripts.now) (tables_of c.args.scripts.now)
+pub play_part-requires-clause-world : goal.play_part-requires-clause-world
+play_part-requires-clause-world g c = may_play c.args.area c.args.plan.now c.requires.plan c.in-Ok.world.world c.in-Ok.ensures.world (seen c.args.setting.now)
 
-pub play_part-requires-clause-quiet : goal.play_part-requires-clause-quiet
-play_part-requires-clause-quiet g c = world_quiet c.args.area c.args.plan.now c.in-Ok.world.world c.in-Ok.ensures.world
-
-pub play_part-requires-clause-next : goal.play_part-requires-clause-next
-play_part-requires-clause-next g c = world_next c.args.area c.args.plan.now c.in-Ok.world.world c.in-Ok.ensures.world c.requires.plan
-
-pub returns-in-Ok-clause-next : goal.returns-in-Ok-clause-next
-returns-in-Ok-clause-next g c =
-    few_posted c.args.area c.args.plan.now c.in-Ok.world.world c.in-Ok.ensures.world _ c.requires.plan c.play_part.result c.play_part.ensures.posted
+pub returns-in-Ok-clause-kept : goal.returns-in-Ok-clause-kept
+returns-in-Ok-clause-kept g c =
+    first_keeps c.args.area c.args.plan.now c.requires.plan c.in-Ok.world.world c.in-Ok.ensures.world (λ a. a.1) (λ a. a.0.world) (seen c.args.setting.now)
+    c.play_part.result c.play_part.ensures.kept

@@ -13,12 +13,7 @@ returns-in-InstrStop-clause-does g c = λ files_tell sink_tells p ending.
     (g.F.Files.contents c.args.files.now) (g.S.Sink.taken c.args.out.now) (g.S.Sink.taken c.tell_stopped.new.out) p.ending (subst (λ (how : How). EndsAs how p.ending) c.in-InstrStop.is ending.ending)
     (c.tell_stopped.ensures.does sink_tells (g.F.Files.contents c.args.files.now) p ending)
 
-pub save_state-requires-clause-rests : goal.save_state-requires-clause-rests
-save_state-requires-clause-rests g c =
-    (between_entries c.args.broken.played.how (MaySave c.args.listed.now.scripts.now c.args.file (limits_of c.args.listed.now.plan.now) c.args.broken.world.world c.args.broken.played) c.in-Done.is
-    c.requires.broken).rests
-
-pub save_state-requires-clause-come : goal.save_state-requires-clause-come
-save_state-requires-clause-come g c =
-    (between_entries c.args.broken.played.how (MaySave c.args.listed.now.scripts.now c.args.file (limits_of c.args.listed.now.plan.now) c.args.broken.world.world c.args.broken.played) c.in-Done.is
-    c.requires.broken).come
+pub save_state-requires-clause-saves : goal.save_state-requires-clause-saves
+save_state-requires-clause-saves g c =
+    between_entries c.args.broken.played.how (MaySave c.args.listed.now.scripts.now c.args.file (limits_of c.args.listed.now.plan.now) c.args.broken.world.world c.args.broken.played) c.in-Done.is
+    c.requires.broken

@@ -1,7 +1,8 @@
-use Rattle.std.proofs.Common.{arith, Some, map, slice_get, subst, sym, ap, ◌+◌, ◌∙◌}
+use Rattle.std.proofs.Common.{arith, Some, slice_get, subst, sym, ap, ◌+◌, ◌∙◌}
+use Rattle.hook_table.specs.InHooks.{known_by}
 use Rattle.ncs_machine.specs.Host.{engine_view, scripts_of, tables_of}
 use Rattle.ncs_machine.specs.Steps.{Remains, Stays, next_of, state}
-use Rattle.ncs_machine.proofs.Answers.{answers_typed}
+use Rattle.ncs_machine.proofs.Typed.{answers_typed}
 use Rattle.ncs_machine.proofs.Running.{cut_short, divided_run, ended_run, goes_on, run_begins, steps_well, still_listed, stopped_run}
 use Rattle.ncs_machine.proofs.entry.run_machine.Goals.{in-Enters, in-Goes}
 use Rattle.ncs_machine.proofs.entry.run_machine.Goals as goal
@@ -9,23 +10,23 @@ use Rattle.ncs_machine.proofs.entry.run_machine.Goals as goal
 pub script-script-requires : goal.script-script-requires
 script-script-requires g c = record {
   listed = still_listed c.args.scripts.now
-      (engine_view c.args.table.now (map (λ h. h.known) c.args.hooks.now.all.items))
+      (engine_view c.args.table.now (known_by c.args.hooks.now))
       (tables_of c.args.scripts.now) c.args.limit
       (state c.args.machine.now c.args.world.now.world) 0 c.args.machine.now c.args.world.now.world
       (run_begins (scripts_of c.args.scripts.now) _ (tables_of c.args.scripts.now) c.args.limit c.args.machine.now c.args.world.now.world
       c.steps_are_safe.ensures.steps c.calls_keep_worlds.ensures.engine c.calls_keep_worlds.ensures.no_script c.calls_keep_worlds.ensures.too_deep
-      c.tables_type_execute_script.ensures.typed c.keeps-2.ensures.table c.keeps.ensures.kept c.requires.meets
+      c.tables_type_execute_script.ensures.typed c.keeps-2.ensures.table c.keeps.ensures.kept c.requires.set.checked.meets
       (answers_typed _ c.answers_have_types.ensures.typed c.keeps-2.ensures.table)
-      c.requires.safe c.requires.alone c.requires.caller);
+      c.requires.begins.safe c.requires.begins.alone c.requires.runs.caller);
 }
 
 pub loop-done-init : goal.loop-done-init
 loop-done-init g c = record {
   running = run_begins (scripts_of c.args.scripts.now) _ (tables_of c.args.scripts.now) c.args.limit c.args.machine.now c.args.world.now.world
       c.steps_are_safe.ensures.steps c.calls_keep_worlds.ensures.engine c.calls_keep_worlds.ensures.no_script c.calls_keep_worlds.ensures.too_deep
-      c.tables_type_execute_script.ensures.typed c.keeps-2.ensures.table c.keeps.ensures.kept c.requires.meets
+      c.tables_type_execute_script.ensures.typed c.keeps-2.ensures.table c.keeps.ensures.kept c.requires.set.checked.meets
       (answers_typed _ c.answers_have_types.ensures.typed c.keeps-2.ensures.table)
-      c.requires.safe c.requires.alone c.requires.caller;
+      c.requires.begins.safe c.requires.begins.alone c.requires.runs.caller;
   script = c.script-script.ensures.script;
   own = c.own-own.ensures.own;
   room = omega arith;

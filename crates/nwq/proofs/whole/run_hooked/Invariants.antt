@@ -1,6 +1,6 @@
-use Rattle.std.proofs.Common.{map}
 use Rattle.hook_table.specs.Served.{AreFirst}
+use Rattle.hook_table.specs.InHooks.{known_by}
 use Rattle.nwq.proofs.whole.run_hooked.Given as goal
 
 abbrev pub invariant-loop-n : goal.invariant-loop-n
-invariant-loop-n g l = AreFirst l.n (map (λ h. h.known) l.hooks.all.items)
+invariant-loop-n g l = AreFirst l.n (known_by l.hooks)

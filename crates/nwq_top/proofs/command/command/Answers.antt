@@ -1,4 +1,5 @@
 use Rattle.std.proofs.Common.{map, string_bytes, Err, refl}
+use Rattle.hook_table.specs.InHooks.{known_by}
 use Rattle.world_core.specs.Calls.{cells_of}
 use Rattle.command_words.specs.Words.{Run, Compile, Tree, Check, Disassemble, Assemble, Generate, NoForm, form_of}
 use Rattle.nwq_top.proofs.WordLemmas.{form_does, form_keeps, form_same, form_stops, no_form_does}
@@ -8,7 +9,7 @@ use Rattle.nwq_top.proofs.command.command.Goals as goal
 pub returns-in-Run-clause-does : goal.returns-in-Run-clause-does
 returns-in-Run-clause-does g c = λ files_tell sink_tells.
     form_does (form_of (map string_bytes c.args.words.now)) (Run c.in-Run.header.now c.in-Run.script.now)
-    (cells_of (map (λ h. h.known) c.args.hooks.now.all.items)) c.run.result
+    (cells_of (known_by c.args.hooks.now)) c.run.result
     (g.F.Files.contents c.args.files.now) (g.F.Files.contents c.run.new.files) (g.S.Sink.taken c.args.out.now) (g.S.Sink.taken c.run.new.out)
     c.in-Run.ensures.command (c.run.ensures.does files_tell sink_tells)
 
@@ -28,7 +29,7 @@ returns-in-Run-clause-only g c =
 pub returns-in-Compile-clause-does : goal.returns-in-Compile-clause-does
 returns-in-Compile-clause-does g c = λ files_tell sink_tells.
     form_does (form_of (map string_bytes c.args.words.now)) (Compile c.in-Compile.header.now c.in-Compile.script.now)
-    (cells_of (map (λ h. h.known) c.args.hooks.now.all.items)) c.compile_file.result
+    (cells_of (known_by c.args.hooks.now)) c.compile_file.result
     (g.F.Files.contents c.args.files.now) (g.F.Files.contents c.compile_file.new.files) (g.S.Sink.taken c.args.out.now)
     (g.S.Sink.taken c.compile_file.new.out) c.in-Compile.ensures.command (c.compile_file.ensures.does files_tell sink_tells)
 
@@ -47,7 +48,7 @@ returns-in-Compile-clause-only g c =
 
 pub returns-in-Tree-clause-does : goal.returns-in-Tree-clause-does
 returns-in-Tree-clause-does g c = λ files_tell sink_tells.
-    form_does (form_of (map string_bytes c.args.words.now)) (Tree c.in-Tree.file.now) (cells_of (map (λ h. h.known) c.args.hooks.now.all.items))
+    form_does (form_of (map string_bytes c.args.words.now)) (Tree c.in-Tree.file.now) (cells_of (known_by c.args.hooks.now))
     c.show_tree.result
     (g.F.Files.contents c.args.files.now) (g.F.Files.contents c.show_tree.new.files) (g.S.Sink.taken c.args.out.now)
     (g.S.Sink.taken c.show_tree.new.out) c.in-Tree.ensures.command (c.show_tree.ensures.does files_tell sink_tells)
@@ -68,7 +69,7 @@ returns-in-Tree-clause-only g c =
 pub returns-in-Check-clause-does : goal.returns-in-Check-clause-does
 returns-in-Check-clause-does g c = λ files_tell sink_tells.
     form_does (form_of (map string_bytes c.args.words.now)) (Check c.in-Check.header.now c.in-Check.file.now)
-    (cells_of (map (λ h. h.known) c.args.hooks.now.all.items)) c.check_file.result
+    (cells_of (known_by c.args.hooks.now)) c.check_file.result
     (g.F.Files.contents c.args.files.now) (g.F.Files.contents c.check_file.new.files) (g.S.Sink.taken c.args.out.now)
     (g.S.Sink.taken c.check_file.new.out) c.in-Check.ensures.command (c.check_file.ensures.does files_tell sink_tells)
 
@@ -88,7 +89,7 @@ returns-in-Check-clause-only g c =
 pub returns-in-Disassemble-clause-does : goal.returns-in-Disassemble-clause-does
 returns-in-Disassemble-clause-does g c = λ files_tell sink_tells.
     form_does (form_of (map string_bytes c.args.words.now)) (Disassemble c.in-Disassemble.file.now c.in-Disassemble.to.now)
-    (cells_of (map (λ h. h.known) c.args.hooks.now.all.items)) c.disassemble_file.result
+    (cells_of (known_by c.args.hooks.now)) c.disassemble_file.result
     (g.F.Files.contents c.args.files.now) (g.F.Files.contents c.disassemble_file.new.files) (g.S.Sink.taken c.args.out.now)
     (g.S.Sink.taken c.disassemble_file.new.out) c.in-Disassemble.ensures.command (c.disassemble_file.ensures.does files_tell sink_tells)
 
@@ -109,7 +110,7 @@ returns-in-Disassemble-clause-only g c =
 pub returns-in-Assemble-clause-does : goal.returns-in-Assemble-clause-does
 returns-in-Assemble-clause-does g c = λ files_tell sink_tells.
     form_does (form_of (map string_bytes c.args.words.now)) (Assemble c.in-Assemble.file.now c.in-Assemble.to.now)
-    (cells_of (map (λ h. h.known) c.args.hooks.now.all.items)) c.assemble_file.result
+    (cells_of (known_by c.args.hooks.now)) c.assemble_file.result
     (g.F.Files.contents c.args.files.now) (g.F.Files.contents c.assemble_file.new.files) (g.S.Sink.taken c.args.out.now)
     (g.S.Sink.taken c.assemble_file.new.out) c.in-Assemble.ensures.command (c.assemble_file.ensures.does files_tell sink_tells)
 
@@ -128,7 +129,7 @@ returns-in-Assemble-clause-only g c =
 
 pub returns-in-Play-clause-does : goal.returns-in-Play-clause-does
 returns-in-Play-clause-does g c = λ files_tell sink_tells.
-    form_does (form_of (map string_bytes c.args.words.now)) _ (cells_of (map (λ h. h.known) c.args.hooks.now.all.items)) c.play_files.result
+    form_does (form_of (map string_bytes c.args.words.now)) _ (cells_of (known_by c.args.hooks.now)) c.play_files.result
     (g.F.Files.contents c.args.files.now) (g.F.Files.contents c.play_files.new.files) (g.S.Sink.taken c.args.out.now)
     (g.S.Sink.taken c.play_files.new.out) c.in-Play.ensures.command (c.play_files.ensures.does files_tell sink_tells)
 
@@ -147,7 +148,7 @@ returns-in-Play-clause-only g c =
 pub returns-in-Generate-clause-does : goal.returns-in-Generate-clause-does
 returns-in-Generate-clause-does g c = λ files_tell sink_tells.
     form_does (form_of (map string_bytes c.args.words.now)) (Generate c.in-Generate.number)
-    (cells_of (map (λ h. h.known) c.args.hooks.now.all.items)) c.generate.result
+    (cells_of (known_by c.args.hooks.now)) c.generate.result
     (g.F.Files.contents c.args.files.now) (g.F.Files.contents c.args.files.now) (g.S.Sink.taken c.args.out.now) (g.S.Sink.taken c.generate.new.out)
     c.in-Generate.ensures.command.0 (c.generate.ensures.does sink_tells (g.F.Files.contents c.args.files.now))
 
@@ -162,7 +163,7 @@ returns-in-Generate-clause-only g c =
 
 pub returns-in-Save-clause-does : goal.returns-in-Save-clause-does
 returns-in-Save-clause-does g c = λ files_tell sink_tells.
-    form_does (form_of (map string_bytes c.args.words.now)) _ (cells_of (map (λ h. h.known) c.args.hooks.now.all.items)) c.save_play.result
+    form_does (form_of (map string_bytes c.args.words.now)) _ (cells_of (known_by c.args.hooks.now)) c.save_play.result
     (g.F.Files.contents c.args.files.now) (g.F.Files.contents c.save_play.new.files) (g.S.Sink.taken c.args.out.now)
     (g.S.Sink.taken c.save_play.new.out) c.in-Save.ensures.command.0 (c.save_play.ensures.does files_tell sink_tells)
 
@@ -180,7 +181,7 @@ returns-in-Save-clause-only g c =
 
 pub returns-in-Resume-clause-does : goal.returns-in-Resume-clause-does
 returns-in-Resume-clause-does g c = λ files_tell sink_tells.
-    form_does (form_of (map string_bytes c.args.words.now)) _ (cells_of (map (λ h. h.known) c.args.hooks.now.all.items)) c.resume_play.result
+    form_does (form_of (map string_bytes c.args.words.now)) _ (cells_of (known_by c.args.hooks.now)) c.resume_play.result
     (g.F.Files.contents c.args.files.now) (g.F.Files.contents c.resume_play.new.files) (g.S.Sink.taken c.args.out.now)
     (g.S.Sink.taken c.resume_play.new.out) c.in-Resume.ensures.command (c.resume_play.ensures.does files_tell sink_tells)
 
@@ -198,7 +199,7 @@ returns-in-Resume-clause-only g c =
 
 pub returns-in-NoForm-clause-does : goal.returns-in-NoForm-clause-does
 returns-in-NoForm-clause-does g c = λ files_tell sink_tells.
-    no_form_does (cells_of (map (λ h. h.known) c.args.hooks.now.all.items)) (form_of (map string_bytes c.args.words.now)) c.refuse_form.result
+    no_form_does (cells_of (known_by c.args.hooks.now)) (form_of (map string_bytes c.args.words.now)) c.refuse_form.result
     (g.F.Files.contents c.args.files.now) (g.S.Sink.taken c.args.out.now) (g.S.Sink.taken c.refuse_form.new.out) c.in-NoForm.ensures.command
     (c.refuse_form.ensures.does sink_tells)
 

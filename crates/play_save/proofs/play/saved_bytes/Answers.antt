@@ -6,6 +6,7 @@ use Rattle.delay_agenda.specs.declared.entry.Entry.{Entry}
 use Rattle.saved_state.specs.declared.saved.Saved.{Saved}
 use Rattle.world_rules.specs.declared.data.Things.{Things}
 use Rattle.world_parts.specs.Saved.{put_together}
+use Rattle.module_player.specs.Limits.{limits_in}
 use Rattle.state_parts.specs.Keeping.{KindHasValues}
 use Rattle.play_save.specs.Keeping.{QueuesHaveValues}
 use Rattle.play_save.proofs.Outcomes.{kept_written, kept_large}
@@ -27,7 +28,7 @@ returns c =
     record {
       exact = MatchResult-weaker c.state_bytes.result c.state_bytes.ensures.exact
           (λ v found.
-          kept_written header c.args.scripts.now c.args.file.now c.args.limits c.args.counts.taken c.args.counts.done w v.items found (record {
+          kept_written header c.args.scripts.now c.args.file.now (limits_in c.args.limits) c.args.counts.taken c.args.counts.done w v.items found (record {
             headed = refl;
             listed = c.as_slice-listed.ensures.items;
             filed = refl;
@@ -45,7 +46,7 @@ returns c =
             objects = refl;
           }))
           (λ e found.
-          kept_large header c.args.scripts.now c.args.file.now c.args.limits c.args.counts.taken c.args.counts.done w e found (record {
+          kept_large header c.args.scripts.now c.args.file.now (limits_in c.args.limits) c.args.counts.taken c.args.counts.done w e found (record {
             headed = refl;
             listed = c.as_slice-listed.ensures.items;
             filed = refl;

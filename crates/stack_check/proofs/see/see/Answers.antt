@@ -1,6 +1,7 @@
 use Rattle.std.proofs.Common.{◌∙◌, subst, sym}
 use Rattle.stack_lists.specs.Held.{shape_of}
 use Rattle.stack_check.specs.Inference.{UnseenOwed}
+use Rattle.stack_check.proofs.Following.{calls_wait}
 use Rattle.stack_check.proofs.Seeing.{see_owed, see_within}
 use Rattle.stack_check.proofs.Windows.{whole_same}
 use Rattle.stack_check.proofs.see.see.Goals as goal
@@ -29,3 +30,8 @@ narrow-requires-clause-owed c =
     (sym c.unseen_after-unseen.ensures)
     (see_owed c.args.judged.now.table.now c.args.judged.now.code.now c.args.heap.now c.args.facts.now c.args.from.trial c.args.from.place c.args.from.held c.in-Some.trial.now c.args.reach
     c.requires.row (sym c.in-Some.ensures.item) c.requires.owed)
+
+pub returns-clause-again : goal.returns-clause-again
+returns-clause-again c = λ e.
+    calls_wait c.args.todo.now c.note_growth.new.todo c.look_again.new.todo c.add.new.self c.args.facts.now c.args.from.trial c.in-Some.trial.now _
+    (sym c.in-Some.ensures.item) c.in_ok-note_growth-in-Some.ensures.calls c.in_ok-look_again-in-Some.ensures c.in_ok-add-in-Some.ensures.added

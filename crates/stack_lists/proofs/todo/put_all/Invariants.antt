@@ -1,9 +1,8 @@
-use Rattle.std.proofs.Common.{◌≡◌, ◌++◌}
-use Rattle.stack_lists.specs.Shared.{read}
+use Rattle.stack_lists.proofs.Waits.{PutSoFar}
 use Rattle.stack_lists.proofs.todo.put_all.Given as goal
 
-abbrev pub invariant-loop-spot : goal.invariant-loop-spot
-invariant-loop-spot l = l.spots.items ++ read l.calls l.at ≡ l.initial.spots.items ++ read l.calls l.number
+abbrev pub invariant-loop-call : goal.invariant-loop-call
+invariant-loop-call l = PutSoFar l.calls l.initial.later.items l.initial.waits l.later.items l.waits l.number l.at
 
-abbrev pub decreases-loop-spot : goal.decreases-loop-spot
-decreases-loop-spot l = l.at
+abbrev pub decreases-loop-call : goal.decreases-loop-call
+decreases-loop-call l = l.at

@@ -1,4 +1,5 @@
 use Rattle.std.proofs.Common.{subst}
+use Rattle.module_player.specs.Limits.{limits_in}
 use Rattle.state_format.specs.declared.parts.Parts.{Parts}
 use Rattle.play_save.specs.Scripts.{script_parts}
 use Rattle.play_save.specs.Rules.{IsHeaderOf}
@@ -13,7 +14,7 @@ returns-in-Ok c =
     let made = c.in-Ok.ensures in
     record {
       header = subst (λ (s : Parts). IsHeaderOf s.header c.in-Ok.opened.table) c.self.view_is made.header;
-      play = subst (λ (s : Parts). IsPlayOf s s.header (script_parts c.in-Ok.opened.scripts) s.area c.in-Ok.opened.limits) c.self.view_is made.play;
+      play = subst (λ (s : Parts). IsPlayOf s s.header (script_parts c.in-Ok.opened.scripts) s.area (limits_in c.in-Ok.opened.limits)) c.self.view_is made.play;
       come = subst (λ (s : Parts). HasCome s c.in-Ok.opened.taken c.in-Ok.opened.done) c.self.view_is made.come;
       world = subst (λ (s : Parts). IsWorldOf s c.in-Ok.opened.world.world) c.self.view_is made.world;
       few = made.few;

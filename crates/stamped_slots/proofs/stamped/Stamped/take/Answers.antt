@@ -1,7 +1,6 @@
-use Rattle.std.proofs.Common.{◌≡◌, ◌+◌, ◌-◌, length, sym, ap, ◌∙◌, arith, true}
+use Rattle.std.proofs.Common.{sym, ap, ◌∙◌, arith}
 use Rattle.std.specs.VecDeque.{deque_capacity}
 use Rattle.stamped_slots.specs.Stamps.{Stamps, at, without}
-use Rattle.stamped_slots.specs.Kept.{seen, has_stamp}
 use Rattle.stamped_slots.proofs.SlotLemmas.{kept_emptied, kept_empty, lacks_at, without_none, one_less}
 use Rattle.stamped_slots.proofs.stamped.Stamped.take.Goals as goal
 

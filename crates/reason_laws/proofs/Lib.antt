@@ -1,0 +1,6 @@
+mod Told
+mod Fitting
+mod Trees
+mod Counting
+mod Once
+mod Whole
