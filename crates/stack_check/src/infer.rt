@@ -6,6 +6,7 @@ ghost use Rattle.stack_lists.specs.Worklist.{waiting};
 ghost use Rattle.stack_check.specs.Facts.{found, left};
 ghost use Rattle.stack_check.specs.Inference.{IsFound, Keeps, NothingNew, SeesAll, SeesDrained};
 ghost use Rattle.stack_check.specs.Inference.{SeesRow, SeesTurn, WhereQuiet};
+ghost use Rattle.stack_check.specs.Inference.{AddsCalls};
 
 use crate::facts::{Facts, Trial, Unseen};
 use crate::judged::Judged;
@@ -21,7 +22,7 @@ use stack_shape::Entry;
 use std::alloc::Global;
 
 /// Looks at the shape of a trial at a place, if it has one.
-#[tactic(auto, using(crate::proofs::Passing::looking))]
+#[tactic(auto, using(crate::proofs::Passing::looking, crate::proofs::Following::adding))]
 fn look(
     alloc: Global,
     judged: &Judged<'_>,
@@ -35,6 +36,7 @@ fn look(
     ensures sees { IfOk result (λ seen. SeesRow judged.now.table.now judged.now.code.now heap.old
         heap.new facts.old facts.new trial place seen) }
     ensures waits { IfOk result (λ seen. NothingNew todo.old todo.new seen) }
+    ensures few { IfOk result (λ _. AddsCalls todo.old todo.new 3) }
 {
     match facts.rows.find(trial, place) {
         None => Ok(Seen::Quiet),
@@ -86,6 +88,8 @@ fn look_row(
     requires found { row_in facts.old.rows row.trial row.place ≡ Some row.held }
     ensures sees { IfOk result (λ seen. SeesRow judged.now.table.now judged.now.code.now heap.old
         heap.new facts.old facts.new row.trial row.place seen) }
+    ensures waits { IfOk result (λ seen. NothingNew todo.old todo.new seen) }
+    ensures few { IfOk result (λ _. AddsCalls todo.old todo.new 3) }
 {
     let from = Found {
         trial: row.trial,
