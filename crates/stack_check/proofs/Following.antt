@@ -164,7 +164,7 @@ kept_of a b row target spot k = k.here
 waiting_length : (w : Worklist) → length (waiting w) ≡ length w.later + length w.soon + length w.first
 waiting_length w =
     let x = length-append (map spot_of (w.later ++ w.soon)) w.first in
-    let y = length-map spot_of (w.later ++ w.soon) in
+    let y = length-map (w.later ++ w.soon) spot_of in
     let z = length-append w.later w.soon in
     omega (arith, x, y, z)
 

@@ -1,4 +1,4 @@
-ghost use Rattle.std.specs.Prelude.{◌+◌, ◌-◌, ◌≡◌, ◌<◌, ◌≤◌, ◌++◌, None, Some, IfOk, IfSome};
+ghost use Rattle.std.specs.Prelude.{◌+◌, ◌-◌, ◌≡◌, ◌<◌, ◌≤◌, ◌++◌, None, Some, IfOk, IfSome, OnOk};
 ghost use Rattle.std.specs.Prelude.{IsTrue, length, take, true, ◌↔◌};
 ghost use Rattle.stack_shape.specs.declared.shape.Entry.TheVariants.{Called};
 ghost use Rattle.stack_lists.specs.Shared.{read};

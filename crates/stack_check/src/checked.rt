@@ -86,7 +86,12 @@ pub fn check(alloc: Global, code: Code, table: &Table) -> Result<Checked, CheckF
     match infer(alloc, &code, table)? {
         None => Err(CheckFault::Unstacked),
         Some(kept) => {
-            let Kept { heap, facts, turns } = kept;
+            let Kept {
+                heap,
+                facts,
+                turns,
+                looks: _,
+            } = kept;
             bounded(&heap, &facts);
             Ok(Checked {
                 code,
