@@ -1,8 +1,9 @@
 -- How many looks are counted.
-use Rattle.std.proofs.Common.{arith, ◌≡◌, ◌≤◌, ◌<◌, ◌+◌, ◌-◌, ◌*◌, ◌^◌, ℕ, zero, suc, List, [], ◌∷◌, ◌++◌, length, None, Some, slice_get, sym, subst, ◌∙◌, ap, refl, min, mul-le-mul_left, zero-mul}
+use Rattle.std.proofs.Common.{arith, ◌≡◌, ◌≤◌, ◌<◌, ◌+◌, ◌-◌, ◌*◌, ◌^◌, ℕ, zero, suc, List, [], ◌∷◌, ◌++◌, length, None, Some, slice_get, sym, subst, ◌∙◌, ap, refl, min, mul-le-mul_left, mul-le-mul_right, zero-mul}
 use Rattle.std.proofs.lemmas.List.{length-append}
 use Rattle.nwq_value.specs.Engine.{EngineTable}
 use Rattle.ncs_code.specs.Plain.{PlainOp}
+use Rattle.stack_rules.specs.Rules.{MeetsRules}
 use Rattle.stack_lists.specs.declared.held.Heap.{Heap}
 use Rattle.stack_lists.specs.declared.rows.ShapeRow.{ShapeRow}
 use Rattle.stack_lists.specs.declared.todo.Spot.{Spot}
@@ -10,8 +11,8 @@ use Rattle.stack_lists.specs.Worklist.{SameCalls, Worklist, waiting}
 use Rattle.stack_check.specs.declared.facts.Facts.{Facts}
 use Rattle.stack_check.specs.declared.seen.Seen.{Seen}
 use Rattle.stack_check.specs.declared.seen.Seen.TheVariants.{Quiet, Changed, Bad}
-use Rattle.stack_check.specs.Facts.{FindsMore, found}
-use Rattle.stack_check.specs.Inference.{AddsCalls, Keeps, NothingNew, WhereQuiet}
+use Rattle.stack_check.specs.Facts.{FindsMore, found, trial_table}
+use Rattle.stack_check.specs.Inference.{AddsCalls, Keeps, NothingNew, SeesTurn, WhereQuiet}
 use Rattle.stack_check.specs.Costs.{Counts, CountsDrained, CountsRows, CountsTurn, LooksAreFew, most_looks}
 
 counts_none : (n : ℕ) → Counts n n 0
@@ -169,17 +170,10 @@ pub ruleset turning = (turn_counts_one)
 -- so many turns were taken, and each found something
 pub record LooksSoFar (first now : Worklist) (turns turns' looks looks' : ℕ) (facts : Facts) : Type 0 where
   pub order : turns ≤ turns'
-  pub few : looks' + length (waiting now) ≤ looks + length (waiting first) + 1 + (turns' - turns) * (length facts.rows + length now.calls + 3)
+  pub few : looks' + length (waiting now) ≤ looks + length (waiting first) + (turns' - turns) * (length facts.rows + length now.calls + 3)
 
-pub looks_begin : (first now : Worklist) (spot : Spot) (turns looks : ℕ) (facts : Facts) → waiting now ≡ waiting first ++ spot ∷ []
-    → LooksSoFar first now turns turns looks looks facts
-looks_begin first now spot turns looks facts w = record {
-  order = omega arith;
-  few = let x = last_out now first spot w in let z = none_spent turns (length facts.rows + length now.calls + 3) in omega (arith, x, z);
-}
-  where
-    none_spent : (n k : ℕ) → (n - n) * k ≡ 0
-    none_spent n k = ap (λ m. m * k) (let e : n - n ≡ 0 = omega arith in e) ∙ zero-mul k
+pub looks_begin : (now : Worklist) (turns looks : ℕ) (facts : Facts) → LooksSoFar now now turns turns looks looks facts
+looks_begin now turns looks facts = record { order = omega arith; few = omega arith }
 
 spent_more : (n k a b : ℕ) → a ≤ b → n * a + b ≤ (n + 1) * b
 spent_more n k a b l =
@@ -189,7 +183,7 @@ spent_more n k a b l =
 
 looks_next : (first now next : Worklist) (turns a b looks x y : ℕ) (before facts : Facts) → LooksSoFar first now turns a looks x before
     → b ≡ a + 1 → length before.rows ≤ length facts.rows → CountsTurn now next x y (length before.rows)
-    → y + length (waiting next) ≤ looks + length (waiting first) + 1 + (b - turns) * (length facts.rows + length next.calls + 3)
+    → y + length (waiting next) ≤ looks + length (waiting first) + (b - turns) * (length facts.rows + length next.calls + 3)
 looks_next first now next turns a b looks x y before facts d e more c =
     let f = d.few in
     let g = c.few in
@@ -207,16 +201,44 @@ looks_step first now next turns a b looks x y before facts d e more c = record {
   few = looks_next first now next turns a b looks x y before facts d e more.rows c;
 }
 
-pub looks_last : (header : EngineTable) (code : List PlainOp) (heap : Heap) (begun before : Facts) (first now next : Worklist) (turns a b looks x y : ℕ)
-    → Keeps header code heap before → LooksSoFar first now turns a looks x before → a + found begun ≤ turns + found before → b ≡ a + 1
-    → CountsTurn now next x y (length before.rows) → LooksAreFew header code begun first next turns b looks y
+pub looks_last : (header : EngineTable) (code : List PlainOp) (heap : Heap) (begun before : Facts) (given first now next : Worklist) (spot : Spot) (turns a b looks x y : ℕ)
+    → waiting first ≡ waiting given ++ spot ∷ [] → Keeps header code heap before → LooksSoFar first now turns a looks x before → a + found begun ≤ turns + found before → b ≡ a + 1
+    → CountsTurn now next x y (length before.rows) → LooksAreFew header code begun given next turns b looks y
 unfolding most_looks
-looks_last header code heap begun before first now next turns a b looks x y k d f e c = record {
+looks_last header code heap begun before given first now next spot turns a b looks x y w k d f e c = record {
   heap = heap;
   known = before;
   keeps = k;
   finds = omega (arith, e, f);
-  few = looks_next first now next turns a b looks x y before before d e (omega arith) c;
+  few = let n = looks_next first now next turns a b looks x y before before d e (omega arith) c in let z = last_out first given spot w in omega (arith, n, z);
 }
 
+-- a turn that found nothing was the last
+pub looks_found : (header : EngineTable) (code : List PlainOp) (heap : Heap) (given first now next : Worklist) (spot : Spot) (seen : Seen) (turns a b looks x y : ℕ) (before facts : Facts) → waiting first ≡ waiting given ++ spot ∷ []
+    → LooksSoFar first now turns a looks x before → b ≡ a + 1 → SeesTurn header code heap before facts seen → seen ≡ Quiet
+    → CountsTurn now next x y (length before.rows) → y ≤ looks + length (waiting given) + most_looks (b - turns) (length facts.rows) (length next.calls)
+unfolding most_looks
+looks_found header code heap given first now next spot seen turns a b looks x y before facts w d e s q c =
+    let same : facts ≡ before = (subst (λ s. WhereQuiet s ((facts ≡ before) × MeetsRules header code (trial_table heap facts))) q s.quiet).0 in
+    let z = last_out first given spot w in
+    let n = looks_next first now next turns a b looks x y before facts d e (let l = ap (λ (f : Facts). length f.rows) same in omega (arith, l)) c in
+    omega (arith, n, z)
+
 pub ruleset settling = (looks_begin)
+
+-- ---- the whole inference
+
+pub looks_infer : (w v : Worklist) (looks turns rows calls : ℕ) → waiting w ≡ []
+    → looks ≤ 0 + length (waiting w) + most_looks (turns - 0) rows (length v.calls) → calls ≡ length v.calls → looks ≤ most_looks turns rows calls
+looks_infer w v looks turns rows calls e l c =
+    let x = ap (λ (z : List Spot). length z) e in
+    let n : turns - 0 ≡ turns = omega arith in
+    let m = subst (λ t. looks ≤ 0 + length (waiting w) + most_looks t rows (length v.calls)) n l in
+    let k = subst (λ n. looks ≤ 0 + length (waiting w) + most_looks turns rows n) (sym c) m in
+    omega (arith, x, k)
+
+pub looks_under : (turns most looks rows calls : ℕ) → looks ≤ most_looks turns rows calls → turns ≤ most → looks ≤ most_looks most rows calls
+unfolding most_looks
+looks_under turns most looks rows calls l t = let m = mul-le-mul_right (rows + calls + 3) t in omega (arith, l, m)
+
+pub ruleset inferring = (looks_infer)

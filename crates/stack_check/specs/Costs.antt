@@ -36,7 +36,7 @@ pub record CountsTurn (before after : Worklist) (looks looks' rows : ℕ) : Type
 -- A turn looks at what waits, and at each row once. It hands in each call that is kept at most, and
 -- three spots.
 unfoldable pub most_looks : ℕ → ℕ → ℕ → ℕ
-most_looks turns rows calls = turns * (rows + calls + 3)
+most_looks turns rows calls = turns * (rows + calls + 3) + 1
 
 -- How many looks it took, whatever was found: with the facts that were known before the last turn.
 pub record LooksAreFew (header : EngineTable) (code : List PlainOp) (first : Facts)
@@ -46,5 +46,5 @@ pub record LooksAreFew (header : EngineTable) (code : List PlainOp) (first : Fac
   pub keeps : Keeps header code heap known
   -- each turn but the last found something
   pub finds : turns' + found first ≤ turns + found known + 1
-  pub few : looks' + length (waiting after) ≤ looks + length (waiting before) + 1
+  pub few : looks' + length (waiting after) ≤ looks + length (waiting before)
       + most_looks (turns' - turns) (length known.rows) (length after.calls)

@@ -1,9 +1,10 @@
-ghost use Rattle.std.specs.Prelude.{◌≡◌, ◌<◌, ◌≤◌, ◌+◌, ◌^◌, [], false, true, IfOk, IfSome, length};
+ghost use Rattle.std.specs.Prelude.{◌≡◌, ◌<◌, ◌≤◌, ◌+◌, ◌-◌, ◌^◌, [], false, true, IfOk, IfSome, length};
 ghost use Rattle.std.specs.Prelude.{MatchOption, Some};
 ghost use Rattle.stack_lists.specs.Rows.{row_in};
 ghost use Rattle.stack_rules.specs.Rules.{WellStacked};
 ghost use Rattle.stack_lists.specs.Worklist.{waiting};
 ghost use Rattle.stack_check.specs.Costs.{CountsDrained, CountsRows, CountsTurn, LooksAreFew};
+ghost use Rattle.stack_check.specs.Costs.{most_looks};
 ghost use Rattle.stack_check.specs.Facts.{found, left};
 ghost use Rattle.stack_check.specs.Inference.{IsFound, Keeps, NothingNew, SeesAll, SeesDrained};
 ghost use Rattle.stack_check.specs.Inference.{SeesRow, SeesTurn, WhereQuiet};
@@ -217,6 +218,8 @@ pub struct Kept {
     pub turns: u64,
     /// How many looks.
     pub looks: u64,
+    /// How many calls are kept.
+    pub calls: usize,
 }
 
 /// Goes on until a pass finds nothing to do, and tells whether there is a table.
@@ -242,6 +245,9 @@ fn settle(
     // Whatever it finds, its looks are bounded by its turns, rows and calls.
     ensures looks { IfOk result (λ _. LooksAreFew judged.now.table.now judged.now.code.now facts.old
         todo.old todo.new turns.old turns.new looks.old looks.new) }
+    ensures few { IfOk result (λ found. found ≡ true → looks.new ≤ looks.old
+        + length (waiting todo.old) + most_looks (turns.new - turns.old) (length facts.new.rows)
+        (length todo.new.calls)) }
 {
     todo.add(Spot {
         trial: 0,
@@ -257,10 +263,13 @@ fn settle(
 }
 
 /// A table of shapes that meets the rules, if there is one.
+#[tactic(auto, using(crate::proofs::Costs::inferring))]
 pub fn infer(alloc: Global, code: &Code, table: &Table) -> Result<Option<Kept>, NoMemory>
     ensures found { IfOk result (λ kept. MatchOption kept (WellStacked table.now code.now → ⊥)
         (λ k. IsFound table.now code.now k.heap k.facts)) }
     ensures turns { IfOk result (λ kept. IfSome kept (λ k. k.turns ≤ found k.facts)) }
+    ensures looks { IfOk result (λ kept. IfSome kept (λ k.
+        k.looks ≤ most_looks k.turns (length k.facts.rows) k.calls)) }
 {
     let heap = Heap {
         slots: Stacks::new(alloc),
@@ -280,6 +289,7 @@ pub fn infer(alloc: Global, code: &Code, table: &Table) -> Result<Option<Kept>, 
                 facts,
                 turns: 0,
                 looks: 0,
+                calls: 0,
             };
             let mut todo = Todo::new(alloc);
             let found = settle(
@@ -291,6 +301,7 @@ pub fn infer(alloc: Global, code: &Code, table: &Table) -> Result<Option<Kept>, 
                 &mut kept.turns,
                 &mut kept.looks,
             );
+            kept.calls = todo.kept();
             drop(todo);
             match found {
                 Err(error) => {
