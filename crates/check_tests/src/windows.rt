@@ -376,10 +376,7 @@ fn fifty(rt: HostRuntime) -> Result<(), Fail> {
 /// There are 2^20 ways of calls along which the first one's window grows.
 #[test]
 fn ways(rt: HostRuntime) -> Result<(), Fail> {
-    assert_eq!(rt;
-        first_other(rt.alloc(), WAYS, Verdict::Passed)?,
-        WAYS.len()
-    );
+    assert_eq!(rt; first_other(rt.alloc(), WAYS, Verdict::Passed)?, WAYS.len());
     Ok(())
 }
 

@@ -1,5 +1,5 @@
 -- How many looks are counted.
-use Rattle.std.proofs.Common.{arith, ◌≡◌, ◌≤◌, ◌<◌, ◌+◌, ◌-◌, ◌*◌, ◌^◌, ℕ, zero, suc, List, [], ◌∷◌, ◌++◌, length, None, Some, slice_get, sym, subst, ◌∙◌, ap, refl, min, mul-le-mul_left, mul-le-mul_right, zero-mul}
+use Rattle.std.proofs.Common.{arith, ◌≡◌, ◌≤◌, ◌<◌, ◌+◌, ◌-◌, ◌*◌, ◌^◌, ℕ, zero, suc, List, [], ◌∷◌, ◌++◌, length, None, Some, slice_get, sym, subst, ◌∙◌, ap, refl, min, mul-le-mul_left, mul-le-mul_right}
 use Rattle.std.proofs.lemmas.List.{length-append}
 use Rattle.nwq_value.specs.Engine.{EngineTable}
 use Rattle.ncs_code.specs.Plain.{PlainOp}
@@ -10,7 +10,7 @@ use Rattle.stack_lists.specs.declared.todo.Spot.{Spot}
 use Rattle.stack_lists.specs.Worklist.{SameCalls, Worklist, waiting}
 use Rattle.stack_check.specs.declared.facts.Facts.{Facts}
 use Rattle.stack_check.specs.declared.seen.Seen.{Seen}
-use Rattle.stack_check.specs.declared.seen.Seen.TheVariants.{Quiet, Changed, Bad}
+use Rattle.stack_check.specs.declared.seen.Seen.TheVariants.{Quiet}
 use Rattle.stack_check.specs.Facts.{FindsMore, found, trial_table}
 use Rattle.stack_check.specs.Inference.{AddsCalls, Keeps, NothingNew, SeesTurn, WhereQuiet}
 use Rattle.stack_check.specs.Costs.{Counts, CountsDrained, CountsRows, CountsTurn, LooksAreFew, most_looks}

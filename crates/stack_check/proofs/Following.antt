@@ -279,5 +279,19 @@ pub ruleset nexting = (next_of)
 
 pub ruleset keeping = (waits_after, kept_of, adds_calls_kept)
 
-pub ruleset handing = (waits_then, waits_same, waits_changed, waits_from, waits_none, waits_found, waits_weaker,
-    adds_none, adds_one, spots_first, sees_two, sees_three, adds_calls_none, adds_calls_same)
+pub ruleset handing = (
+  waits_then,
+  waits_same,
+  waits_changed,
+  waits_from,
+  waits_none,
+  waits_found,
+  waits_weaker,
+  adds_none,
+  adds_one,
+  spots_first,
+  sees_two,
+  sees_three,
+  adds_calls_none,
+  adds_calls_same,
+)

@@ -1,6 +1,6 @@
 use Rattle.std.proofs.Common.{refl, sym}
 use Rattle.stack_check.proofs.Costs.{row_counts_all, row_counts_last, row_counts_step}
-use Rattle.stack_check.proofs.Passing.{all_bad, all_changed, all_done, all_less, all_step}
+use Rattle.stack_check.proofs.Passing.{all_done, all_less, all_step}
 use Rattle.stack_check.proofs.infer.pass.Goals as goal
 
 pub rows-smaller : goal.rows-smaller
