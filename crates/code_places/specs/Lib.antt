@@ -1,0 +1,5 @@
+pub mod Nodes
+pub mod Numbers
+pub mod Marks
+pub mod Seeking
+pub mod Laws

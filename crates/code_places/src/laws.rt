@@ -1,0 +1,22 @@
+//! What the marks of a unit tell of its code.
+
+ghost use Rattle.code_places.specs.Laws.{OwnersHold, PlacesHold, SizesAgree};
+
+/// Each instruction of a unit's code has a mark, with its size.
+pub fn sizes_agree()
+    ensures sizes { SizesAgree }
+{
+}
+
+/// Each stands in the code of the node that its mark names.
+pub fn owners_hold()
+    ensures owners { OwnersHold }
+{
+}
+
+/// The byte at a place for which a node is told lies in an instruction that stands in that node's
+/// code.
+pub fn places_hold()
+    ensures places { PlacesHold }
+{
+}
