@@ -1,3 +1,4 @@
 pub mod Owned
 pub mod Owners
 pub mod Units
+pub mod Found
