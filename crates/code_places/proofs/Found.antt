@@ -14,27 +14,8 @@ use Rattle.code_places.specs.Marks.{Mark, unit_marks}
 use Rattle.code_places.specs.Seeking.{node_at, node_found, passed, sought}
 use Rattle.code_places.specs.Laws.{HasCode, LiesIn, PlacesHold, StandsIn, count, instructions, owner}
 use Rattle.code_places.proofs.Owned.{size_of}
+use Rattle.code_places.proofs.Seeking.{sought_more, sought_none, still_found}
 use Rattle.code_places.proofs.Units.{owners_hold, unit_marked}
-
-pub sought_none : (s : Seek) → sought [] s ≡ s
-unfolding sought
-sought_none s = refl
-
-pub sought_more : (m : Mark) (ms : List Mark) (s : Seek) → sought (m ∷ ms) s ≡ sought ms (passed m s)
-unfolding sought
-sought_more m ms s = refl
-
-pub sought_append : (a b : List Mark) (s : Seek) → sought (a ++ b) s ≡ sought b (sought a s)
-unfolding sought
-sought_append [] b s = refl
-sought_append (m ∷ a) b s = sought_append a b (passed m s)
-
-pub still_found : (ms : List Mark) (n : Number) → sought ms (Found n) ≡ Found n
-unfolding sought
-still_found [] n = refl
-still_found (m ∷ ms) n = still_found ms n
-
-pub ruleset seek_laws = (sought_none, sought_more, sought_append)
 
 -- A line that so many bytes stand before, from the first line on, and whose owner is this one.
 record Held (lines : List Line) (ms : List Mark) (left j : ℕ) : Type 0 where

@@ -1,4 +1,6 @@
 pub mod Owned
 pub mod Owners
 pub mod Units
+pub mod Seeking
+pub mod Loops
 pub mod Found

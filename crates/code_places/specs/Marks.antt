@@ -2,7 +2,7 @@
 -- it takes and the number of the innermost node whose code it stands in. What a call does around its
 -- arguments is the call's, the tests and jumps of a statement are the statement's, what a function
 -- does at its end is the function's. The start of the unit is no node's, but for first values.
-use Rattle.std.specs.Prelude.{ℕ, zero, suc, Bool, true, false, ◌||◌, List, [], ◌∷◌, ◌++◌, map, Option, None, Some}
+use Rattle.std.specs.Prelude.{ℕ, zero, suc, Bool, true, false, not, ◌&&◌, ◌||◌, List, [], ◌∷◌, ◌++◌, map, Option, None, Some}
 use Rattle.nss_tree.specs.declared.operators.PrefixOperator.{PrefixOperator}
 use Rattle.nss_tree.specs.declared.operators.PrefixOperator.TheVariants as pre
 use Rattle.nss_tree.specs.declared.operators.AssignOperator.{AssignOperator}
@@ -69,25 +69,34 @@ abbrev pub member_marks : Number → Bool → List Mark → List Mark
 member_marks k true value = mark 8 k ∷ []
 member_marks k false value = value ++ mark 8 k ∷ []
 
-abbrev pub prefix_marks : Number → PrefixOperator → Bool → List Mark → List Mark
-prefix_marks k pre.Minus place value = value ++ mark 2 k ∷ []
-prefix_marks k pre.Complement place value = value ++ mark 2 k ∷ []
-prefix_marks k pre.Not place value = value ++ mark 2 k ∷ []
-prefix_marks k pre.Increment place value = mark_if place 6 k ++ value
-prefix_marks k pre.Decrement place value = mark_if place 6 k ++ value
+-- before the value, and behind it
+abbrev pub before_prefix : Number → PrefixOperator → Bool → List Mark
+before_prefix k pre.Minus place = []
+before_prefix k pre.Complement place = []
+before_prefix k pre.Not place = []
+before_prefix k pre.Increment place = mark_if place 6 k
+before_prefix k pre.Decrement place = mark_if place 6 k
 
--- with the size of the operation
+abbrev pub behind_prefix : Number → PrefixOperator → List Mark
+behind_prefix k pre.Minus = mark 2 k ∷ []
+behind_prefix k pre.Complement = mark 2 k ∷ []
+behind_prefix k pre.Not = mark 2 k ∷ []
+behind_prefix k pre.Increment = []
+behind_prefix k pre.Decrement = []
+
+-- between the operands, where the operation has this size
+abbrev pub between : Number → Shortcut → ℕ → List Mark
+between k WhereTrue size = mark 8 k ∷ mark 6 k ∷ mark 6 k ∷ mark size k ∷ mark 6 k ∷ []
+between k WhereFalse size = mark 8 k ∷ mark 6 k ∷ []
+between k Never size = []
+
 abbrev pub binary_marks : Number → Shortcut → ℕ → List Mark → List Mark → List Mark
-binary_marks k WhereTrue size left right = left
-    ++ (mark 8 k ∷ mark 6 k ∷ mark 6 k ∷ mark size k ∷ mark 6 k ∷ (right ++ mark size k ∷ []))
-binary_marks k WhereFalse size left right = left
-    ++ (mark 8 k ∷ mark 6 k ∷ (right ++ mark size k ∷ []))
-binary_marks k Never size left right = left ++ (right ++ mark size k ∷ [])
+binary_marks k s size left right = left ++ (between k s size ++ (right ++ mark size k ∷ []))
 
--- with what stands before its value, if it isn't `=`
+-- `=` doesn't read its place first
 abbrev pub assign_marks : Number → Bool → Bool → List Mark → List Mark
-assign_marks k true place value = value ++ mark_if place 8 k
-assign_marks k false place value = mark_if place 8 k ++ (value ++ mark 2 k ∷ mark_if place 8 k)
+assign_marks k set place value = mark_if (not set && place) 8 k
+    ++ (value ++ (mark_if (not set) 2 k ++ mark_if place 8 k))
 
 abbrev pub call_mark : Number → Callee → Mark
 call_mark k (InUnit f) = mark 6 k
@@ -107,7 +116,8 @@ abbrev mutual
   marks l k (call t f xs ks) = started_marks k (result_room l f t)
       ++ (constants_marks k ks ++ (marks_all l k (next k) xs ++ call_mark k f ∷ []))
   marks l k (member t x offset) = member_marks k (is_place x) (marks l (next k) x)
-  marks l k (prefix t o x) = prefix_marks k o (is_place x) (marks l (next k) x)
+  marks l k (prefix t o x) = before_prefix k o (is_place x)
+      ++ (marks l (next k) x ++ behind_prefix k o)
   marks l k (postfix t o x) = marks l (next k) x ++ mark_if (is_place x) 6 k
   marks l k (binary t o x y) =
       binary_marks k (shortcut o) (op_size (operation o (type_of x) (cells l.structs (type_of x))))

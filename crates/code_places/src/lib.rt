@@ -2,6 +2,8 @@
 //! for.
 #![tactic(auto)]
 
+mod cells;
 pub mod laws;
+mod lines;
 mod numbers;
 mod seek;

@@ -43,11 +43,11 @@ pub(crate) fn behind(node: Option<u32>, e: &Expression) -> Option<u32>
 
 /// The number behind all nodes of arguments.
 #[cycle(expressions)]
-fn behind_all(node: Option<u32>, arguments: &[Expression]) -> Option<u32>
+pub(crate) fn behind_all(mut node: Option<u32>, arguments: &[Expression]) -> Option<u32>
     ensures { result ≡ numbers.behind_all node (plain_all arguments.now) }
 {
-    match arguments {
-        [] => node,
-        [first, rest @ ..] => behind_all(behind(node, first), rest),
+    for argument in arguments {
+        node = behind(node, argument);
     }
+    node
 }

@@ -32,6 +32,7 @@ pub(crate) fn pass(seek: Seek, size: u32, node: Option<u32>) -> Seek
 }
 
 /// The way after an instruction that is there or not.
+#[tactic(auto, using(crate::proofs::Seeking::seek_laws))]
 pub(crate) fn pass_if(seek: Seek, any: bool, size: u32, node: Option<u32>) -> Seek
     ensures { result ≡ sought (mark_if any size node) seek }
 {
