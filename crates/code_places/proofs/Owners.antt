@@ -228,7 +228,7 @@ module _ (l : Layout) (all : List Node) where
 
   argument_marked : {k : Number} (n depth : ℕ) (b : Bool) (lines : List Line) (ms : List Mark) → Marked Code None lines ms
       → Marked Code k (argument_code l n depth b lines) (argument_marks k b ms)
-  argument_marked n depth false lines ms f = owned.part Code f
+  argument_marked {k = k} n depth false lines ms f = subst (λ ns. Marked Code k lines ns) (sym (append-nil ms)) (owned.part Code f)
   argument_marked n depth true lines ms f =
       owned.both Code (owned.one Code _) (owned.both Code (owned.jump Code Jmp n)
       (owned.both Code (owned.part Code f) (owned.both Code (owned.one Code _) (owned.label Code n))))

@@ -2,7 +2,7 @@
 -- it takes and the number of the innermost node whose code it stands in. What a call does around its
 -- arguments is the call's, the tests and jumps of a statement are the statement's, what a function
 -- does at its end is the function's. The start of the unit is no node's, but for first values.
-use Rattle.std.specs.Prelude.{ℕ, zero, suc, Bool, true, false, not, ◌&&◌, ◌||◌, List, [], ◌∷◌, ◌++◌, map, Option, None, Some}
+use Rattle.std.specs.Prelude.{ℕ, zero, suc, Bool, true, false, not, ◌&&◌, ◌||◌, List, [], ◌∷◌, ◌++◌, map, Option, None, Some, if◌then◌else◌}
 use Rattle.nss_tree.specs.declared.operators.PrefixOperator.{PrefixOperator}
 use Rattle.nss_tree.specs.declared.operators.PrefixOperator.TheVariants as pre
 use Rattle.nss_tree.specs.declared.operators.AssignOperator.{AssignOperator}
@@ -66,8 +66,7 @@ name_mark k (Global n) = mark 8 k
 name_mark k (IsConst c) = constant_mark k c
 
 abbrev pub member_marks : Number → Bool → List Mark → List Mark
-member_marks k true value = mark 8 k ∷ []
-member_marks k false value = value ++ mark 8 k ∷ []
+member_marks k place value = (if place then [] else value) ++ mark 8 k ∷ []
 
 -- before the value, and behind it
 abbrev pub before_prefix : Number → PrefixOperator → Bool → List Mark
@@ -104,8 +103,8 @@ call_mark k (Engine routine) = mark 5 k
 
 -- an action is the call's but for its own code
 abbrev pub argument_marks : Number → Bool → List Mark → List Mark
-argument_marks k false value = value
-argument_marks k true value = mark 10 k ∷ mark 6 k ∷ (value ++ mark 2 k ∷ [])
+argument_marks k captured value = mark_if captured 10 k
+    ++ (mark_if captured 6 k ++ (value ++ mark_if captured 2 k))
 
 -- ---- expressions, with k the number of the node
 

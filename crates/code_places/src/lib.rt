@@ -3,6 +3,7 @@
 #![tactic(auto)]
 
 mod cells;
+mod expressions;
 pub mod laws;
 mod lines;
 mod numbers;
