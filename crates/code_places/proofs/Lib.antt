@@ -3,4 +3,5 @@ pub mod Owners
 pub mod Units
 pub mod Seeking
 pub mod Loops
+pub mod Exprs
 pub mod Found

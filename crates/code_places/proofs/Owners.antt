@@ -35,8 +35,9 @@ use Rattle.emission_rules.specs.Units.{body_count, functions_labels, emit_functi
 use Rattle.emission_rules.specs.Operations.{started, dropped, constant, combination, operation, bytes_of, top_again, int_constant}
 use Rattle.emission_rules.specs.Expressions.{Home, InFrame, InGlobals, moved, home, at_home, read, write, increment, decrement, name_code, member_code, prefix_code, postfix_code, Shortcut, WhereTrue, WhereFalse, Never, shortcut, shortcut_labels, binary_code, is_set, read_first, cells_first, constants, result_room, call_line, argument_labels, argument_code, count_arguments, arguments_cells, labels, all_labels, emit, emit_all}
 use Rattle.code_places.specs.Nodes.{Node, AnExpression, AStatement, AName, AnItem, Bare, nodes_expr, nodes_exprs, nodes_if, nodes_names, nodes_stmt, nodes_stmts, nodes_fields, nodes_lines, nodes_default, nodes_parameters, nodes_body, nodes_item, nodes_items}
+use Rattle.code_places.specs.declared.frame.Frame.{Frame}
 use Rattle.code_places.specs.Numbers.{Number, next, behind, behind_all, behind_if, behind_names, behind_stmt, behind_stmts, behind_fields, behind_lines, behind_default, behind_parameters, behind_body, behind_item}
-use Rattle.code_places.specs.Marks.{Mark, mark, mark_if, some, dropped_marks, started_marks, constant_mark, constants_marks, name_mark, member_marks, before_prefix, behind_prefix, binary_marks, assign_marks, call_mark, argument_marks, marks, marks_all, Frame, first_frame, deeper, loop_frame, switch_frame, evaluated_marks, tested_marks, returned_marks, initial_marks, names_marks, test_marks, tests_marks, stmt_marks, stmts_marks, function_marks, item_marks, functions_marks, global_marks, globals_marks, entry_marks, start_marks}
+use Rattle.code_places.specs.Marks.{Mark, mark, mark_if, some, dropped_marks, started_marks, constant_mark, constants_marks, name_mark, member_marks, before_prefix, behind_prefix, binary_marks, assign_marks, call_mark, argument_marks, marks, marks_all, first_frame, deeper, loop_frame, switch_frame, evaluated_marks, tested_marks, returned_marks, initial_marks, names_marks, test_marks, tests_marks, stmt_marks, stmts_marks, function_marks, item_marks, functions_marks, global_marks, globals_marks, entry_marks, start_marks}
 use Rattle.code_places.specs.Laws.{HasCode, IsCodeOf, of_expression, of_statement, of_name, of_function}
 use Rattle.code_places.proofs.Owned as owned
 use Rattle.code_places.proofs.Owned.{Marked}

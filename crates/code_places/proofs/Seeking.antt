@@ -1,5 +1,5 @@
 -- Going over marks, part by part.
-use Rattle.std.proofs.Common.{◌≡◌, ◌∙◌, ap, sym, refl, ℕ, zero, suc, ltb, lt-ltb, arith, Bool, true, false, List, [], ◌∷◌, ◌++◌}
+use Rattle.std.proofs.Common.{◌≡◌, ◌∙◌, ap, sym, refl, ℕ, zero, suc, ltb, lt-ltb, arith, ◌+◌, ◌<◌, ◌||◌, Bool, true, false, List, [], ◌∷◌, ◌++◌}
 use Rattle.code_places.specs.declared.seek.Seek.{Seek}
 use Rattle.code_places.specs.declared.seek.Seek.TheVariants.{Ahead, Found}
 use Rattle.code_places.specs.Numbers.{Number}
@@ -45,3 +45,25 @@ more_than_none (suc n) = rw (more n) refl
   where
     more : (n : ℕ) → ltb 0 (suc n) ≡ true
     more n = lt-ltb 0 (suc n) (omega arith)
+
+-- ---- cells of several together
+
+some_both : (a b : ℕ) → some (a + b) ≡ some a || some b
+some_both zero b = ap some (omega arith)
+some_both (suc a) b = on (suc a + b) (omega arith)
+  where
+    on : (n : ℕ) → 0 < n → some n ≡ true
+    on zero h = absurd (omega (arith, h))
+    on (suc n) h = refl
+
+pub one_of : (any one now : Bool) (a b : ℕ) → one ≡ some a → now ≡ any || one → any || some (a + b) ≡ now || some b
+one_of any one now a b e f =
+    ap (λ z. any || z) (some_both a b ∙ ap (λ z. z || some b) (sym e)) ∙ (assoc any one (some b) ∙ ap (λ z. z || some b) (sym f))
+  where
+    assoc : (x y z : Bool) → x || (y || z) ≡ (x || y) || z
+    assoc true y z = refl
+    assoc false y z = refl
+
+pub or_none : (b : Bool) → b || some 0 ≡ b
+or_none true = refl
+or_none false = refl

@@ -25,6 +25,7 @@ use Rattle.emission_rules.specs.Layout.{Layout, layout_of, params_cells, declare
 use Rattle.emission_rules.specs.Operations.{constant, operation}
 use Rattle.emission_rules.specs.Expressions.{Shortcut, WhereTrue, WhereFalse, Never, shortcut, is_set, result_room}
 use Rattle.emission_rules.specs.Units.{has_globals}
+use Rattle.code_places.specs.declared.frame.Frame.{Frame}
 use Rattle.code_places.specs.Numbers.{Number, next, behind, behind_if, behind_names, behind_stmt, behind_parameters, behind_item}
 
 -- an instruction: how many bytes it takes, and whose it is
@@ -131,12 +132,6 @@ abbrev mutual
       ++ argument_marks of (is_captured x) (marks l k x)
 
 -- ---- statements
-
--- whether cells lie in the frame, and whether `break` and `continue` take some off
-pub record Frame : Type 0 where
-  pub filled : Bool
-  pub breaks : Bool
-  pub continues : Bool
 
 -- the frame of a function whose parameters have cells, or none
 abbrev pub first_frame : Bool → Frame

@@ -1,6 +1,6 @@
 //! The way through the code of an expression.
 
-ghost use Rattle.std.specs.Prelude.{◌≡◌};
+ghost use Rattle.std.specs.Prelude.{◌≡◌, ◌&&◌};
 ghost use Rattle.typing_rules.specs.Cells.{is_captured};
 ghost use Rattle.typing_rules.specs.Reading.{plain, plain_all};
 ghost use Rattle.code_places.specs.Marks as marks;
@@ -33,6 +33,12 @@ fn is_action(argument: &Expression) -> bool
     }
 }
 
+fn both(a: bool, b: bool) -> bool
+    ensures { result ≡ (a && b) }
+{
+    if a { b } else { false }
+}
+
 /// The way behind the code of an expression.
 #[cycle(expressions)]
 #[tactic(auto, using(typing_rules::specs::Readings::known))]
@@ -60,7 +66,10 @@ pub(crate) fn seek_expr(
             pass_call(seek, *callee, node)
         }
         Expression::Member { of, .. } => {
-            let seek = if of.is_place() { seek } else { seek_expr(layout, of, part, seek) };
+            if of.is_place() {
+                return pass(seek, 8, node);
+            }
+            let seek = seek_expr(layout, of, part, seek);
             pass(seek, 8, node)
         }
         Expression::Prefix { operator, of, .. } => {
@@ -92,7 +101,7 @@ pub(crate) fn seek_expr(
         } => {
             let set = is_set(*operator);
             let there = place.is_place();
-            let seek = pass_if(seek, !set && there, 8, node);
+            let seek = pass_if(seek, both(!set, there), 8, node);
             let seek = seek_expr(layout, value, behind(part, place), seek);
             let seek = pass_if(seek, !set, 2, node);
             pass_if(seek, there, 8, node)
@@ -116,10 +125,11 @@ fn seek_arguments(
     while i > 0 {
         i -= 1;
         let number = behind_all(node, &arguments[..i]);
-        let captured = is_action(&arguments[i]);
+        let argument = &arguments[i];
+        let captured = is_action(argument);
         seek = pass_if(seek, captured, 10, of);
         seek = pass_if(seek, captured, 6, of);
-        seek = seek_expr(layout, &arguments[i], number, seek);
+        seek = seek_expr(layout, argument, number, seek);
         seek = pass_if(seek, captured, 2, of);
     }
     seek

@@ -4,7 +4,9 @@
 
 mod cells;
 mod expressions;
+mod frame;
 pub mod laws;
 mod lines;
 mod numbers;
 mod seek;
+mod statements;
