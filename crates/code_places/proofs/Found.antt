@@ -15,7 +15,7 @@ use Rattle.code_places.specs.Seeking.{node_at, node_found, passed, sought}
 use Rattle.code_places.specs.Laws.{HasCode, LiesIn, PlacesHold, StandsIn, count, instructions, owner}
 use Rattle.code_places.proofs.Owned.{size_of}
 use Rattle.code_places.proofs.Seeking.{sought_more, sought_none, still_found}
-use Rattle.code_places.proofs.Units.{owners_hold, unit_marked}
+use Rattle.code_places.proofs.Whole.{owners_hold, unit_marked}
 
 -- A line that so many bytes stand before, from the first line on, and whose owner is this one.
 record Held (lines : List Line) (ms : List Mark) (left j : ℕ) : Type 0 where

@@ -1,7 +1,8 @@
 pub mod Owned
 pub mod Owners
-pub mod Units
+pub mod Whole
 pub mod Seeking
 pub mod Loops
 pub mod Exprs
+pub mod Stmts
 pub mod Found

@@ -239,6 +239,10 @@ abbrev pub functions_marks : Layout → Number → List TypedItem → List Mark
 functions_marks l k [] = []
 functions_marks l k (i ∷ is) = item_marks l k i ++ functions_marks l (behind_item k i) is
 
+abbrev pub is_global : TypedItem → Bool
+is_global (global n t ds) = true
+is_global _ = false
+
 abbrev pub global_marks : Layout → Number → TypedItem → List Mark
 global_marks l k (global n t ds) = names_marks l (next k) ds
 global_marks l k _ = []

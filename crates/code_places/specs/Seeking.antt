@@ -1,5 +1,8 @@
 -- Going over instructions to the one that a byte of the code lies in.
-use Rattle.std.specs.Prelude.{ℕ, ◌-◌, nat_lt, List, [], ◌∷◌, Option, None, Some, if◌then◌else◌}
+use Rattle.std.specs.Prelude.{ℕ, ◌-◌, nat_lt, List, [], ◌∷◌, Option, None, Some, slice_get, if◌then◌else◌}
+use Rattle.std.specs.Option.{option_and_then}
+use Rattle.nss_tree.specs.Places.{places}
+use Rattle.nss_tree.specs.Source.{SourceTree}
 use Rattle.ncs_code.specs.File.{header_size}
 use Rattle.typing_rules.specs.Typed.{TypedUnit}
 use Rattle.code_places.specs.declared.seek.Seek.{Seek}
@@ -23,3 +26,7 @@ node_found (Found node) = node
 -- at the start, and behind the code
 abbrev pub node_at : TypedUnit → ℕ → Number
 node_at u place = if nat_lt place header_size then None else node_found (sought (unit_marks u) (Ahead (place - header_size)))
+
+-- the token of that node, where the unit is the typed one of this tree
+abbrev pub token_at : SourceTree → TypedUnit → ℕ → Option ℕ
+token_at tree u place = option_and_then (λ n. slice_get (places tree) n) (node_at u place)

@@ -10,3 +10,6 @@ mod lines;
 mod numbers;
 mod seek;
 mod statements;
+mod units;
+
+pub use units::{node_at, token_at};

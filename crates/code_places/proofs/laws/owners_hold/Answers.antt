@@ -1,4 +1,4 @@
-use Rattle.code_places.proofs.Units.{owners_hold}
+use Rattle.code_places.proofs.Whole.{owners_hold}
 use Rattle.code_places.proofs.laws.owners_hold.Goals as goal
 
 pub returns : goal.returns

@@ -1,4 +1,4 @@
-use Rattle.code_places.proofs.Units.{unit_marked}
+use Rattle.code_places.proofs.Whole.{unit_marked}
 use Rattle.code_places.proofs.laws.sizes_agree.Goals as goal
 
 pub returns : goal.returns
