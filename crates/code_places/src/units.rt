@@ -1,6 +1,6 @@
 //! The way through the code of a unit.
 
-ghost use Rattle.std.specs.Prelude.{◌≡◌, Some};
+ghost use Rattle.std.specs.Prelude.{◌≡◌, Some, true};
 ghost use Rattle.nss_tree.specs.Reading.{plain_tree};
 ghost use Rattle.typing_rules.specs.UnitReading.{typed_item, typed_items, typed_stmts};
 ghost use Rattle.typing_rules.specs.UnitReading.{typed_unit};
@@ -131,18 +131,27 @@ fn seek_entry(entry: EntryPoint, seek: Seek) -> Seek
     }
 }
 
+/// The way behind the start of a unit with globals.
+fn seek_begin(layout: &Layout, items: &[TypedItem], entry: EntryPoint, seek: Seek) -> Seek
+    ensures { result
+        ≡ sought (marks.start_marks layout.now true (typed_items items.now) entry) seek }
+{
+    let seek = pass(pass(seek, 6, None), 2, None);
+    let seek = pass(seek_globals(layout, items, seek), 2, None);
+    let seek = pass(seek_entry(entry, seek), 2, None);
+    pass(pass_if(seek, layout.globals() > 0, 6, None), 2, None)
+}
+
 /// The way behind the start of a unit.
 fn seek_start(layout: &Layout, items: &[TypedItem], entry: EntryPoint, seek: Seek) -> Seek
     ensures { result ≡ sought (marks.start_marks layout.now
         (code.has_globals (typed_items items.now)) (typed_items items.now) entry) seek }
 {
-    if !has_globals(items) {
-        return pass(seek_entry(entry, seek), 2, None);
+    if has_globals(items) {
+        seek_begin(layout, items, entry, seek)
+    } else {
+        pass(seek_entry(entry, seek), 2, None)
     }
-    let seek = pass(pass(seek, 6, None), 2, None);
-    let seek = pass(seek_globals(layout, items, seek), 2, None);
-    let seek = pass(seek_entry(entry, seek), 2, None);
-    pass(pass_if(seek, layout.globals() > 0, 6, None), 2, None)
 }
 
 /// The number of the node whose code the byte at this place of the unit's file lies in, of the
