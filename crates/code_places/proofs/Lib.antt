@@ -6,3 +6,4 @@ pub mod Loops
 pub mod Exprs
 pub mod Stmts
 pub mod Found
+pub mod Examples
