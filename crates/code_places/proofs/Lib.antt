@@ -7,3 +7,4 @@ pub mod Exprs
 pub mod Stmts
 pub mod Found
 pub mod Examples
+pub mod Sources

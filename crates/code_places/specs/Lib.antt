@@ -3,3 +3,4 @@ pub mod Numbers
 pub mod Marks
 pub mod Seeking
 pub mod Laws
+pub mod Sources

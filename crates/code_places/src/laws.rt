@@ -1,6 +1,7 @@
 //! What the marks of a unit tell of its code.
 
 ghost use Rattle.code_places.specs.Laws.{OwnersHold, PlacesHold, SizesAgree};
+ghost use Rattle.code_places.specs.Sources.{TokensAgree};
 
 /// Each instruction of a unit's code has a mark, with its size.
 pub fn sizes_agree()
@@ -18,5 +19,12 @@ pub fn owners_hold()
 /// code.
 pub fn places_hold()
     ensures places { PlacesHold }
+{
+}
+
+/// In a typed unit the token of a node's number is the node's: of an expression the token of the one
+/// that it is the typing of.
+pub fn tokens_agree()
+    ensures tokens { TokensAgree }
 {
 }
