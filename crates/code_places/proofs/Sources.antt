@@ -1,5 +1,5 @@
 -- The nodes of a typed tree are those of its source, number by number.
-use Rattle.std.proofs.Common.{◌≡◌, ◌∙◌, ap, sym, refl, subst, ℕ, ◌&&◌, not, Bool, true, false, cond, List, [], ◌∷◌, ◌++◌, Option, None, Some, is_some, option_map, option_and_then}
+use Rattle.std.proofs.Common.{◌≡◌, ◌∙◌, ap, sym, refl, subst, slice_get, ℕ, zero, suc, ◌&&◌, not, Bool, true, false, cond, List, [], ◌∷◌, ◌++◌, Option, None, Some, is_some, option_map, option_and_then}
 use Rattle.std.proofs.lemmas.Option.{none-some, same_Some}
 use Rattle.nss_tree.specs.Places.{places, places_if, places_each, of_constant, places_declared, places_expr, places_exprs, places_identifier, places_item, places_line, places_parameter, places_stmt, places_stmts}
 use Rattle.nss_tree.specs.Source.{SourceDeclared, SourceItem, SourceLine, SourceParameter, SourceStmt, SourceStmts, SourceTree}
@@ -19,8 +19,10 @@ use Rattle.typing_rules.specs.Rules.{call_of, filled, filled_call, is_barred, al
 use Rattle.typing_rules.specs.Types.{assigned_type, binary_type}
 use Rattle.typing_rules.specs.Meaning.{AllTypes, Types, TypesFields, TypesItem, TypesItems, TypesLines, TypesNames, TypesParams, TypesStmt, TypesStmts, TypesUnit, TypesValue}
 use Rattle.typing_rules.specs.Meaning as rules
-use Rattle.code_places.specs.Nodes.{Node, AnExpression, nodes_body, nodes_default, nodes_expr, nodes_exprs, nodes_fields, nodes_if, nodes_item, nodes_items, nodes_lines, nodes_names, nodes_parameters, nodes_stmt, nodes_stmts}
-use Rattle.code_places.specs.Sources.{AreOf, IsOf, IsTyping, TokensAgree, expr_token, item_token, stmt_token}
+use Rattle.code_places.specs.Nodes.{Node, AnExpression, nodes_body, nodes_default, nodes_expr, nodes_exprs, nodes_fields, nodes_if, nodes_item, nodes_items, nodes_lines, nodes_names, nodes_parameters, nodes_stmt, nodes_stmts, unit_nodes}
+use Rattle.code_places.specs.Seeking.{node_at}
+use Rattle.code_places.proofs.Found.{places_hold}
+use Rattle.code_places.specs.Sources.{AreOf, IsOf, IsTyping, TokensAgree, TokensHold, expr_token, item_token, stmt_token}
 
 both : (ts us : List ℕ) (ns ms : List Node) → AreOf ts ns → AreOf us ms → AreOf (ts ++ us) (ns ++ ms)
 both [] us [] ms f g = g
@@ -198,3 +200,34 @@ items_of (rules.TypesItems.more c {i = i} {is = is} {t = t} {ts = ts} h k) =
 pub tokens_agree : TokensAgree
 unfolding places
 tokens_agree table u t h = items_of h.items
+
+-- ---- a token that is told
+
+of_number : (ts : List ℕ) (ns : List Node) (n t : ℕ) (node : Node) → AreOf ts ns → slice_get ts n ≡ Some t → slice_get ns n ≡ Some node → IsOf t node
+of_number [] ns n t node h e f = absurd cc
+of_number (x ∷ ts) [] n t node h e f = absurd h
+of_number (x ∷ ts) (y ∷ ns) zero t node h e f = subst (λ z. IsOf z node) (same_Some _ _ e) (subst (IsOf x) (same_Some _ _ f) h.0)
+of_number (x ∷ ts) (y ∷ ns) (suc n) t node h e f = of_number ts ns n t node h.1 e f
+
+both_some : {A B : Type 0} (f : A → Option B) (o : Option A) (b : B) → option_and_then f o ≡ Some b → (a : A) × ((o ≡ Some a) × (f a ≡ Some b))
+both_some f None b e = absurd (none-some b e)
+both_some f (Some a) b e = (a, (refl, e))
+
+pub tokens_hold : TokensHold
+tokens_hold table tree u typed place token h =
+    let told = both_some (λ n. slice_get (places tree) n) (node_at u place) token h in
+    let held = places_hold u place told.0 told.1.0 in
+    let r = held.1.1 in
+    (held.0, (held.1.0, record {
+      before = r.before;
+      code = r.code;
+      behind = r.behind;
+      whole = r.whole;
+      from = r.from;
+      to = r.to;
+      is = record {
+        node = r.is.node;
+        has = of_number (places tree) (unit_nodes u) told.0 token r.is.node (tokens_agree table tree u typed) told.1.1 r.is.numbered;
+        is = r.is.is;
+      };
+    }))

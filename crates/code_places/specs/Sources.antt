@@ -1,15 +1,20 @@
 -- The nodes of a typed tree and the tokens of the tree that it is the typed one of, number by number.
-use Rattle.std.specs.Prelude.{◌≡◌, ℕ, Bool, List, [], ◌∷◌}
+use Rattle.std.specs.Prelude.{◌≡◌, ℕ, Bool, List, [], ◌∷◌, Some}
 use Rattle.nss_tree.specs.Expressions.{PlainExpr, int, float, text, object_self, object_invalid, name, call, member, prefix, postfix, binary, assign}
 use Rattle.nss_tree.specs.Places.{places}
 use Rattle.nss_tree.specs.Source.{SourceTree}
 use Rattle.nss_tree.specs.Statements.{block, empty, expression, if_only, if_else, while_loop, do_loop, for_loop, switch, break_off, continue_on, return_from, declaration, case_label, default_label}
 use Rattle.nss_tree.specs.Units.{structure, constant, global, function}
 use Rattle.nwq_value.specs.Engine.{EngineTable}
+use Rattle.ncs_emit.specs.Labelled.{Line}
 use Rattle.typing_rules.specs.Sight.{Head, Sight}
 use Rattle.typing_rules.specs.Typed.{TypedExpr, TypedStmt, TypedItem, TypedUnit}
 use Rattle.typing_rules.specs.Meaning.{Types, TypesUnit}
+use Rattle.emission_rules.specs.Layout.{Layout, layout_of}
+use Rattle.emission_rules.specs.Units.{unit_code}
 use Rattle.code_places.specs.Nodes.{Node, AnExpression, AStatement, AName, AnItem, Bare, unit_nodes}
+use Rattle.code_places.specs.Seeking.{token_at}
+use Rattle.code_places.specs.Laws.{IsCodeOf, LiesIn, StandsIn}
 
 abbrev pub expr_token : PlainExpr → ℕ
 expr_token (int n v) = n
@@ -76,3 +81,17 @@ AreOf (t ∷ ts) (n ∷ ns) = IsOf t n × AreOf ts ns
 abbrev pub TokensAgree : Type 0
 TokensAgree = (table : EngineTable) (u : SourceTree) (t : TypedUnit) → TypesUnit table u t
     → AreOf (places u) (unit_nodes t)
+
+-- The lines are the whole code of a node that has this token.
+pub record IsCodeAt (l : Layout) (token : ℕ) (code : List Line) : Type 0 where
+  pub node : Node
+  pub has : IsOf token node
+  pub is : IsCodeOf l node code
+
+-- So where a token is told for a place, the byte there lies in an instruction that stands in the code
+-- of a node of that token.
+abbrev pub TokensHold : Type 0
+TokensHold = (table : EngineTable) (tree : SourceTree) (u : TypedUnit) → TypesUnit table tree u
+    → (place token : ℕ) → token_at tree u place ≡ Some token
+    → (i : ℕ) × (LiesIn (unit_code u).lines place i
+    × StandsIn (IsCodeAt (layout_of u)) (unit_code u).lines i token)

@@ -1,7 +1,7 @@
 //! What the marks of a unit tell of its code.
 
 ghost use Rattle.code_places.specs.Laws.{OwnersHold, PlacesHold, SizesAgree};
-ghost use Rattle.code_places.specs.Sources.{TokensAgree};
+ghost use Rattle.code_places.specs.Sources.{TokensAgree, TokensHold};
 
 /// Each instruction of a unit's code has a mark, with its size.
 pub fn sizes_agree()
@@ -26,5 +26,12 @@ pub fn places_hold()
 /// that it is the typing of.
 pub fn tokens_agree()
     ensures tokens { TokensAgree }
+{
+}
+
+/// Where a token is told for a place, the byte there lies in an instruction that stands in the code
+/// of a node of that token.
+pub fn tokens_hold()
+    ensures tokens { TokensHold }
 {
 }
