@@ -109,15 +109,15 @@ in_first_value = refl
 -- int f(int a) { return 6 / a; } void main() { int n = 1; n /= f(2); }: the jump to f, at 83, is the
 -- call's, and so is the byte before the place that f goes back to
 in_function : nodes (record {
-      items =
-          function t.Int (record { token = 0; ty = t.Int; name = record { number = 0; ty = t.Int }; default = None } ∷ [])
-          (s.return_from 0 (Some (e.binary t.Int bin.Divide (int 6) (local 0))) ∷ [])
-          ∷ function t.Void [] (
-          s.declaration 0 t.Int (declared 1 (int 1) ∷ [])
-          ∷ run (e.assign t.Int asg.Divide (local 1) (e.call t.Int (InUnit 0) (args (int 2 ∷ [])) [])) ∷ [])
-          ∷ [];
-      entry = Main 1;
-    })
+  items =
+      function t.Int (record { token = 0; ty = t.Int; name = record { number = 0; ty = t.Int }; default = None } ∷ [])
+      (s.return_from 0 (Some (e.binary t.Int bin.Divide (int 6) (local 0))) ∷ [])
+      ∷ function t.Void [] (
+      s.declaration 0 t.Int (declared 1 (int 1) ∷ [])
+      ∷ run (e.assign t.Int asg.Divide (local 1) (e.call t.Int (InUnit 0) (args (int 2 ∷ [])) [])) ∷ [])
+      ∷ [];
+  entry = Main 1;
+})
     (27 ∷ 35 ∷ 37 ∷ 51 ∷ 53 ∷ 59 ∷ 61 ∷ 67 ∷ 75 ∷ 77 ∷ 83 ∷ 88 ∷ 89 ∷ 91 ∷ 99 ∷ 105 ∷ 111 ∷ [])
     ≡ Some 5 ∷ Some 3 ∷ Some 2 ∷ Some 2 ∷ Some 0 ∷ Some 0 ∷ Some 9 ∷ Some 11 ∷ Some 13 ∷ Some 14 ∷ Some 13 ∷ Some 13 ∷ Some 11 ∷ Some 11 ∷ Some 10 ∷ Some 6 ∷ Some 6 ∷ []
 unfolding sought
@@ -125,13 +125,13 @@ in_function = refl
 
 -- void main() { PrintInteger(6 / 0); }: the tokens are numbered from 0, and `/` is number 8
 source : TypeName → SourceTree
-source void = record {
-  items = unit.function 1 void (codes "main") [] (Some (more_stmts
+source y = record {
+  items = unit.function 1 y (codes "main") [] (Some (more_stmts
       (s.expression 5 (x.call 5 (codes "PrintInteger") (x.more_exprs (x.binary 8 bin.Divide (x.int 7 (pos 6)) (x.int 9 (pos 0))) x.no_expr))) no_stmt)) ∷ [];
   count = 13;
 }
 
-told : (void : TypeName) → map (token_at (source void) (only_main (run (print division) ∷ []))) (13 ∷ 21 ∷ 27 ∷ 33 ∷ 35 ∷ 40 ∷ [])
+told : (y : TypeName) → map (token_at (source y) (only_main (run (print division) ∷ []))) (13 ∷ 21 ∷ 27 ∷ 33 ∷ 35 ∷ 40 ∷ [])
     ≡ None ∷ Some 7 ∷ Some 9 ∷ Some 8 ∷ Some 5 ∷ Some 1 ∷ []
 unfolding places sought source
-told void = refl
+told y = refl

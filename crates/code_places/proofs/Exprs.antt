@@ -1,5 +1,5 @@
 -- Going over the marks of an expression that is known.
-use Rattle.std.proofs.Common.{◌≡◌, ◌∙◌, ◌<◌, ◌≤◌, ◌+◌, ◌-◌, ap, ap₂, sym, refl, subst, arith, ℕ, Bool, true, false, not, ◌&&◌, cond, List, [], ◌∷◌, ◌++◌, length, take, drop, get_or}
+use Rattle.std.proofs.Common.{◌≡◌, ◌∙◌, ◌<◌, ◌≤◌, ◌+◌, ◌-◌, ap, ap₂, sym, refl, arith, ℕ, Bool, true, false, not, ◌&&◌, cond, List, [], ◌∷◌, ◌++◌, length, take, drop, get_or}
 use Rattle.std.proofs.lemmas.List.{take_more}
 use Rattle.nss_tree.specs.declared.operators.BinaryOperator.{BinaryOperator}
 use Rattle.nss_tree.specs.declared.operators.AssignOperator.{AssignOperator}
@@ -15,7 +15,7 @@ use Rattle.emission_rules.specs.Operations.{operation}
 use Rattle.emission_rules.specs.Expressions.{shortcut, is_set}
 use Rattle.code_places.specs.declared.seek.Seek.{Seek}
 use Rattle.code_places.specs.Numbers.{Number, next, behind, behind_all}
-use Rattle.code_places.specs.Marks.{Mark, mark, mark_if, between, binary_marks, assign_marks, argument_marks, marks, marks_all}
+use Rattle.code_places.specs.Marks.{mark, mark_if, between, binary_marks, assign_marks, argument_marks, marks, marks_all}
 use Rattle.code_places.specs.Seeking.{passed, sought}
 use Rattle.code_places.proofs.Loops.{back}
 use Rattle.code_places.proofs.Seeking.{last, parts}

@@ -1,17 +1,14 @@
 -- The instruction that a byte lies in.
-use Rattle.std.proofs.Common.{◌≡◌, ◌∙◌, ◌<◌, ◌≤◌, ap, sym, refl, subst, ℕ, zero, suc, ◌+◌, ◌-◌, Bool, true, false, ltb, cond, ltb-true, ltb-false, List, [], ◌∷◌, ◌++◌, map, length, arith, Option, None, Some, ap₂}
+use Rattle.std.proofs.Common.{◌≡◌, ◌∙◌, ◌<◌, ◌≤◌, ap, sym, refl, ℕ, suc, ◌+◌, ◌-◌, Bool, true, false, ltb, cond, ltb-true, ltb-false, List, [], ◌∷◌, ◌++◌, map, length, arith, None, Some}
 use Rattle.ncs_code.specs.File.{header_size}
-use Rattle.ncs_code.specs.Spelling.{op_size}
 use Rattle.ncs_emit.specs.Labelled.{Line, Instruction, JumpTo, Label, line_size, lines_size}
 use Rattle.typing_rules.specs.Typed.{TypedUnit}
 use Rattle.emission_rules.specs.Layout.{layout_of}
 use Rattle.emission_rules.specs.Units.{unit_code}
-use Rattle.code_places.specs.declared.seek.Seek.{Seek}
 use Rattle.code_places.specs.declared.seek.Seek.TheVariants.{Ahead, Found}
-use Rattle.code_places.specs.Numbers.{Number}
 use Rattle.code_places.specs.Nodes.{unit_nodes}
 use Rattle.code_places.specs.Marks.{Mark, unit_marks}
-use Rattle.code_places.specs.Seeking.{node_at, node_found, passed, sought}
+use Rattle.code_places.specs.Seeking.{node_found, sought}
 use Rattle.code_places.specs.Laws.{HasCode, LiesIn, PlacesHold, StandsIn, count, instructions, owner}
 use Rattle.code_places.proofs.Owned.{size_of}
 use Rattle.code_places.proofs.Seeking.{sought_more, sought_none, still_found}
@@ -119,16 +116,21 @@ places_hold u place j h = by (ltb place header_size) refl h
     told : header_size ≤ place → Held (unit_code u).lines (unit_marks u) (place - header_size) j → Answer u place j
     told le r =
         let from = r.from in
-        let to = r.to in
-        (count r.before, (record {
-          before = r.before;
-          line = r.line;
-          behind = r.behind;
-          whole = r.whole;
-          number = refl;
-          from = omega (arith, from, le);
-          to = omega (arith, to, le);
-        }, owners_hold u (count r.before) j r.owned))
+        let to = r.to in (
+          count r.before,
+          (
+            record {
+              before = r.before;
+              line = r.line;
+              behind = r.behind;
+              whole = r.whole;
+              number = refl;
+              from = omega (arith, from, le);
+              to = omega (arith, to, le);
+            },
+            owners_hold u (count r.before) j r.owned,
+          ),
+        )
 
     by : (b : Bool) → ltb place header_size ≡ b → cond b None (node_found (sought (unit_marks u) (Ahead (place - header_size)))) ≡ Some j → Answer u place j
     by true is e = absurd cc

@@ -1,6 +1,5 @@
 -- The code of each node has its marks.
 use Rattle.std.proofs.Common.{◌≡◌, ◌∙◌, ◌<◌, ◌≤◌, ap, sym, refl, subst, ℕ, zero, suc, ◌+◌, ◌-◌, Bool, true, false, ltb, cond, ◌||◌, List, [], ◌∷◌, ◌++◌, length, drop, add-one, append_assoc, slice_get, arith, Option, None, Some}
-use Rattle.std.proofs.lemmas.Bool.Decides.{nat_tests}
 use Rattle.std.proofs.lemmas.List.{append-nil}
 use Rattle.std.proofs.lemmas.Option.{same_Some}
 use Rattle.std.specs.Option.{option_map}
@@ -11,12 +10,11 @@ use Rattle.nss_tree.specs.declared.operators.PostfixOperator.TheVariants as post
 use Rattle.nss_tree.specs.declared.operators.AssignOperator.{AssignOperator}
 use Rattle.nss_tree.specs.declared.operators.AssignOperator.TheVariants as asg
 use Rattle.ncs_code.specs.Plain.{PlainOp}
-use Rattle.ncs_code.specs.Plain as ops
 use Rattle.ncs_code.specs.Spelling.{op_size}
 use Rattle.nwq_value.specs.declared.engine.Const.{Const}
 use Rattle.nwq_value.specs.declared.value.Ty.{Ty}
 use Rattle.ncs_emit.specs.declared.jump.Jump.TheVariants.{Jmp, Jsr, Jz, Jnz}
-use Rattle.ncs_emit.specs.Labelled.{Line, Instruction, JumpTo, Label}
+use Rattle.ncs_emit.specs.Labelled.{Line, Instruction, Label}
 use Rattle.typing_rules.specs.declared.places.Place.{Place}
 use Rattle.typing_rules.specs.declared.places.Place.TheVariants.{Local, Global, Const as IsConst}
 use Rattle.typing_rules.specs.declared.places.Callee.{Callee}
@@ -31,14 +29,14 @@ use Rattle.typing_rules.specs.Cells.{cell_types, cells, is_captured}
 use Rattle.emission_rules.specs.Layout.{Layout, declared_cells, all_declared_cells, params_cells, item_cells}
 use Rattle.emission_rules.specs.Statements.{Exits, no_exits, in_loop, in_switch, some_labels, evaluated, tested, stored, returned, initial, names_labels, emit_names, is_label, count_labels, test_of, tests, placed, placed_on, stmt_labels, all_stmt_labels, otherwise, emit_stmt, emit_stmts}
 use Rattle.emission_rules.specs.Statements as code
-use Rattle.emission_rules.specs.Units.{body_count, functions_labels, emit_function, emit_functions, globals_labels, emit_globals, entry_call, start_labels, emit_start}
-use Rattle.emission_rules.specs.Operations.{started, dropped, constant, combination, operation, bytes_of, top_again, int_constant}
+use Rattle.emission_rules.specs.Units.{emit_function, emit_functions, emit_globals, entry_call, emit_start}
+use Rattle.emission_rules.specs.Operations.{started, dropped, constant, combination, operation}
 use Rattle.emission_rules.specs.Expressions.{Home, InFrame, InGlobals, moved, home, at_home, read, write, increment, decrement, name_code, member_code, prefix_code, postfix_code, Shortcut, WhereTrue, WhereFalse, Never, shortcut, shortcut_labels, binary_code, is_set, read_first, cells_first, constants, result_room, call_line, argument_labels, argument_code, count_arguments, arguments_cells, labels, all_labels, emit, emit_all}
-use Rattle.code_places.specs.Nodes.{Node, AnExpression, AStatement, AName, AnItem, Bare, nodes_expr, nodes_exprs, nodes_if, nodes_names, nodes_stmt, nodes_stmts, nodes_fields, nodes_lines, nodes_default, nodes_parameters, nodes_body, nodes_item, nodes_items}
+use Rattle.code_places.specs.Nodes.{Node, AnExpression, AStatement, AName, AnItem, nodes_expr, nodes_exprs, nodes_if, nodes_names, nodes_stmt, nodes_stmts, nodes_fields, nodes_lines, nodes_default, nodes_parameters, nodes_body, nodes_item, nodes_items}
 use Rattle.code_places.specs.declared.frame.Frame.{Frame}
 use Rattle.code_places.specs.Numbers.{Number, next, behind, behind_all, behind_if, behind_names, behind_stmt, behind_stmts, behind_fields, behind_lines, behind_default, behind_parameters, behind_body, behind_item}
-use Rattle.code_places.specs.Marks.{Mark, mark, mark_if, some, dropped_marks, started_marks, constant_mark, constants_marks, name_mark, member_marks, before_prefix, behind_prefix, binary_marks, assign_marks, call_mark, argument_marks, marks, marks_all, first_frame, deeper, loop_frame, switch_frame, evaluated_marks, tested_marks, returned_marks, initial_marks, names_marks, test_marks, tests_marks, stmt_marks, stmts_marks, function_marks, item_marks, functions_marks, global_marks, globals_marks, entry_marks, start_marks}
-use Rattle.code_places.specs.Laws.{HasCode, IsCodeOf, of_expression, of_statement, of_name, of_function}
+use Rattle.code_places.specs.Marks.{Mark, mark, mark_if, some, dropped_marks, started_marks, constant_mark, constants_marks, name_mark, member_marks, before_prefix, behind_prefix, binary_marks, assign_marks, call_mark, argument_marks, marks, marks_all, first_frame, deeper, loop_frame, switch_frame, evaluated_marks, tested_marks, returned_marks, initial_marks, names_marks, test_marks, tests_marks, stmt_marks, stmts_marks, function_marks, functions_marks, globals_marks, entry_marks, start_marks}
+use Rattle.code_places.specs.Laws.{HasCode, of_expression, of_statement, of_name, of_function}
 use Rattle.code_places.proofs.Owned as owned
 use Rattle.code_places.proofs.Owned.{Marked}
 
@@ -444,10 +442,10 @@ module _ (l : Layout) (all : List Node) where
       × From all (behind_if (behind_if (behind_if (next k) x) y) z) (nodes_stmt a ++ rest)
   from_for k m x y z a rest f =
       let first = from_if (next k) x ((nodes_if y ++ (nodes_if z ++ nodes_stmt a)) ++ rest)
-          (from_parts (nodes_if x) (nodes_if y ++ (nodes_if z ++ nodes_stmt a)) rest (from_next f)) in
+      (from_parts (nodes_if x) (nodes_if y ++ (nodes_if z ++ nodes_stmt a)) rest (from_next f)) in
       let second = from_parts (nodes_if y) (nodes_if z ++ nodes_stmt a) rest first in
       let third = from_parts (nodes_if z) (nodes_stmt a) rest
-          (from_if (behind_if (next k) x) y ((nodes_if z ++ nodes_stmt a) ++ rest) second) in
+      (from_if (behind_if (next k) x) y ((nodes_if z ++ nodes_stmt a) ++ rest) second) in
       (second, third, from_if (behind_if (behind_if (next k) x) y) z (nodes_stmt a ++ rest) third)
 
   mutual

@@ -1,9 +1,9 @@
 -- Going over marks, part by part.
 use Rattle.std.proofs.Common.{◌≡◌, ◌∙◌, ap, sym, refl, ℕ, zero, suc, ltb, lt-ltb, arith, ◌+◌, ◌<◌, ◌||◌, Bool, true, false, List, [], ◌∷◌, ◌++◌}
 use Rattle.code_places.specs.declared.seek.Seek.{Seek}
-use Rattle.code_places.specs.declared.seek.Seek.TheVariants.{Ahead, Found}
+use Rattle.code_places.specs.declared.seek.Seek.TheVariants.{Found}
 use Rattle.code_places.specs.Numbers.{Number}
-use Rattle.code_places.specs.Marks.{Mark, mark, mark_if, some}
+use Rattle.code_places.specs.Marks.{Mark, some}
 use Rattle.code_places.specs.Seeking.{passed, sought}
 
 pub sought_none : (s : Seek) → sought [] s ≡ s

@@ -1,28 +1,26 @@
 -- The nodes of a typed tree are those of its source, number by number.
-use Rattle.std.proofs.Common.{◌≡◌, ◌∙◌, ap, sym, refl, subst, slice_get, ℕ, zero, suc, ◌&&◌, not, Bool, true, false, cond, List, [], ◌∷◌, ◌++◌, Option, None, Some, is_some, option_map, option_and_then}
+use Rattle.std.proofs.Common.{◌≡◌, ap, refl, subst, slice_get, ℕ, zero, suc, ◌&&◌, not, Bool, true, false, cond, List, [], ◌∷◌, ◌++◌, Option, None, Some, is_some, option_map, option_and_then}
 use Rattle.std.proofs.lemmas.Option.{none-some, same_Some}
 use Rattle.nss_tree.specs.Places.{places, places_if, places_each, of_constant, places_declared, places_expr, places_exprs, places_identifier, places_item, places_line, places_parameter, places_stmt, places_stmts}
-use Rattle.nss_tree.specs.Source.{SourceDeclared, SourceItem, SourceLine, SourceParameter, SourceStmt, SourceStmts, SourceTree}
+use Rattle.nss_tree.specs.Source.{SourceDeclared, SourceItem, SourceLine, SourceParameter, SourceStmt, SourceStmts}
 use Rattle.nss_tree.specs.Expressions.{PlainExpr, PlainExprs}
-use Rattle.nss_tree.specs.Expressions as tree
 use Rattle.nss_tree.specs.declared.constants.Constant.{Constant}
 use Rattle.nss_tree.specs.declared.units.Identifier.{Identifier}
 use Rattle.nwq_value.specs.declared.value.Ty.{Ty}
 use Rattle.nwq_value.specs.declared.engine.Const.{Const}
 use Rattle.nwq_value.specs.declared.engine.Param.{Param}
-use Rattle.nwq_value.specs.Engine.{EngineTable}
 use Rattle.typing_rules.specs.Typed.{TypedExpr, TypedExprs, TypedItem, TypedLine, TypedName, TypedParameter, TypedStmt, TypedStmts, TypedUnit}
 use Rattle.typing_rules.specs.Typed as typed
 use Rattle.typing_rules.specs.Nodes.{There, absent, present}
-use Rattle.typing_rules.specs.Sight.{Called, Head, Meaning, Member, Sight, Structure, variable, constant, value_type, any_type, members_in}
+use Rattle.typing_rules.specs.Sight.{Called, Head, Meaning, Sight, Structure, variable, constant, value_type, any_type, members_in}
 use Rattle.typing_rules.specs.Rules.{call_of, filled, filled_call, is_barred, all_taken, member_at, named, parameter_of, assigned, when, head_of, TypedHead, Fields}
 use Rattle.typing_rules.specs.Types.{assigned_type, binary_type}
 use Rattle.typing_rules.specs.Meaning.{AllTypes, Types, TypesFields, TypesItem, TypesItems, TypesLines, TypesNames, TypesParams, TypesStmt, TypesStmts, TypesUnit, TypesValue}
 use Rattle.typing_rules.specs.Meaning as rules
-use Rattle.code_places.specs.Nodes.{Node, AnExpression, nodes_body, nodes_default, nodes_expr, nodes_exprs, nodes_fields, nodes_if, nodes_item, nodes_items, nodes_lines, nodes_names, nodes_parameters, nodes_stmt, nodes_stmts, unit_nodes}
+use Rattle.code_places.specs.Nodes.{Node, nodes_body, nodes_default, nodes_expr, nodes_exprs, nodes_fields, nodes_if, nodes_item, nodes_items, nodes_lines, nodes_names, nodes_parameters, nodes_stmt, nodes_stmts, unit_nodes}
 use Rattle.code_places.specs.Seeking.{node_at}
 use Rattle.code_places.proofs.Found.{places_hold}
-use Rattle.code_places.specs.Sources.{AreOf, IsOf, IsTyping, TokensAgree, TokensHold, expr_token, item_token, stmt_token}
+use Rattle.code_places.specs.Sources.{AreOf, IsOf, IsTyping, TokensAgree, TokensHold, expr_token}
 
 both : (ts us : List ℕ) (ns ms : List Node) → AreOf ts ns → AreOf us ms → AreOf (ts ++ us) (ns ++ ms)
 both [] us [] ms f g = g
@@ -51,9 +49,11 @@ then_is f (Some a) b e = (a, e)
 call_is : (at_file as_action : Bool) (xs : TypedExprs) (d : Option Called) (t : TypedExpr) → call_of at_file as_action xs d ≡ Some t
     → (d : Called) × ((ks : List Const) × (typed.call d.result d.callee xs ks ≡ t))
 call_is at_file as_action xs None t e = absurd (none-some t e)
-call_is at_file as_action xs (Some d) t e =
-    (d, map_is (λ ks. typed.call d.result d.callee xs ks) (filled xs d.params) t
-    (if_is (d.is_callable && (not (at_file && is_barred as_action d) && all_taken xs d.params)) (filled_call xs d) t e))
+call_is at_file as_action xs (Some d) t e = (
+  d,
+  map_is (λ ks. typed.call d.result d.callee xs ks) (filled xs d.params) t
+      (if_is (d.is_callable && (not (at_file && is_barred as_action d) && all_taken xs d.params)) (filled_call xs d) t e),
+)
 
 -- ---- expressions
 
@@ -119,9 +119,11 @@ mutual
       subst (λ z. AreOf (n ∷ (places_expr e ++ places_stmt a)) (nodes_stmt z)) (when_is _ _ s g)
       (refl, both (places_expr e) (places_stmt a) (nodes_expr t) (nodes_stmt u) (expr_of h) (stmt_of i))
   stmt_of (rules.TypesStmt.if_else c n {e = e} {a = a} {b = b} {t = t} {u = u} {v = v} {s = s} h i j g) =
-      subst (λ z. AreOf (n ∷ (places_expr e ++ (places_stmt a ++ places_stmt b))) (nodes_stmt z)) (when_is _ _ s g)
-      (refl, both (places_expr e) (places_stmt a ++ places_stmt b) (nodes_expr t) (nodes_stmt u ++ nodes_stmt v) (expr_of h)
-      (both (places_stmt a) (places_stmt b) (nodes_stmt u) (nodes_stmt v) (stmt_of i) (stmt_of j)))
+      subst (λ z. AreOf (n ∷ (places_expr e ++ (places_stmt a ++ places_stmt b))) (nodes_stmt z)) (when_is _ _ s g) (
+        refl,
+        both (places_expr e) (places_stmt a ++ places_stmt b) (nodes_expr t) (nodes_stmt u ++ nodes_stmt v) (expr_of h)
+            (both (places_stmt a) (places_stmt b) (nodes_stmt u) (nodes_stmt v) (stmt_of i) (stmt_of j)),
+      )
   stmt_of (rules.TypesStmt.while_loop c n {e = e} {a = a} {t = t} {u = u} {s = s} h i g) =
       subst (λ z. AreOf (n ∷ (places_expr e ++ places_stmt a)) (nodes_stmt z)) (when_is _ _ s g)
       (refl, both (places_expr e) (places_stmt a) (nodes_expr t) (nodes_stmt u) (expr_of h) (stmt_of i))
@@ -129,10 +131,12 @@ mutual
       subst (λ z. AreOf (n ∷ (places_stmt a ++ places_expr e)) (nodes_stmt z)) (when_is _ _ s g)
       (refl, both (places_stmt a) (places_expr e) (nodes_stmt u) (nodes_expr t) (stmt_of h) (expr_of i))
   stmt_of (rules.TypesStmt.for_loop c n {x = x} {y = y} {z = z} {a = a} {t = t} {u = u} {v = v} {w = w} {s = s} h i j k g) =
-      subst (λ q. AreOf (n ∷ (places_if places_expr x ++ (places_if places_expr y ++ (places_if places_expr z ++ places_stmt a)))) (nodes_stmt q)) (when_is _ _ s g)
-      (refl, both (places_if places_expr x) (places_if places_expr y ++ (places_if places_expr z ++ places_stmt a)) (nodes_if t) (nodes_if u ++ (nodes_if v ++ nodes_stmt w)) (some_of h)
-      (both (places_if places_expr y) (places_if places_expr z ++ places_stmt a) (nodes_if u) (nodes_if v ++ nodes_stmt w) (some_of i)
-      (both (places_if places_expr z) (places_stmt a) (nodes_if v) (nodes_stmt w) (some_of j) (stmt_of k))))
+      subst (λ q. AreOf (n ∷ (places_if places_expr x ++ (places_if places_expr y ++ (places_if places_expr z ++ places_stmt a)))) (nodes_stmt q)) (when_is _ _ s g) (
+        refl,
+        both (places_if places_expr x) (places_if places_expr y ++ (places_if places_expr z ++ places_stmt a)) (nodes_if t) (nodes_if u ++ (nodes_if v ++ nodes_stmt w)) (some_of h)
+            (both (places_if places_expr y) (places_if places_expr z ++ places_stmt a) (nodes_if u) (nodes_if v ++ nodes_stmt w) (some_of i)
+            (both (places_if places_expr z) (places_stmt a) (nodes_if v) (nodes_stmt w) (some_of j) (stmt_of k))),
+      )
   stmt_of (rules.TypesStmt.switch c n {e = e} {xs = xs} {t = t} {ts = ts} {s = s} h i g) =
       subst (λ z. AreOf (n ∷ (places_expr e ++ places_stmts xs)) (nodes_stmt z)) (when_is _ _ s g)
       (refl, both (places_expr e) (places_stmts xs) (nodes_expr t) (nodes_stmts ts) (expr_of h) (stmts_of i))
@@ -188,9 +192,11 @@ item_of {c = c} (rules.TypesItem.function n t x ps body {u = u} h) =
     let g = h.parts.0 in
     let v = then_is (λ y. head_of c x (is_some body) g.typed.2 (record { params = g.typed.0; result = y })) (any_type g.typed.1) h.typed.0 g.gives in
     let same = ap (λ (z : TypedHead). z.params) (when_is _ _ h.typed.0 v.1) in
-    subst (λ z. AreOf (n ∷ (places_each places_parameter ps ++ places_if places_stmts body)) (nodes_item z)) (when_is _ _ u h.gives)
-    (refl, both (places_each places_parameter ps) (places_if places_stmts body) (nodes_parameters h.typed.0.params) (nodes_body h.typed.1)
-    (subst (λ z. AreOf (places_each places_parameter ps) (nodes_parameters z)) same (params_of g.parts.0)) (body_of h.parts.1))
+    subst (λ z. AreOf (n ∷ (places_each places_parameter ps ++ places_if places_stmts body)) (nodes_item z)) (when_is _ _ u h.gives) (
+      refl,
+      both (places_each places_parameter ps) (places_if places_stmts body) (nodes_parameters h.typed.0.params) (nodes_body h.typed.1)
+          (subst (λ z. AreOf (places_each places_parameter ps) (nodes_parameters z)) same (params_of g.parts.0)) (body_of h.parts.1),
+    )
 
 items_of : {hs : List Head} {c : Sight} {is : List SourceItem} {ts : List TypedItem} → TypesItems hs c is ts → AreOf (places_each places_item is) (nodes_items ts)
 items_of (rules.TypesItems.none c) = tt
@@ -217,17 +223,22 @@ pub tokens_hold : TokensHold
 tokens_hold table tree u typed place token h =
     let told = both_some (λ n. slice_get (places tree) n) (node_at u place) token h in
     let held = places_hold u place told.0 told.1.0 in
-    let r = held.1.1 in
-    (held.0, (held.1.0, record {
-      before = r.before;
-      code = r.code;
-      behind = r.behind;
-      whole = r.whole;
-      from = r.from;
-      to = r.to;
-      is = record {
-        node = r.is.node;
-        has = of_number (places tree) (unit_nodes u) told.0 token r.is.node (tokens_agree table tree u typed) told.1.1 r.is.numbered;
-        is = r.is.is;
-      };
-    }))
+    let r = held.1.1 in (
+      held.0,
+      (
+        held.1.0,
+        record {
+          before = r.before;
+          code = r.code;
+          behind = r.behind;
+          whole = r.whole;
+          from = r.from;
+          to = r.to;
+          is = record {
+            node = r.is.node;
+            has = of_number (places tree) (unit_nodes u) told.0 token r.is.node (tokens_agree table tree u typed) told.1.1 r.is.numbered;
+            is = r.is.is;
+          };
+        },
+      ),
+    )

@@ -1,7 +1,7 @@
 -- Going over the marks of a statement that is known.
-use Rattle.std.proofs.Common.{◌≡◌, ◌∙◌, ap, ap₂, sym, refl, ℕ, Bool, ◌||◌, List, [], ◌∷◌, ◌++◌}
+use Rattle.std.proofs.Common.{◌≡◌, ◌∙◌, ap, ap₂, sym, ℕ, Bool, List, ◌∷◌}
 use Rattle.nss_tree.specs.declared.statements.Stmt.{Stmt}
-use Rattle.nss_tree.specs.Reading.{tree_of_stmt, tree_of_stmts}
+use Rattle.nss_tree.specs.Reading.{tree_of_stmt}
 use Rattle.nss_tree.specs.Readings.{stmts_more}
 use Rattle.nss_tree.specs.Statements.{PlainStmt, map_stmt, map_stmts}
 use Rattle.nwq_value.specs.declared.value.Ty.{Ty}
@@ -16,8 +16,8 @@ use Rattle.emission_rules.specs.Layout.{Layout, declared_cells}
 use Rattle.code_places.specs.declared.frame.Frame.{Frame}
 use Rattle.code_places.specs.declared.seek.Seek.{Seek}
 use Rattle.code_places.specs.Numbers.{Number, behind_stmt}
-use Rattle.code_places.specs.Marks.{Mark, mark, mark_if, some, deeper, marks, test_marks, tests_marks, stmt_marks, stmts_marks}
-use Rattle.code_places.specs.Seeking.{passed, sought}
+use Rattle.code_places.specs.Marks.{mark_if, some, deeper, marks, test_marks, stmt_marks, stmts_marks}
+use Rattle.code_places.specs.Seeking.{sought}
 use Rattle.code_places.proofs.Seeking.{parts}
 
 abbrev pub S : Type 0

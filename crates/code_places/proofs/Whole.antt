@@ -1,8 +1,7 @@
 -- The code of a whole unit has its marks.
-use Rattle.std.proofs.Common.{◌≡◌, ◌∙◌, ap, sym, subst, ℕ, List, [], ◌++◌, drop, Option, None, Some, ◌⊎◌, inl, inr, ◌+◌}
+use Rattle.std.proofs.Common.{◌≡◌, sym, subst, [], ◌++◌, drop, None, Some, ◌⊎◌, inl, inr, ◌+◌}
 use Rattle.std.proofs.lemmas.List.{append-nil}
 use Rattle.std.proofs.lemmas.Option.{same_Some}
-use Rattle.ncs_emit.specs.Labelled.{Line}
 use Rattle.typing_rules.specs.Typed.{TypedUnit}
 use Rattle.emission_rules.specs.Layout.{layout_of}
 use Rattle.emission_rules.specs.Units.{body_count, has_globals, start_labels, unit_code}

@@ -1,5 +1,5 @@
 -- What the marks of a unit tell of its code.
-use Rattle.std.specs.Prelude.{◌≡◌, ◌≤◌, ◌<◌, ℕ, zero, suc, ◌+◌, List, [], ◌∷◌, ◌++◌, map, length, slice_get, Option, None, Some}
+use Rattle.std.specs.Prelude.{◌≡◌, ◌≤◌, ◌<◌, ℕ, zero, suc, ◌+◌, List, [], ◌∷◌, ◌++◌, map, length, slice_get, None, Some}
 use Rattle.nss_tree.specs.Units.{function}
 use Rattle.ncs_code.specs.File.{header_size}
 use Rattle.ncs_emit.specs.Labelled.{Line, Instruction, JumpTo, Label, line_size, lines_size}

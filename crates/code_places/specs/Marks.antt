@@ -5,8 +5,6 @@
 use Rattle.std.specs.Prelude.{ℕ, zero, suc, Bool, true, false, not, ◌&&◌, ◌||◌, List, [], ◌∷◌, ◌++◌, map, Option, None, Some, if◌then◌else◌}
 use Rattle.nss_tree.specs.declared.operators.PrefixOperator.{PrefixOperator}
 use Rattle.nss_tree.specs.declared.operators.PrefixOperator.TheVariants as pre
-use Rattle.nss_tree.specs.declared.operators.AssignOperator.{AssignOperator}
-use Rattle.nss_tree.specs.declared.operators.AssignOperator.TheVariants as asg
 use Rattle.nss_tree.specs.Statements.{block, empty, expression, if_only, if_else, while_loop, do_loop, for_loop, switch, break_off, continue_on, return_from, declaration, case_label, default_label, no_stmt, more_stmts}
 use Rattle.nss_tree.specs.Units.{global, function}
 use Rattle.nwq_value.specs.declared.value.Ty.{Ty}
@@ -26,7 +24,7 @@ use Rattle.emission_rules.specs.Operations.{constant, operation}
 use Rattle.emission_rules.specs.Expressions.{Shortcut, WhereTrue, WhereFalse, Never, shortcut, is_set, result_room}
 use Rattle.emission_rules.specs.Units.{has_globals}
 use Rattle.code_places.specs.declared.frame.Frame.{Frame}
-use Rattle.code_places.specs.Numbers.{Number, next, behind, behind_if, behind_names, behind_stmt, behind_parameters, behind_item}
+use Rattle.code_places.specs.Numbers.{Number, next, behind, behind_if, behind_stmt, behind_parameters, behind_item}
 
 -- an instruction: how many bytes it takes, and whose it is
 pub record Mark : Type 0 where

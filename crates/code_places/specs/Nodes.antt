@@ -1,6 +1,6 @@
 -- The nodes of a typed tree in preorder: in the order, and as many, as `Tree::place` numbers those of
 -- its source.
-use Rattle.std.specs.Prelude.{ℕ, List, [], ◌∷◌, ◌++◌, Option, None, Some}
+use Rattle.std.specs.Prelude.{List, [], ◌∷◌, ◌++◌, Option, None, Some}
 use Rattle.nss_tree.specs.declared.units.Identifier.{Identifier}
 use Rattle.nss_tree.specs.Statements.{block, empty, expression, if_only, if_else, while_loop, do_loop, for_loop, switch, break_off, continue_on, return_from, declaration, case_label, default_label, no_stmt, more_stmts}
 use Rattle.nss_tree.specs.Units.{structure, constant, global, function}

@@ -1,5 +1,5 @@
 -- Going over instructions to the one that a byte of the code lies in.
-use Rattle.std.specs.Prelude.{ℕ, ◌-◌, nat_lt, List, [], ◌∷◌, Option, None, Some, slice_get, if◌then◌else◌}
+use Rattle.std.specs.Prelude.{ℕ, ◌-◌, nat_lt, List, [], ◌∷◌, Option, None, slice_get, if◌then◌else◌}
 use Rattle.std.specs.Option.{option_and_then}
 use Rattle.nss_tree.specs.Places.{places}
 use Rattle.nss_tree.specs.Source.{SourceTree}

@@ -42,12 +42,7 @@ fn both(a: bool, b: bool) -> bool
 /// The way behind the code of an expression.
 #[cycle(expressions)]
 #[tactic(auto, using(typing_rules::specs::Readings::known))]
-pub(crate) fn seek_expr(
-    layout: &Layout,
-    e: &Expression,
-    node: Option<u32>,
-    seek: Seek,
-) -> Seek
+pub(crate) fn seek_expr(layout: &Layout, e: &Expression, node: Option<u32>, seek: Seek) -> Seek
     ensures { result ≡ sought (marks.marks layout.now node (plain e.now)) seek }
 {
     let part = next(node);

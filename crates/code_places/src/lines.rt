@@ -26,11 +26,12 @@ fn pass_started(seek: Seek, cells: &[Ty], node: Option<u32>) -> Seek
 }
 
 /// Goes over the starting value of a type.
+#[tactic(auto, using(crate::proofs::Seeking::seek_laws))]
 pub(crate) fn pass_start(seek: Seek, layout: &Layout, ty: Ty, node: Option<u32>) -> Seek
     ensures { result ≡ sought (marks.started_marks node (cell_types layout.now.structs ty)) seek }
 {
     match ty {
-        Ty::Void => pass_started(seek, &[], node),
+        Ty::Void => seek,
         Ty::Struct(number) => pass_started(seek, layout.struct_cells(number), node),
         Ty::Int | Ty::Text | Ty::Object | Ty::Effect | Ty::Event | Ty::Action | Ty::Refused =>
             pass_started(seek, &[ty], node),
@@ -38,6 +39,7 @@ pub(crate) fn pass_start(seek: Seek, layout: &Layout, ty: Ty, node: Option<u32>)
 }
 
 /// Goes over the room for the result of a call.
+#[tactic(auto, using(crate::proofs::Seeking::seek_laws))]
 pub(crate) fn pass_room(
     seek: Seek,
     layout: &Layout,
@@ -50,7 +52,7 @@ pub(crate) fn pass_room(
 {
     match callee {
         Callee::Unit(_) => pass_start(seek, layout, ty, node),
-        Callee::Engine(_) => pass_started(seek, &[], node),
+        Callee::Engine(_) => seek,
     }
 }
 
@@ -89,6 +91,7 @@ pub(crate) fn pass_name(seek: Seek, place: &Place, node: Option<u32>) -> Seek
 }
 
 /// Goes over what a prefix does before its value.
+#[tactic(auto, using(crate::proofs::Seeking::seek_laws))]
 pub(crate) fn before_prefix(
     seek: Seek,
     operator: PrefixOperator,
@@ -98,24 +101,25 @@ pub(crate) fn before_prefix(
     ensures { result ≡ sought (marks.before_prefix node operator place) seek }
 {
     match operator {
-        PrefixOperator::Minus => pass_if(seek, false, 0, node),
-        PrefixOperator::Complement => pass_if(seek, false, 0, node),
-        PrefixOperator::Not => pass_if(seek, false, 0, node),
+        PrefixOperator::Minus => seek,
+        PrefixOperator::Complement => seek,
+        PrefixOperator::Not => seek,
         PrefixOperator::Increment => pass_if(seek, place, 6, node),
         PrefixOperator::Decrement => pass_if(seek, place, 6, node),
     }
 }
 
 /// Goes over what a prefix does behind its value.
+#[tactic(auto, using(crate::proofs::Seeking::seek_laws))]
 pub(crate) fn behind_prefix(seek: Seek, operator: PrefixOperator, node: Option<u32>) -> Seek
     ensures { result ≡ sought (marks.behind_prefix node operator) seek }
 {
     match operator {
-        PrefixOperator::Minus => pass_if(seek, true, 2, node),
-        PrefixOperator::Complement => pass_if(seek, true, 2, node),
-        PrefixOperator::Not => pass_if(seek, true, 2, node),
-        PrefixOperator::Increment => pass_if(seek, false, 0, node),
-        PrefixOperator::Decrement => pass_if(seek, false, 0, node),
+        PrefixOperator::Minus => pass(seek, 2, node),
+        PrefixOperator::Complement => pass(seek, 2, node),
+        PrefixOperator::Not => pass(seek, 2, node),
+        PrefixOperator::Increment => seek,
+        PrefixOperator::Decrement => seek,
     }
 }
 
@@ -179,6 +183,7 @@ fn pass_and(seek: Seek, size: u32, node: Option<u32>) -> Seek
 }
 
 /// Goes over what stands between the operands.
+#[tactic(auto, using(crate::proofs::Seeking::seek_laws))]
 pub(crate) fn between(seek: Seek, operator: BinaryOperator, size: u32, node: Option<u32>) -> Seek
     ensures { result ≡ sought (marks.between node (code.shortcut operator) size) seek }
 {
@@ -201,7 +206,7 @@ pub(crate) fn between(seek: Seek, operator: BinaryOperator, size: u32, node: Opt
         | BinaryOperator::Subtract
         | BinaryOperator::Multiply
         | BinaryOperator::Divide
-        | BinaryOperator::Remainder => pass_if(seek, false, 0, node),
+        | BinaryOperator::Remainder => seek,
     }
 }
 

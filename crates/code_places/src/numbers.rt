@@ -88,7 +88,11 @@ pub(crate) fn behind_stmt(node: Option<u32>, stmt: &TypedStmt) -> Option<u32>
         Stmt::Block { items, .. } => behind_stmts(node, items.as_slice()),
         Stmt::Empty { .. } => node,
         Stmt::Expression { value, .. } => behind(node, value),
-        Stmt::If { condition, then, .. } => behind_stmt(behind(node, condition), then),
+        Stmt::If {
+            condition,
+            then,
+            ..
+        } => behind_stmt(behind(node, condition), then),
         Stmt::IfElse {
             condition,
             then,
@@ -98,8 +102,16 @@ pub(crate) fn behind_stmt(node: Option<u32>, stmt: &TypedStmt) -> Option<u32>
             let node = behind_stmt(behind(node, condition), then);
             behind_stmt(node, otherwise)
         }
-        Stmt::While { condition, body, .. } => behind_stmt(behind(node, condition), body),
-        Stmt::Do { body, condition, .. } => behind(behind_stmt(node, body), condition),
+        Stmt::While {
+            condition,
+            body,
+            ..
+        } => behind_stmt(behind(node, condition), body),
+        Stmt::Do {
+            body,
+            condition,
+            ..
+        } => behind(behind_stmt(node, body), condition),
         Stmt::For {
             start,
             condition,
@@ -162,10 +174,7 @@ fn behind_default(node: Option<u32>, default: &Option<Const>) -> Option<u32>
 }
 
 /// The number behind parameters.
-pub(crate) fn behind_parameters(
-    mut node: Option<u32>,
-    parameters: &[TypedParameter],
-) -> Option<u32>
+pub(crate) fn behind_parameters(mut node: Option<u32>, parameters: &[TypedParameter]) -> Option<u32>
     ensures { result ≡ numbers.behind_parameters node parameters.now }
 {
     for parameter in parameters {

@@ -18,6 +18,7 @@ use nss_tree::Stmt;
 use typing_rules::{Expression, TypedName, TypedStmt};
 
 /// The way behind an expression of the statement `of` that is there for its effect alone.
+#[tactic(auto, using(crate::proofs::Seeking::seek_laws))]
 fn seek_effect(
     layout: &Layout,
     e: &Option<Expression>,
@@ -29,7 +30,7 @@ fn seek_effect(
         ≡ sought (marks.evaluated_marks layout.now of node (option_map plain e.now)) seek }
 {
     match e {
-        None => pass_if(seek, false, 0, of),
+        None => seek,
         Some(e) => {
             let seek = seek_expr(layout, e, node, seek);
             pass_if(seek, has_cells(layout, e.ty()), 6, of)
@@ -38,6 +39,7 @@ fn seek_effect(
 }
 
 /// The way behind the test of a loop: one that is left out is true.
+#[tactic(auto, using(crate::proofs::Seeking::seek_laws))]
 fn seek_tested(
     layout: &Layout,
     e: &Option<Expression>,
@@ -49,7 +51,7 @@ fn seek_tested(
         ≡ sought (marks.tested_marks layout.now of node (option_map plain e.now)) seek }
 {
     match e {
-        None => pass_if(seek, true, 6, of),
+        None => pass(seek, 6, of),
         Some(e) => seek_expr(layout, e, node, seek),
     }
 }
@@ -160,7 +162,11 @@ pub(crate) fn seek_stmt(
             let seek = seek_expr(layout, value, part, seek);
             pass_if(seek, has_cells(layout, value.ty()), 6, node)
         }
-        Stmt::If { condition, then, .. } => {
+        Stmt::If {
+            condition,
+            then,
+            ..
+        } => {
             let seek = pass(seek_expr(layout, condition, part, seek), 6, node);
             seek_stmt(layout, frame, then, behind(part, condition), seek)
         }
@@ -176,13 +182,21 @@ pub(crate) fn seek_stmt(
             let seek = pass(seek_stmt(layout, frame, then, first, seek), 6, node);
             seek_stmt(layout, frame, otherwise, second, seek)
         }
-        Stmt::While { condition, body, .. } => {
+        Stmt::While {
+            condition,
+            body,
+            ..
+        } => {
             let first = behind(part, condition);
             let seek = pass(seek_expr(layout, condition, part, seek), 6, node);
             let seek = seek_stmt(layout, loop_frame(frame), body, first, seek);
             pass(seek, 6, node)
         }
-        Stmt::Do { body, condition, .. } => {
+        Stmt::Do {
+            body,
+            condition,
+            ..
+        } => {
             let second = behind_stmt(part, body);
             let seek = seek_stmt(layout, loop_frame(frame), body, part, seek);
             pass(seek_expr(layout, condition, second, seek), 6, node)

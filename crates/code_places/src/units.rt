@@ -42,14 +42,15 @@ fn has_globals(items: &[TypedItem]) -> bool
 }
 
 /// The way behind the first values of an item's globals.
+#[tactic(auto, using(crate::proofs::Seeking::seek_laws))]
 fn seek_global(layout: &Layout, item: &TypedItem, node: Option<u32>, seek: Seek) -> Seek
     ensures { result ≡ sought (marks.global_marks layout.now node (typed_item item.now)) seek }
 {
     match item {
-        Item::Struct { .. } => pass_if(seek, false, 0, node),
-        Item::Const { .. } => pass_if(seek, false, 0, node),
+        Item::Struct { .. } => seek,
+        Item::Const { .. } => seek,
         Item::Global { names, .. } => seek_names(layout, names.as_slice(), next(node), seek),
-        Item::Function { .. } => pass_if(seek, false, 0, node),
+        Item::Function { .. } => seek,
     }
 }
 
@@ -85,19 +86,20 @@ fn seek_function(
 }
 
 /// The way behind the code of an item, if it is a function with a body.
+#[tactic(auto, using(crate::proofs::Seeking::seek_laws))]
 fn seek_item(layout: &Layout, item: &TypedItem, node: Option<u32>, seek: Seek) -> Seek
     ensures { result ≡ sought (marks.item_marks layout.now node (typed_item item.now)) seek }
 {
     match item {
-        Item::Struct { .. } => pass_if(seek, false, 0, node),
-        Item::Const { .. } => pass_if(seek, false, 0, node),
-        Item::Global { .. } => pass_if(seek, false, 0, node),
+        Item::Struct { .. } => seek,
+        Item::Const { .. } => seek,
+        Item::Global { .. } => seek,
         Item::Function {
             parameters,
             body,
             ..
         } => match body {
-            None => pass_if(seek, false, 0, node),
+            None => seek,
             Some(body) => {
                 seek_function(layout, parameters.as_slice(), body.as_slice(), node, seek)
             }
@@ -119,11 +121,12 @@ fn seek_functions(layout: &Layout, items: &[TypedItem], mut seek: Seek) -> Seek
 }
 
 /// The way behind the call of the function that a script begins with.
+#[tactic(auto, using(crate::proofs::Seeking::seek_laws))]
 fn seek_entry(entry: EntryPoint, seek: Seek) -> Seek
     ensures { result ≡ sought (marks.entry_marks entry) seek }
 {
     match entry {
-        EntryPoint::Main(_) => pass_if(seek, true, 6, None),
+        EntryPoint::Main(_) => pass(seek, 6, None),
         EntryPoint::Conditional(_) => {
             let seek = pass(seek, 2, None);
             pass(pass(seek, 6, None), 6, None)

@@ -1,4 +1,4 @@
-use Rattle.std.proofs.Common.{◌≡◌, ◌∙◌, ◌||◌, ap, sym}
+use Rattle.std.proofs.Common.{◌∙◌, ◌||◌, ap}
 use Rattle.nss_tree.specs.Readings.{stmts_more}
 use Rattle.nss_tree.specs.Reading.{tree_of_stmts}
 use Rattle.nss_tree.specs.Statements.{map_stmts}

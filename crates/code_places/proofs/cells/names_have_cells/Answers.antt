@@ -1,4 +1,4 @@
-use Rattle.std.proofs.Common.{◌≡◌, ◌∙◌, ◌||◌, ap, sym}
+use Rattle.std.proofs.Common.{◌||◌}
 use Rattle.typing_rules.specs.UnitReading.{typed_names}
 use Rattle.typing_rules.specs.Cells.{cells}
 use Rattle.emission_rules.specs.Layout.{names_cells}

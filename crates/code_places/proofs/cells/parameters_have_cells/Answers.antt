@@ -1,4 +1,4 @@
-use Rattle.std.proofs.Common.{◌≡◌, ◌∙◌, ◌||◌, ap, sym}
+use Rattle.std.proofs.Common.{◌||◌}
 use Rattle.typing_rules.specs.Cells.{cells}
 use Rattle.emission_rules.specs.Layout.{params_cells}
 use Rattle.code_places.specs.Marks.{some}

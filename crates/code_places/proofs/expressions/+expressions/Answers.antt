@@ -1,4 +1,4 @@
-use Rattle.std.proofs.Common.{◌≡◌, ◌∙◌, ap, ap₂, sym, arith, ℕ, length, take, drop, []}
+use Rattle.std.proofs.Common.{◌≡◌, ◌∙◌, ap, ap₂, sym, arith, length, take, drop}
 use Rattle.std.proofs.lemmas.List.{drop_all}
 use Rattle.typing_rules.specs.Reading.{plain, plain_all}
 use Rattle.typing_rules.specs.Readings.{plain_all_none, plain_assign, plain_binary, plain_call, plain_literal, plain_member, plain_name, plain_postfix, plain_prefix}
@@ -15,20 +15,21 @@ use Rattle.code_places.proofs.expressions.+expressions.Goals as goal
 
 pub seek_arguments-loop-i-init : goal.seek_arguments-loop-i-init
 seek_arguments-loop-i-init t c =
-    let first = numbers.behind_all c.args.node (plain_all (take (length c.args.arguments.now) c.args.arguments.now)) in
-    (omega arith,
+    let first = numbers.behind_all c.args.node (plain_all (take (length c.args.arguments.now) c.args.arguments.now)) in (
+      omega arith,
       nothing c.args.seek
-      ∙ (ap (λ ys. sought (marks.marks_all c.args.layout.now c.args.of first ys) c.args.seek) (sym plain_all_none)
-      ∙ ap (λ ys. sought (marks.marks_all c.args.layout.now c.args.of first (plain_all ys)) c.args.seek)
-      (sym (drop_all (length c.args.arguments.now) c.args.arguments.now (omega arith)))))
+          ∙ (ap (λ ys. sought (marks.marks_all c.args.layout.now c.args.of first ys) c.args.seek) (sym plain_all_none)
+          ∙ ap (λ ys. sought (marks.marks_all c.args.layout.now c.args.of first (plain_all ys)) c.args.seek)
+          (sym (drop_all (length c.args.arguments.now) c.args.arguments.now (omega arith)))),
+    )
 
 pub seek_arguments-loop-i-preserved : goal.seek_arguments-loop-i-preserved
 seek_arguments-loop-i-preserved t c = (
   omega (arith, c.loop-i.invariant.0),
   argument_step c.args.layout.now c.args.of c.args.node c.behind_all-number.result c.args.arguments.now c.loop-i.i c.index-arguments-i.result c.args.seek c.loop-i.seek _
-  c.index-arguments-i.is c.loop-i-test.true c.loop-i.invariant.0 c.behind_all-number.ensures c.loop-i.invariant.1
-  (argument_gone c.args.layout.now c.args.of c.behind_all-number.result (plain c.index-arguments-i.result) c.is_action-captured.result c.loop-i.seek _ _ _ _
-  c.is_action-captured.ensures c.pass_if-seek.ensures c.pass_if-seek-in-loop-i.ensures c.seek_expr-seek.ensures c.pass_if-seek-in-loop-i-2.ensures),
+      c.index-arguments-i.is c.loop-i-test.true c.loop-i.invariant.0 c.behind_all-number.ensures c.loop-i.invariant.1
+      (argument_gone c.args.layout.now c.args.of c.behind_all-number.result (plain c.index-arguments-i.result) c.is_action-captured.result c.loop-i.seek _ _ _ _
+      c.is_action-captured.ensures c.pass_if-seek.ensures c.pass_if-seek-in-loop-i.ensures c.seek_expr-seek.ensures c.pass_if-seek-in-loop-i-2.ensures),
 )
 
 pub seek_arguments-returns : goal.seek_arguments-returns

@@ -1,4 +1,4 @@
-use Rattle.std.proofs.Common.{◌≡◌, ◌∙◌, ap, sym, arith, drop, length, ℕ}
+use Rattle.std.proofs.Common.{◌≡◌, ◌∙◌, ap, sym, arith, drop, length}
 use Rattle.std.proofs.lemmas.List.{drop_all}
 use Rattle.code_places.specs.Marks as marks
 use Rattle.code_places.specs.Seeking.{sought}
@@ -16,7 +16,7 @@ pub loop-i-preserved : goal.loop-i-preserved
 loop-i-preserved c = (
   omega (arith, c.loop-i.invariant.0),
   parts c.args.seek _ _ c.loop-i.invariant.1 (last c.loop-i.seek _ c.pass_constant-seek.ensures)
-  ∙ sym (back (λ ys. sought (marks.constants_marks c.args.node ys) c.args.seek) _ _ _ c.index-constants-i.is c.loop-i-test.true c.loop-i.invariant.0),
+      ∙ sym (back (λ ys. sought (marks.constants_marks c.args.node ys) c.args.seek) _ _ _ c.index-constants-i.is c.loop-i-test.true c.loop-i.invariant.0),
 )
 
 pub returns : goal.returns

@@ -1,4 +1,4 @@
-use Rattle.std.proofs.Common.{◌∙◌, ap, ap₂, refl, sym, option_map}
+use Rattle.std.proofs.Common.{◌∙◌, ap, ap₂, refl, option_map}
 use Rattle.nss_tree.specs.Reading.{tree_of_stmts}
 use Rattle.nss_tree.specs.Readings.{tree_block, tree_break_off, tree_case_label, tree_continue_on, tree_declaration, tree_default_label, tree_do_loop, tree_empty, tree_expression, tree_for_loop, tree_if_else, tree_if_only, tree_return_from, tree_switch, tree_while_loop}
 use Rattle.typing_rules.specs.Reading.{plain}

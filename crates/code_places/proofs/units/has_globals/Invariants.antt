@@ -1,4 +1,4 @@
-use Rattle.std.proofs.Common.{◌≡◌, ◌||◌, Some, drop}
+use Rattle.std.proofs.Common.{◌≡◌, ◌||◌, drop}
 use Rattle.typing_rules.specs.UnitReading.{typed_items}
 use Rattle.emission_rules.specs.Units as code
 use Rattle.code_places.proofs.units.has_globals.Given as goal

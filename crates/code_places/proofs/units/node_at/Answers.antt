@@ -1,4 +1,4 @@
-use Rattle.std.proofs.Common.{◌≡◌, ◌∙◌, ◌≤◌, ◌-◌, ap, ap₂, sym, refl, arith, ℕ, Bool, true, false, ltb, ltb-true, cond, List, Some, None}
+use Rattle.std.proofs.Common.{◌≡◌, ◌∙◌, ◌≤◌, ◌-◌, ap, ap₂, refl, arith, ℕ, Bool, true, false, ltb, ltb-true, cond, List, Some, None}
 use Rattle.nss_tree.specs.declared.units.Item.{Item}
 use Rattle.nwq_value.specs.declared.value.Ty.{Ty}
 use Rattle.nwq_value.specs.declared.engine.Const.{Const}

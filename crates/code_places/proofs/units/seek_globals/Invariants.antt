@@ -1,4 +1,4 @@
-use Rattle.std.proofs.Common.{◌≡◌, ◌||◌, Some, drop}
+use Rattle.std.proofs.Common.{◌≡◌, Some, drop}
 use Rattle.typing_rules.specs.UnitReading.{typed_items}
 use Rattle.code_places.specs.Marks as marks
 use Rattle.code_places.specs.Seeking.{sought}
