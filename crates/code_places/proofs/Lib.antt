@@ -8,3 +8,4 @@ pub mod Stmts
 pub mod Found
 pub mod Examples
 pub mod Sources
+pub mod Inside

@@ -621,7 +621,7 @@ module _ (l : Layout) (all : List Node) where
   from_item k (item.global m t ds) rest f = from_names (next k) ds rest (from_next f)
   from_item k (item.function m t x ps body) rest f = from_body (behind_parameters (next k) ps) body rest (from_function k m t x ps body rest f)
 
-  function_marked : (n f : ℕ) (k : Number) (m : ℕ) (t : Ty) (x : List ℕ) (ps : List TypedParameter) (body : TypedStmts) (rest : List Node)
+  pub function_marked : (n f : ℕ) (k : Number) (m : ℕ) (t : Ty) (x : List ℕ) (ps : List TypedParameter) (body : TypedStmts) (rest : List Node)
       → From all k (nodes_item (item.function m t x ps (Some body)) ++ rest) → Marked Code None (emit_function l n f ps body) (function_marks l k ps body)
   function_marked n f k m t x ps body rest g =
       owned.node Code (λ j is. record {

@@ -9,9 +9,9 @@ use Rattle.emission_rules.specs.Layout.{Layout, layout_of}
 use Rattle.emission_rules.specs.Expressions.{emit}
 use Rattle.emission_rules.specs.Statements.{Exits, emit_stmt, initial}
 use Rattle.emission_rules.specs.Units.{emit_function, unit_code}
-use Rattle.code_places.specs.Nodes.{Node, AnExpression, AStatement, AName, AnItem, unit_nodes}
+use Rattle.code_places.specs.Nodes.{Node, AnExpression, AStatement, AName, AnItem, nodes_expr, nodes_item, unit_nodes}
 use Rattle.code_places.specs.Numbers.{Number}
-use Rattle.code_places.specs.Marks.{Mark, unit_marks}
+use Rattle.code_places.specs.Marks.{Mark, function_marks, marks, unit_marks}
 use Rattle.code_places.specs.Seeking.{node_at}
 
 -- the lines that are instructions: labels take no byte
@@ -85,3 +85,14 @@ abbrev pub PlacesHold : Type 0
 PlacesHold = (u : TypedUnit) (place number : ℕ) → node_at u place ≡ Some number
     → (i : ℕ) × (LiesIn (unit_code u).lines place i
     × StandsIn (HasCode (layout_of u) (unit_nodes u)) (unit_code u).lines i number)
+
+-- The instructions of a node's code, wherever it stands, are the node's or those of nodes in it: by
+-- their numbers, of which the node has the first. So the marks of a part, which stand where its code
+-- does, are none of the node around it; and those of a function are of nodes in the function.
+pub record NodesOwn : Type 0 where
+  pub exprs : (l : Layout) (k : ℕ) (e : TypedExpr) (i number : ℕ)
+      → owner (marks l (Some k) e) i ≡ Some number
+      → (k ≤ number) × (number < k + length (nodes_expr e))
+  pub functions : (l : Layout) (k m : ℕ) (t : Ty) (x : List ℕ) (ps : List TypedParameter)
+      (body : TypedStmts) (i number : ℕ) → owner (function_marks l (Some k) ps body) i ≡ Some number
+      → (k ≤ number) × (number < k + length (nodes_item (function m t x ps (Some body))))

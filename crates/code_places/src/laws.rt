@@ -1,6 +1,6 @@
 //! What the marks of a unit tell of its code.
 
-ghost use Rattle.code_places.specs.Laws.{OwnersHold, PlacesHold, SizesAgree};
+ghost use Rattle.code_places.specs.Laws.{NodesOwn, OwnersHold, PlacesHold, SizesAgree};
 ghost use Rattle.code_places.specs.Sources.{TokensAgree, TokensHold};
 
 /// Each instruction of a unit's code has a mark, with its size.
@@ -11,6 +11,11 @@ pub fn sizes_agree()
 /// Each stands in the code of the node that its mark names.
 pub fn owners_hold()
     ensures owners { OwnersHold }
+{}
+
+/// The instructions of a node's code are the node's or those of nodes in it.
+pub fn nodes_own()
+    ensures own { NodesOwn }
 {}
 
 /// The byte at a place for which a node is told lies in an instruction that stands in that node's

@@ -10,7 +10,8 @@
 //! an instruction stands in the code of the node that its mark names (`owners_hold`), so does the
 //! byte at a place (`places_hold`), and in a typed unit the token of a node's number is the node's
 //! (`tokens_agree`): so the byte at a place for which a token is told lies in the code of a node of
-//! that token (`tokens_hold`). The page on it is docs/CODE.md.
+//! that token (`tokens_hold`). The marks of an expression and of a function name nodes in it alone
+//! (`nodes_own`). The page on it is docs/CODE.md.
 #![tactic(auto)]
 
 mod cells;
