@@ -24,8 +24,8 @@ pub fn places_hold()
     ensures places { PlacesHold }
 {}
 
-/// In a typed unit the token of a node's number is the node's: of an expression the token of the one
-/// that it is the typing of.
+/// In a typed unit the token of a node's number is the node's: an expression is the typing of one
+/// that has it.
 pub fn tokens_agree()
     ensures tokens { TokensAgree }
 {}
