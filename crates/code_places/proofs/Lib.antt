@@ -1,0 +1,11 @@
+pub mod Owned
+pub mod Owners
+pub mod Whole
+pub mod Seeking
+pub mod Loops
+pub mod Exprs
+pub mod Stmts
+pub mod Found
+pub mod Examples
+pub mod Sources
+pub mod Inside

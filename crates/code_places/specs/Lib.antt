@@ -1,0 +1,6 @@
+pub mod Nodes
+pub mod Numbers
+pub mod Marks
+pub mod Seeking
+pub mod Laws
+pub mod Sources
