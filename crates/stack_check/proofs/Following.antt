@@ -1,6 +1,7 @@
 -- What is kept where a shape is reached that every table has.
-use Rattle.std.proofs.Common.{arith, ◌≡◌, ℕ, List, [], ◌∷◌, ◌++◌, inl, inr, ◌⊎◌, sym, subst, ◌∙◌, ap, refl, Some, slice_get}
+use Rattle.std.proofs.Common.{arith, ◌≡◌, ◌≤◌, ◌+◌, ℕ, List, length, map, [], ◌∷◌, ◌++◌, inl, inr, ◌⊎◌, sym, subst, ◌∙◌, ap, refl, Some, slice_get}
 use Rattle.std.specs.Prelude.{Result, Ok, Err, IfOk, Contains}
+use Rattle.std.proofs.lemmas.List.{length-append, length-map}
 use Rattle.std.proofs.lemmas.List.Elements.{Contains-append_left}
 use Rattle.nwq_value.specs.Engine.{EngineTable}
 use Rattle.ncs_code.specs.Plain.{PlainOp}
@@ -16,9 +17,11 @@ use Rattle.stack_check.specs.declared.seen.Seen.TheVariants.{Quiet, Changed, Bad
 use Rattle.stack_check.specs.declared.leads.Lead.TheVariants.{One, Two}
 use Rattle.stack_lists.specs.Held.{IsIn, shape_of}
 use Rattle.stack_lists.specs.Rows.{row_in}
+use Rattle.stack_lists.specs.declared.todo.Again.{Again}
+use Rattle.stack_lists.specs.declared.todo.Call.{Call}
 use Rattle.stack_lists.specs.declared.todo.Spot.{Spot}
-use Rattle.stack_lists.specs.Worklist.{CallKept, SameCalls, Worklist, waiting}
-use Rattle.stack_check.specs.Inference.{CallsAgain, CallsOfWait, CallsWait, IsKept, IsNext, Keeps, NothingNew, Visited, WhereQuiet, Owed, RowIs, Reached, RowsKept, Takes, AllLed, after_change}
+use Rattle.stack_lists.specs.Worklist.{CallKept, CallersAdded, SameCalls, Worklist, spot_of, waiting}
+use Rattle.stack_check.specs.Inference.{Adds, AddsCalls, CallsAgain, CallsOfWait, CallsWait, IsKept, IsNext, Keeps, NothingNew, Visited, WhereQuiet, Owed, RowIs, Reached, RowsKept, Takes, AllLed, after_change}
 use Rattle.stack_check.specs.Facts.{FindsMore}
 use Rattle.stack_check.proofs.Left.{more_row}
 use Rattle.stack_check.proofs.Steps.{step_kept}
@@ -83,7 +86,7 @@ takes_both P before mid after seen now l t q e = subst (λ s. Takes before after
   where
     both : (seen : Seen) → Takes mid after seen → WhereQuiet seen ((after ≡ mid) × P) → Takes before after (after_change seen)
     both Quiet t q = subst (λ f. FindsMore before f) (sym q.0) l
-    both Changed t q = record { left = omega (arith, l.left, t.left); found = omega (arith, l.found, t.found) }
+    both Changed t q = record { left = omega (arith, l.left, t.left); found = omega (arith, l.found, t.found); rows = omega (arith, l.rows, t.rows) }
     both Bad t q = tt
 
 pub changed_keeps : (header : EngineTable) (code : List PlainOp) (heap : Heap) (after : Facts) (seen now : Seen) → now ≡ after_change seen
@@ -158,6 +161,13 @@ next_of a b spot h = record { others = waiting a; is = h }
 pub kept_of : (a b : Worklist) (row target : ℕ) (spot : Spot) → CallKept a b row (record { spot = spot; target = target }) → IsKept b target spot
 kept_of a b row target spot k = k.here
 
+waiting_length : (w : Worklist) → length (waiting w) ≡ length w.later + length w.soon + length w.first
+waiting_length w =
+    let x = length-append (map spot_of (w.later ++ w.soon)) w.first in
+    let y = length-map (w.later ++ w.soon) spot_of in
+    let z = length-append w.later w.soon in
+    omega (arith, x, y, z)
+
 -- what was handed in before the spot waits, too
 wait_more : (a mid b c : Worklist) (entry : Entry) (spot : Spot) → SameCalls a mid → CallsAgain mid b entry → waiting c ≡ waiting b ++ spot ∷ []
     → CallsWait a c entry
@@ -171,8 +181,117 @@ pub calls_wait : (a mid b c : Worklist) (facts : Facts) (number : ℕ) (trial : 
     → SameCalls a mid → CallsAgain mid b trial.entry → waiting c ≡ waiting b ++ spot ∷ [] → CallsOfWait a c facts number
 calls_wait a mid b c facts number trial spot h s again w = record { trial = trial; has = h; by = wait_more a mid b c trial.entry spot s again w }
 
+-- ---- how many are handed in
+
+pub adds_none : (a : Worklist) (n : ℕ) → Adds a a n
+adds_none a n = record { few = omega arith; longer = omega arith }
+
+pub adds_spot : (a b : Worklist) (spot : Spot) (n : ℕ) → waiting b ≡ waiting a ++ spot ∷ [] → SameCalls a b → 1 ≤ n → Adds a b n
+adds_spot a b spot n w s l = record {
+  few = let x = ap (λ (z : List Spot). length z) w ∙ length-append (waiting a) (spot ∷ []) in omega (arith, x, l);
+  longer = let c = s.count in omega (arith, c);
+}
+
+pub adds_then : (a b c : Worklist) (m n : ℕ) → Adds a b m → Adds b c n → Adds a c (m + n)
+adds_then a b c m n h k = record { few = omega (arith, h.few, k.few); longer = omega (arith, h.longer, k.longer) }
+
+pub adds_two : (a b c : Worklist) → Adds a b 1 → Adds b c 1 → Adds a c 2
+adds_two a b c h k = adds_then a b c 1 1 h k
+
+pub adds_up : (a b : Worklist) (n : ℕ) → Adds a b 1 → 1 ≤ n → Adds a b n
+adds_up a b n h l = record { few = omega (arith, h.few, l); longer = h.longer }
+
+pub calls_of_spots : (a b : Worklist) (m n : ℕ) → Adds a b m → m ≤ n → AddsCalls a b n
+calls_of_spots a b m n h l = record { few = omega (arith, h.few, l); longer = h.longer }
+
+pub adds_calls_none : (a : Worklist) (n : ℕ) → AddsCalls a a n
+adds_calls_none a n = record { few = omega arith; longer = omega arith }
+
+pub adds_calls_up : (a b : Worklist) (m n : ℕ) → AddsCalls a b m → m ≤ n → AddsCalls a b n
+adds_calls_up a b m n h l = record { few = omega (arith, h.few, l); longer = h.longer }
+
+pub adds_calls_then : (a b c : Worklist) (m n : ℕ) → AddsCalls a b m → Adds b c n → AddsCalls a c (m + n)
+adds_calls_then a b c m n h k = record { few = omega (arith, h.few, k.few, k.longer); longer = omega (arith, h.longer, k.longer) }
+
+pub adds_calls_from : (a b c : Worklist) (m n : ℕ) → b ≡ a → Adds b c m → m ≤ n → AddsCalls a c n
+adds_calls_from a b c m n e h l = calls_of_spots a c m n (subst (λ w. Adds w c m) e h) l
+
+-- a call more is kept, and waits no more than before
+pub adds_calls_kept : (a b c : Worklist) (row n : ℕ) (call : Call) → AddsCalls a b n → waiting c ≡ waiting b → CallKept b c row call → AddsCalls a c n
+adds_calls_kept a b c row n call h w k = record {
+  few = let x = ap (λ (z : List Spot). length z) w in omega (arith, x, h.few, k.longer);
+  longer = omega (arith, h.longer, k.longer);
+}
+
+callers_few : (a b : Worklist) (target : ℕ) → CallersAdded a b target → AddsCalls a b 0
+callers_few a b target k = record {
+  few =
+      let later = ap (λ (z : List Again). length z) k.later ∙ length-append a.later k.added in
+      let soon = ap (λ (z : List Again). length z) k.soon in
+      let first = ap (λ (z : List Spot). length z) k.first in
+      let x = waiting_length a in
+      let y = waiting_length b in
+      omega (arith, later, soon, first, x, y, k.few, k.calls.count);
+  longer = let c = k.calls.count in omega (arith, c);
+}
+
+again_few : (a b : Worklist) (entry : Entry) → CallsAgain a b entry → AddsCalls a b 0
+again_few a b Start e = subst (λ w. AddsCalls a w 0) (sym e) (adds_calls_none a 0)
+again_few a b (Called target) k = callers_few a b target k
+again_few a b (Stored site) e = subst (λ w. AddsCalls a w 0) (sym e) (adds_calls_none a 0)
+
+-- the calls of a routine are handed in, and a spot
+pub sees_few : (a mid b c : Worklist) (entry : Entry) (spot : Spot) → waiting mid ≡ waiting a → SameCalls a mid → CallsAgain mid b entry
+    → waiting c ≡ waiting b ++ spot ∷ [] → SameCalls b c → AddsCalls a c 1
+sees_few a mid b c entry spot w s again last t =
+    let k = again_few mid b entry again in
+    let x = ap (λ (z : List Spot). length z) w in
+    let y = ap (λ (z : List Spot). length z) last ∙ length-append (waiting b) (spot ∷ []) in
+    record {
+      few = omega (arith, k.few, k.longer, x, y, s.count, t.count);
+      longer = omega (arith, k.longer, s.count, t.count);
+    }
+
+pub callers_add : (a b : Worklist) (target n : ℕ) → CallersAdded a b target → AddsCalls a b n
+callers_add a b target n k = adds_calls_up a b 0 n (callers_few a b target k) (omega arith)
+
+pub adds_one : (a b : Worklist) (spot : Spot) → waiting b ≡ waiting a ++ spot ∷ [] → SameCalls a b → Adds a b 1
+adds_one a b spot w s = adds_spot a b spot 1 w s (omega arith)
+
+pub spots_first : (a b : Worklist) → Adds a b 1 → AddsCalls a b 3
+spots_first a b h = calls_of_spots a b 1 3 h (omega arith)
+
+pub sees_two : (a b : Worklist) → AddsCalls a b 1 → AddsCalls a b 2
+sees_two a b h = adds_calls_up a b 1 2 h (omega arith)
+
+pub sees_three : (a b c : Worklist) → AddsCalls a b 1 → c ≡ b → AddsCalls a c 3
+sees_three a b c h e = subst (λ w. AddsCalls a w 3) (sym e) (adds_calls_up a b 1 3 h (omega arith))
+
+pub adds_calls_same : (a b c : Worklist) (n : ℕ) → b ≡ a → AddsCalls b c n → AddsCalls a c n
+adds_calls_same a b c n e k = subst (λ w. AddsCalls w c n) e k
+
+pub callers_three : (a b : Worklist) (target : ℕ) → CallersAdded a b target → AddsCalls a b 3
+callers_three a b target k = callers_add a b target 3 k
+
+pub ruleset adding = (adds_none, adds_one, spots_first, sees_two, sees_three, adds_calls_none, adds_calls_same, callers_three)
+
 pub ruleset nexting = (next_of)
 
-pub ruleset keeping = (waits_after, kept_of)
+pub ruleset keeping = (waits_after, kept_of, adds_calls_kept)
 
-pub ruleset handing = (waits_then, waits_same, waits_changed, waits_from, waits_none, waits_found, waits_weaker)
+pub ruleset handing = (
+  waits_then,
+  waits_same,
+  waits_changed,
+  waits_from,
+  waits_none,
+  waits_found,
+  waits_weaker,
+  adds_none,
+  adds_one,
+  spots_first,
+  sees_two,
+  sees_three,
+  adds_calls_none,
+  adds_calls_same,
+)

@@ -33,6 +33,7 @@ more_row before after e h t = record {
   left = subst (λ o. 67108866 * (33554432 - length after.rows) + o < 67108866 * (33554432 - length before.rows) + total open_of before.trials)
       (sym (ap (total open_of) t)) (numbers_row (length before.rows) (length after.rows) (total open_of before.trials) e h);
   found = let s : total seen_of after.trials ≡ total seen_of before.trials = ap (total seen_of) t in omega (arith, e, s);
+  rows = omega (arith, e);
 }
 
 numbers_trial : (r s o p q : ℕ) → s ≡ r + 1 → r < 33554432 → q ≡ o + p → p ≤ 67108865 → 67108866 * (33554432 - s) + q < 67108866 * (33554432 - r) + o
@@ -47,6 +48,7 @@ more_trial before after trial e h t g c u = record {
       (let o : given_open trial.given ≡ 1 = ap given_open g in omega (arith, o, c, u));
   found = let s : total seen_of after.trials ≡ total seen_of before.trials + seen_of trial = ap (total seen_of) t ∙ total_more seen_of before.trials trial in
       omega (arith, e, s);
+  rows = omega (arith, e);
 }
 
 pub more_set : (before after : Facts) (n : ℕ) (old new : Trial) → slice_get before.trials n ≡ Some old → after.trials ≡ slice_set before.trials n new
@@ -59,4 +61,5 @@ more_set before after n old new h t r o s =
     record {
       left = let e = total_set open_of before.trials n old new h in omega (arith, e, f, g, o);
       found = let e = total_set seen_of before.trials n old new h in omega (arith, e, k, g, s);
+      rows = omega (arith, g);
     }

@@ -15,5 +15,6 @@ pub mod Visits
 pub mod Storing
 pub mod Passing
 pub mod Ending
+pub mod Costs
 pub mod Fitting
 mod Behind

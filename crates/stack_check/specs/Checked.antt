@@ -22,8 +22,11 @@ pub record CheckedCode : Type 0 where
   pub code : List PlainOp
   pub heap : Heap
   pub facts : Facts
-  -- how many turns its inference took
+  -- how many turns its inference took, and how many looks, up to the largest number
   pub turns : ℕ
+  pub looks : ℕ
+  -- how many calls were found
+  pub calls : ℕ
 
 -- the table that checked code keeps
 unfoldable pub kept_table : CheckedCode → ShapeTable

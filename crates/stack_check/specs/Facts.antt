@@ -1,5 +1,5 @@
 -- What an inference has found, and the table of shapes that it stands for.
-use Rattle.std.specs.Prelude.{◌<◌, ℕ, zero, suc, ◌+◌, ◌-◌, ◌*◌, List, [], ◌∷◌, length, take, drop, Option, None, Some, slice_get, slice_set, get_or}
+use Rattle.std.specs.Prelude.{◌<◌, ◌≤◌, ℕ, zero, suc, ◌+◌, ◌-◌, ◌*◌, List, [], ◌∷◌, length, take, drop, Option, None, Some, slice_get, slice_set, get_or}
 use Rattle.std.specs.Option.{option_map, option_and_then}
 use Rattle.ncs_code.specs.File.{header_size, resume_place}
 use Rattle.stack_shape.specs.declared.shape.Slot.{Slot}
@@ -153,6 +153,7 @@ found facts = length facts.rows + total seen_of facts.trials
 pub record FindsMore (before after : Facts) : Type 0 where
   pub left : left after < left before
   pub found : found before < found after
+  pub rows : length before.rows ≤ length after.rows
 
 -- a trial that has looked at more
 abbrev pub with_unseen : Facts → ℕ → Trial → Unseen → Facts

@@ -177,6 +177,16 @@ Takes before after seen = WhereChanged seen (FindsMore before after)
 abbrev pub NothingNew : Worklist → Worklist → Seen → Type 0
 NothingNew before after seen = WhereQuiet seen (waiting after ≡ waiting before)
 
+-- At most so many spots are handed in. Calls stay kept.
+pub record Adds (before after : Worklist) (count : ℕ) : Type 0 where
+  pub few : length (waiting after) ≤ length (waiting before) + count
+  pub longer : length before.calls ≤ length after.calls
+
+-- At most so many, and as many calls as are kept.
+pub record AddsCalls (before after : Worklist) (count : ℕ) : Type 0 where
+  pub few : length (waiting after) ≤ length (waiting before) + length after.calls + count
+  pub longer : length before.calls ≤ length after.calls
+
 -- What was found is looked at next.
 abbrev pub HandedIn : Worklist → Worklist → Spot → Seen → Type 0
 HandedIn before after spot seen = WhereChanged seen (waiting after ≡ waiting before ++ spot ∷ [])

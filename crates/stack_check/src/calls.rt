@@ -1,4 +1,4 @@
-ghost use Rattle.std.specs.Prelude.{◌+◌, ◌-◌, ◌≡◌, ◌<◌, ◌≤◌, ◌++◌, None, Some, IfOk, IfSome};
+ghost use Rattle.std.specs.Prelude.{◌+◌, ◌-◌, ◌≡◌, ◌<◌, ◌≤◌, ◌++◌, None, Some, IfOk, IfSome, OnOk};
 ghost use Rattle.std.specs.Prelude.{IsTrue, length, take, true, ◌↔◌};
 ghost use Rattle.stack_shape.specs.declared.shape.Entry.TheVariants.{Called};
 ghost use Rattle.stack_lists.specs.Shared.{read};
@@ -7,6 +7,7 @@ ghost use Rattle.stack_lists.specs.Held.{IsIn, shape_of};
 ghost use Rattle.stack_check.specs.Facts.{FindsMore};
 ghost use Rattle.stack_check.specs.Inference.{AllIn, BeginsAlike, Calls, IsCall, Keeps, NothingNew};
 ghost use Rattle.stack_check.specs.Inference.{IsKept, RowIs, Sees, TrialIn, Within, window};
+ghost use Rattle.stack_check.specs.Inference.{Adds, AddsCalls};
 ghost use Rattle.stack_rules.specs.Rules.{WellStacked};
 
 use crate::facts::{Facts, Trial, Unseen, begin};
@@ -29,7 +30,7 @@ pub struct FoundCall {
 }
 
 /// A call of a routine that has no trial yet.
-#[tactic(auto, using(crate::proofs::CallSteps::first))]
+#[tactic(auto, using(crate::proofs::CallSteps::first, crate::proofs::Following::adding))]
 fn call_first(
     judged: &Judged<'_>,
     heap: &Heap,
@@ -44,6 +45,7 @@ fn call_first(
     ensures keeps { IfOk result (λ _. Keeps judged.now.table.now judged.now.code.now heap.now
         facts.new) }
     ensures takes { IfOk result (λ _. FindsMore facts.old facts.new) }
+    ensures few { OnOk result (Adds todo.old todo.new 1) }
 {
     let unseen = Unseen {
         cells: heap.slots.depth(from.held.cells),
@@ -165,6 +167,7 @@ fn call_given(
     ensures sees { IfOk result (λ seen. Sees judged.now.table.now judged.now.code.now heap.old
         heap.new facts.old facts.new at.from.trial at.from.place at.from.held seen) }
     ensures waits { IfOk result (λ seen. NothingNew todo.old todo.new seen) }
+    ensures few { IfOk result (λ _. AddsCalls todo.old todo.new 3) }
 {
     let count = (heap.slots.depth(given) - callee.unseen.cells) as usize;
     let rest = heap
@@ -187,6 +190,7 @@ fn call_given(
 fn grows(judged: &Judged<'_>, heap: &Heap, facts: &Facts, todo: &mut Todo, trial: u32) -> bool
     requires keeps { Keeps judged.now.table.now judged.now.code.now heap.now facts.now }
     ensures none { result ≡ true → WellStacked judged.now.table.now judged.now.code.now → ⊥ }
+    ensures same { todo.new ≡ todo.old }
 {
     if !todo.is_due(facts.trials.len()) {
         return false;
@@ -224,6 +228,7 @@ fn call_known(
     ensures sees { IfOk result (λ seen. Sees judged.now.table.now judged.now.code.now heap.old
         heap.new facts.old facts.new at.from.trial at.from.place at.from.held seen) }
     ensures waits { IfOk result (λ seen. NothingNew todo.old todo.new seen) }
+    ensures few { IfOk result (λ _. AddsCalls todo.old todo.new 3) }
 {
     if !begins(heap, at.from.held, callee)? {
         return Ok(Seen::Bad);
@@ -268,6 +273,7 @@ fn call_routine(
     ensures sees { IfOk result (λ seen. Sees judged.now.table.now judged.now.code.now heap.old
         heap.new facts.old facts.new at.from.trial at.from.place at.from.held seen) }
     ensures waits { IfOk result (λ seen. NothingNew todo.old todo.new seen) }
+    ensures few { IfOk result (λ _. AddsCalls todo.old todo.new 3) }
 {
     match counting(facts, at.target) {
         None => {
@@ -295,6 +301,7 @@ pub fn call(
     ensures sees { IfOk result (λ seen. Sees judged.now.table.now judged.now.code.now heap.old
         heap.new facts.old facts.new at.from.trial at.from.place at.from.held seen) }
     ensures waits { IfOk result (λ seen. NothingNew todo.old todo.new seen) }
+    ensures few { IfOk result (λ _. AddsCalls todo.old todo.new 3) }
     ensures kept { IfOk result (λ _. IsKept todo.new at.target
         (record { trial = at.from.trial; place = at.from.place })) }
 {

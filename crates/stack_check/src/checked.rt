@@ -3,6 +3,7 @@ ghost use Rattle.stack_rules.specs.Tables.{ShapeTable};
 ghost use Rattle.stack_rules.specs.Fits.{Fits};
 ghost use Rattle.stack_rules.specs.Rules.{MeetsRules, WellStacked};
 ghost use Rattle.stack_check.specs.Checked.{IsWithinBudget, StoredStand, kept_table, most_turns};
+ghost use Rattle.stack_check.specs.Costs.{most_looks};
 ghost use Rattle.stack_lists.specs.Budget.{most, most_numbers};
 ghost use Rattle.stack_check.specs.declared.fault.CheckFault.TheVariants.{Unstacked};
 
@@ -23,6 +24,8 @@ pub struct Checked {
     heap: Heap,
     facts: Facts,
     turns: u64,
+    looks: u64,
+    calls: usize,
 }
 
 impl Model for Checked {
@@ -35,6 +38,8 @@ impl Model for Checked {
       heap = c.heap;
       facts = c.facts;
       turns = c.turns;
+      looks = c.looks;
+      calls = c.calls;
     } };
 }
 
@@ -45,6 +50,8 @@ impl Drop for Checked {
             heap,
             facts,
             turns: _,
+            looks: _,
+            calls: _,
         } = self;
         drop(code);
         drop(heap);
@@ -80,19 +87,30 @@ pub fn check(alloc: Global, code: Code, table: &Table) -> Result<Checked, CheckF
     ensures within { IfOk result (λ c. IsWithinBudget c) }
     // Each turn but the last finds a row, what a routine gives, or a slot of a window.
     ensures turns { IfOk result (λ c. c.turns ≤ most_turns c) }
+    // Each turn looks at what waits, and at each row once.
+    ensures looks { IfOk result (λ c. c.looks ≤ most_looks (most_turns c) (length c.facts.rows)
+        c.calls) }
     // Where no table is found there is none.
     ensures unstacked { result ≡ Err Unstacked → WellStacked table.now code → ⊥ }
 {
     match infer(alloc, &code, table)? {
         None => Err(CheckFault::Unstacked),
         Some(kept) => {
-            let Kept { heap, facts, turns } = kept;
+            let Kept {
+                heap,
+                facts,
+                turns,
+                looks,
+                calls,
+            } = kept;
             bounded(&heap, &facts);
             Ok(Checked {
                 code,
                 heap,
                 facts,
                 turns,
+                looks,
+                calls,
             })
         }
     }
@@ -111,6 +129,13 @@ impl Checked {
         ensures turns { result ≡ self.now.turns }
     {
         self.turns
+    }
+
+    /// How many looks at a place it took, up to the largest number.
+    pub fn looks(&self) -> u64
+        ensures looks { result ≡ self.now.looks }
+    {
+        self.looks
     }
 
     /// Whether a captured state of this code fits the kept table: it resumes where a STORE_STATE

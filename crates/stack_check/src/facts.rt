@@ -6,6 +6,7 @@ ghost use Rattle.stack_check.specs.Facts.{FindsMore, first_place, first_held};
 ghost use Rattle.stack_check.specs.Inference.{TrialBegins, Formed, GivenOwed, Keeps, SeesMore};
 ghost use Rattle.stack_check.specs.Inference.{TrialAdded, TrialIn, UnseenOwed};
 ghost use Rattle.stack_check.specs.Inference.{CurrentSet};
+ghost use Rattle.stack_check.specs.Inference.{Adds};
 
 use crate::judged::Judged;
 use nwq_value::{Items, NoMemory};
@@ -103,6 +104,7 @@ fn add_trial(facts: &mut Facts, trial: Trial) -> Result<u32, NoMemory>
 }
 
 /// Begins a trial that compares with every table.
+#[tactic(auto, using(crate::proofs::Following::adding))]
 pub fn begin(
     judged: &Judged<'_>,
     heap: &Heap,
@@ -120,6 +122,7 @@ pub fn begin(
     ensures takes { IfOk result (λ _. FindsMore facts.old facts.new) }
     ensures handed { OnOk result (waiting todo.new ≡ waiting todo.old
         ++ record { trial = length facts.old.trials; place = first_place trial.entry } ∷ []) }
+    ensures few { OnOk result (Adds todo.old todo.new 1) }
 {
     let _ = judged;
     let _ = heap;

@@ -5,6 +5,7 @@ ghost use Rattle.stack_check.specs.Inference.{AllLed, IsLed, IsStep, Keeps, Noth
 ghost use Rattle.stack_check.specs.Inference.{HandedIn, Reached};
 ghost use Rattle.stack_check.specs.Inference.{RowIs, RowsKept, Takes};
 ghost use Rattle.stack_check.specs.Inference.{Visited, WhereQuiet, after_change, leads_of};
+ghost use Rattle.stack_check.specs.Inference.{Adds};
 ghost use Rattle.machine_rules.specs.Act.{next_place};
 
 use crate::facts::Facts;
@@ -46,6 +47,7 @@ fn reach(
 #[tactic(auto, using(crate::proofs::Following::handing))]
 fn note(todo: &mut Todo, seen: Seen, spot: Spot) -> Result<(), NoMemory>
     ensures waits { NothingNew todo.old todo.new seen }
+    ensures few { OnOk result (Adds todo.old todo.new 1) }
     ensures handed { OnOk result (HandedIn todo.old todo.new spot seen) }
 {
     match seen {
@@ -76,6 +78,7 @@ pub fn follow(
     ensures quiet { IfOk result (λ seen. WhereQuiet seen ((facts.new ≡ facts.old)
         × RowIs heap.now facts.old spot.trial spot.place (shape_of heap.now held))) }
     ensures waits { IfOk result (λ seen. NothingNew todo.old todo.new seen) }
+    ensures few { IfOk result (λ _. Adds todo.old todo.new 1) }
     ensures handed { IfOk result (λ seen. HandedIn todo.old todo.new spot seen) }
 {
     let _ = judged;
@@ -134,6 +137,7 @@ fn lead_to(
     ensures quiet { IfOk result (λ seen. WhereQuiet seen ((facts.new ≡ facts.old)
         × RowIs heap.now facts.old at.now.from.trial place (shape_of heap.now after))) }
     ensures waits { IfOk result (λ seen. NothingNew todo.old todo.new seen) }
+    ensures few { IfOk result (λ _. Adds todo.old todo.new 1) }
 {
     rules_look_from_the_top();
     let _ = lead;
@@ -164,6 +168,7 @@ pub fn lead(
     ensures quiet { IfOk result (λ seen. WhereQuiet seen ((facts.new ≡ facts.old)
         × AllLed heap.now facts.old at.now.from.trial lead (shape_of heap.now after))) }
     ensures waits { IfOk result (λ seen. NothingNew todo.old todo.new seen) }
+    ensures few { IfOk result (λ _. Adds todo.old todo.new 2) }
 {
     match lead {
         Lead::One(place) => lead_to(judged, heap, facts, todo, at, after, lead, place),

@@ -6,6 +6,7 @@ ghost use Rattle.stack_shape.specs.declared.shape.Entry.TheVariants.{Called};
 ghost use Rattle.stack_lists.specs.Rows.{row_in};
 ghost use Rattle.stack_lists.specs.Worklist.{CallersAdded};
 ghost use Rattle.stack_check.specs.Inference.{Keeps, NothingNew, Sees, WhereChanged};
+ghost use Rattle.stack_check.specs.Inference.{AddsCalls};
 
 use crate::facts::{Facts, Trial, give};
 use crate::judged::Judged;
@@ -16,7 +17,7 @@ use stack_lists::{Heap, Todo, same};
 use stack_shape::Entry;
 
 /// RETN of a called routine, with nothing saved or pending.
-#[tactic(auto, using(crate::proofs::ReturnSteps::giving))]
+#[tactic(auto, using(crate::proofs::ReturnSteps::giving, crate::proofs::Following::adding))]
 fn return_cells(
     judged: &Judged<'_>,
     heap: &Heap,
@@ -36,6 +37,7 @@ fn return_cells(
     ensures sees { IfOk result (λ seen. Sees judged.now.table.now judged.now.code.now heap.now
         heap.now facts.old facts.new from.trial from.place from.held seen) }
     ensures waits { IfOk result (λ seen. NothingNew todo.old todo.new seen) }
+    ensures few { IfOk result (λ _. AddsCalls todo.old todo.new 3) }
     // Once it is known what the routine gives, its calls are looked at again.
     ensures again { IfOk result (λ seen. WhereChanged seen (CallersAdded todo.old todo.new
         target)) }
@@ -75,6 +77,7 @@ fn return_called(
     ensures sees { IfOk result (λ seen. Sees judged.now.table.now judged.now.code.now heap.now
         heap.now facts.old facts.new from.trial from.place from.held seen) }
     ensures waits { IfOk result (λ seen. NothingNew todo.old todo.new seen) }
+    ensures few { IfOk result (λ _. AddsCalls todo.old todo.new 3) }
 {
     if from.held.pending != 0 {
         return Ok(Seen::Bad);
@@ -102,6 +105,7 @@ pub fn returned(
     ensures sees { IfOk result (λ seen. Sees judged.now.table.now judged.now.code.now heap.now
         heap.now facts.old facts.new from.trial from.place from.held seen) }
     ensures waits { IfOk result (λ seen. NothingNew todo.old todo.new seen) }
+    ensures few { IfOk result (λ _. AddsCalls todo.old todo.new 3) }
 {
     match trial.entry {
         Entry::Start => Ok(Seen::Quiet),

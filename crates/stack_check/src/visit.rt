@@ -12,6 +12,7 @@ ghost use Rattle.stack_check.specs.Facts.{current};
 ghost use Rattle.stack_check.specs.Inference.{IsPlain, IsStored, Keeps, NothingNew, Resumes, Sees};
 ghost use Rattle.stack_check.specs.Inference.{SeesStep, StoresAs, Takes, Visited, WhereQuiet};
 ghost use Rattle.stack_check.specs.Inference.{leads_of};
+ghost use Rattle.stack_check.specs.Inference.{Adds, AddsCalls};
 
 use crate::calls::{FoundCall, call};
 use crate::facts::{Facts, Trial, Unseen, begin};
@@ -49,6 +50,7 @@ fn visit_step(
         heap.new facts.old facts.new at.now.from.trial at.now.from.place at.now.from.held (plain
         at.now.op.now) seen) }
     ensures waits { IfOk result (λ seen. NothingNew todo.old todo.new seen) }
+    ensures few { IfOk result (λ _. AddsCalls todo.old todo.new 2) }
 {
     rules_look_from_the_top();
     rules_look_no_deeper();
@@ -76,7 +78,7 @@ fn stored_trial(facts: &Facts, site: u32) -> Option<u32>
 }
 
 /// Reaches the shape with which the state resumes that is stored at a place.
-#[tactic(auto, using(crate::proofs::Storing::resuming))]
+#[tactic(auto, using(crate::proofs::Storing::resuming, crate::proofs::Following::adding))]
 fn resume(
     judged: &Judged<'_>,
     heap: &Heap,
@@ -96,6 +98,7 @@ fn resume(
     ensures quiet { IfOk result (λ seen. WhereQuiet seen ((facts.new ≡ facts.old)
         × IsStored heap.now facts.old site (shape_of heap.now held))) }
     ensures waits { IfOk result (λ seen. NothingNew todo.old todo.new seen) }
+    ensures few { IfOk result (λ _. Adds todo.old todo.new 1) }
 {
     match stored_trial(facts, site) {
         None => {
@@ -145,6 +148,7 @@ fn visit_store(
     ensures sees { IfOk result (λ seen. Sees judged.now.table.now judged.now.code.now heap.old
         heap.new facts.old facts.new at.now.from.trial at.now.from.place at.now.from.held seen) }
     ensures waits { IfOk result (λ seen. NothingNew todo.old todo.new seen) }
+    ensures few { IfOk result (λ _. AddsCalls todo.old todo.new 3) }
 {
     rules_look_from_the_top();
     let first = visit_step(alloc, judged, heap, facts, todo, at)?;
@@ -182,6 +186,7 @@ fn visit_plain(
     ensures sees { IfOk result (λ seen. Sees judged.now.table.now judged.now.code.now heap.old
         heap.new facts.old facts.new at.now.from.trial at.now.from.place at.now.from.held seen) }
     ensures waits { IfOk result (λ seen. NothingNew todo.old todo.new seen) }
+    ensures few { IfOk result (λ _. AddsCalls todo.old todo.new 3) }
 {
     let seen = visit_step(alloc, judged, heap, facts, todo, at)?;
     Ok(seen)
@@ -208,6 +213,7 @@ fn visit_stored(
     ensures sees { IfOk result (λ seen. Sees judged.now.table.now judged.now.code.now heap.old
         heap.new facts.old facts.new at.now.from.trial at.now.from.place at.now.from.held seen) }
     ensures waits { IfOk result (λ seen. NothingNew todo.old todo.new seen) }
+    ensures few { IfOk result (λ _. AddsCalls todo.old todo.new 3) }
 {
     rules_look_from_the_top();
     match resumed(alloc, globals, locals, heap, at.from.held)? {
@@ -247,6 +253,7 @@ fn visit_return(
     ensures sees { IfOk result (λ seen. Sees judged.now.table.now judged.now.code.now heap.now
         heap.now facts.old facts.new from.trial from.place from.held seen) }
     ensures waits { IfOk result (λ seen. NothingNew todo.old todo.new seen) }
+    ensures few { IfOk result (λ _. AddsCalls todo.old todo.new 3) }
 {
     match facts.trials.get(from.trial as usize) {
         None => unreachable!(),
@@ -276,6 +283,7 @@ fn visit_op(
     ensures sees { IfOk result (λ seen. Sees judged.now.table.now judged.now.code.now heap.old
         heap.new facts.old facts.new from.trial from.place from.held seen) }
     ensures waits { IfOk result (λ seen. NothingNew todo.old todo.new seen) }
+    ensures few { IfOk result (λ _. AddsCalls todo.old todo.new 3) }
 {
     let next = end_of(judged.code, op, from.place, size);
     let at = FoundOp { from, op, next };
@@ -308,6 +316,7 @@ pub fn visit(
     ensures sees { IfOk result (λ seen. Sees judged.now.table.now judged.now.code.now heap.old
         heap.new facts.old facts.new from.trial from.place from.held seen) }
     ensures waits { IfOk result (λ seen. NothingNew todo.old todo.new seen) }
+    ensures few { IfOk result (λ _. AddsCalls todo.old todo.new 3) }
 {
     match judged.code.op_at(from.place) {
         None => Ok(Seen::Bad),

@@ -1,8 +1,8 @@
 -- Calls that wait: what is handed in and out leaves each mark right.
-use Rattle.std.proofs.Common.{arith, ◌≡◌, ◌≢◌, ◌≤◌, ℕ, zero, suc, List, [], ◌∷◌, ◌++◌, length, map, get_or, ◌⊎◌, inl, inr, sym, subst, ◌∙◌, ap, refl, append-nil}
+use Rattle.std.proofs.Common.{arith, ◌≡◌, ◌≢◌, ◌≤◌, ◌+◌, ℕ, zero, suc, List, [], ◌∷◌, ◌++◌, length, map, get_or, ◌⊎◌, inl, inr, sym, subst, ◌∙◌, ap, refl, append-nil}
 use Rattle.std.specs.Prelude.{Contains}
 use Rattle.std.proofs.lemmas.Bool.{cases_eq}
-use Rattle.std.proofs.lemmas.List.{append_assoc, map-append}
+use Rattle.std.proofs.lemmas.List.{append_assoc, length-append, map-append}
 use Rattle.std.proofs.lemmas.List.Elements.{Contains-append_left, Contains-append_right, Contains-append_cases, Contains-push, Contains-push_cases}
 use Rattle.stack_lists.specs.declared.lists.Node.{Node}
 use Rattle.stack_lists.specs.declared.todo.Again.{Again}
@@ -95,6 +95,7 @@ pub put_waits : (calls : List (Node Call)) (later : List Again) (waits : List �
 put_waits calls later waits number mark call top m ne = record {
   added = [];
   is = sym (append-nil later);
+  few = omega arith;
   by = λ others all c i.
       let h = all.here number (λ e. ne (m ∙ e)) in
       let s = all.tops h.again h.among in
@@ -108,6 +109,7 @@ pub put_last : (calls : List (Node Call)) (later more : List Again) (waits : Lis
 put_last calls later more waits again call s m = record {
   added = again ∷ [];
   is = m;
+  few = omega arith;
   by = λ others all c i.
       subst (λ spot. Contains (map spot_of (others ++ more)) spot) (s ∙ ap (λ (c : Call). c.spot) (one_of call c i))
       (among_map (others ++ more) again
@@ -128,6 +130,7 @@ pub record PutSoFar (calls : List (Node Call)) (begin : List Again) (first : Lis
   pub keeps : KeepsWaiting calls begin first later waits
   pub added : List Again
   pub is : later ≡ begin ++ added
+  pub few : length added + length (read calls at) ≤ length (read calls number)
   pub by : (others : List Again) → AllWait calls first (others ++ begin) → (call : Call) → Contains (read calls number) call
       → Contains (read calls at) call ⊎ Contains (map spot_of (others ++ later)) call.spot
 
@@ -138,6 +141,7 @@ so_far_none calls later waits number l = record {
   keeps = keeps_same calls later waits;
   added = [];
   is = sym (append-nil later);
+  few = omega arith;
   by = λ others all call c. inl c;
 }
 
@@ -155,6 +159,8 @@ so_far_more calls begin later more first waits after number at below call so l r
   keeps = keeps_then calls begin later more first waits after so.keeps k;
   added = so.added ++ p.added;
   is = p.is ∙ ap (λ (z : List Again). z ++ p.added) so.is ∙ append_assoc begin so.added p.added;
+  few = let s = so.few in let k = p.few in let n = ap (λ (z : List Call). length z) r in let m = length-append so.added p.added in
+      omega (arith, s, k, n, m);
   by = λ others all c i. elim (so.by others all c i) [
     | inl j ↦ elim (Contains-append_cases (call ∷ []) (read calls below) c (subst (λ z. Contains z c) r j)) [
       | inl here ↦ inr (p.by others (so.keeps.by others all) c here)
@@ -181,6 +187,7 @@ pub so_far_all : (calls : List (Node Call)) (begin later : List Again) (first wa
 so_far_all calls begin later first waits number at so r = record {
   added = so.added;
   is = so.is;
+  few = let s = so.few in omega (arith, s);
   by = λ others all call i. elim (so.by others all call i) [
     | inl j ↦ absurd (let c = subst (λ z. Contains z call) r j in let lt = c.1 in omega (arith, lt))
     | inr j ↦ j

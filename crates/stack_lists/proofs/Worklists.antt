@@ -1,5 +1,5 @@
 -- The worklist: what is handed in and out, and the calls that are kept.
-use Rattle.std.proofs.Common.{arith, ◌≡◌, ◌≤◌, ◌<◌, ℕ, zero, suc, List, [], ◌∷◌, ◌++◌, length, map, get_or, inl, inr, sym, subst, ◌∙◌, ap, refl, append-nil}
+use Rattle.std.proofs.Common.{arith, ◌≡◌, ◌≤◌, ◌<◌, ℕ, zero, suc, List, [], ◌∷◌, ◌++◌, length, map, get_or, Option, None, Some, slice_get, inl, inr, sym, subst, ◌∙◌, ap, refl, append-nil}
 use Rattle.std.specs.Prelude.{Result, Ok, Err, OnOk, Contains}
 use Rattle.std.proofs.lemmas.Bool.{cases_eq}
 use Rattle.std.proofs.lemmas.List.{append_assoc, length-append, map-append}
@@ -8,7 +8,7 @@ use Rattle.stack_lists.specs.declared.lists.Node.{Node}
 use Rattle.stack_lists.specs.declared.todo.Again.{Again}
 use Rattle.stack_lists.specs.declared.todo.Call.{Call}
 use Rattle.stack_lists.specs.declared.todo.Spot.{Spot}
-use Rattle.stack_lists.specs.Shared.{Grows, read}
+use Rattle.stack_lists.specs.Shared.{Grows, read, read_within, with_node}
 use Rattle.stack_lists.specs.Rows.{PutAt, SameNumbers}
 use Rattle.stack_lists.specs.Worklist.{AllWait, AreMarked, AreThere, CallKept, CallersAdded, CallsPut, IsMarked, IsTop, SameCalls, Worklist, calls_of, spot_of}
 use Rattle.stack_lists.specs.Growth.{read_empty}
@@ -31,7 +31,10 @@ pub ruleset beginning = (there_none, no_calls)
 -- ---- handing in and out
 
 pub same_calls : (before after : Worklist) → after.calls ≡ before.calls → after.called ≡ before.called → SameCalls before after
-same_calls before after c d = record { by = λ t. ap (λ (ns : List (Node Call)). read ns (get_or after.called t 0)) c ∙ ap (λ (ns : List ℕ). read before.calls (get_or ns t 0)) d }
+same_calls before after c d = record {
+  by = λ t. ap (λ (ns : List (Node Call)). read ns (get_or after.called t 0)) c ∙ ap (λ (ns : List ℕ). read before.calls (get_or ns t 0)) d;
+  count = ap (λ (ns : List (Node Call)). length ns) c;
+}
 
 -- the last spot is handed out
 pub next_first : (calls first less : List Spot) (spot : Spot) → first ≡ less ++ spot ∷ [] → calls ++ first ≡ (calls ++ less) ++ spot ∷ []
@@ -195,6 +198,7 @@ call_marked w row call m is = record {
   added = inl refl;
   once = λ h. refl;
   others = λ t ne. refl;
+  longer = omega arith;
 }
 
 pub call_added : (before after : Worklist) (row below number : ℕ) (call : Call) → AreThere before.calls before.called → Grows before.calls after.calls
@@ -211,6 +215,7 @@ call_added before after row below number call there g b r l p k ne = record {
   added = inr newest;
   once = λ h. absurd (ne h);
   others = λ t ne. ap (read after.calls) (p.others t ne) ∙ g.same (get_or before.called t 0) (there.by t);
+  longer = g.longer;
 }
   where
     newest : calls_of after call.target ≡ call ∷ calls_of before call.target
@@ -219,6 +224,19 @@ call_added before after row below number call there g b r l p k ne = record {
 pub ruleset keeping = (there_put, there_same, there_more, marked_grows, marked_put, marked_same, marked_here, call_marked, call_added)
 
 -- ---- the calls of a routine are handed in
+
+with_short : (o : Option (Node Call)) (limit : ℕ) (go : ℕ → List Call) → ((n : ℕ) → length (go n) ≤ limit) → length (with_node o go) ≤ suc limit
+with_short None limit go h = omega arith
+with_short (Some n) limit go h = let l = h n.below in omega (arith, l)
+
+within_short : (limit : ℕ) (nodes : List (Node Call)) (number : ℕ) → length (read_within limit nodes number) ≤ limit
+within_short zero nodes number = omega arith
+within_short (suc limit) nodes zero = omega arith
+within_short (suc limit) nodes (suc k) = with_short (slice_get nodes k) limit (read_within limit nodes) (within_short limit nodes)
+
+read_short : (nodes : List (Node Call)) (number : ℕ) → length (read nodes number) ≤ number
+unfolding read
+read_short nodes number = within_short number nodes number
 
 all_wait : (later now : List Again) (first : List Spot) (spot : Spot) → Contains (map spot_of (now ++ later)) spot
     → Contains (map spot_of (later ++ now) ++ first) spot
@@ -231,12 +249,14 @@ all_wait later now first spot c =
 
 pub callers_added : (before after : Worklist) (target number : ℕ) → after.first ≡ before.first → after.soon ≡ before.soon → after.calls ≡ before.calls
     → after.called ≡ before.called → number ≡ get_or before.called target 0 → AllWait before.calls before.waits (before.soon ++ before.later)
-    → CallsPut before.calls before.later before.waits after.later (read before.calls number) → CallersAdded before after target
-callers_added before after target number f w c d n all p = record {
+    → number ≤ length before.calls → CallsPut before.calls before.later before.waits after.later (read before.calls number)
+    → CallersAdded before after target
+callers_added before after target number f w c d n all l p = record {
   first = f;
   soon = w;
   added = p.added;
   later = p.is;
+  few = let k = p.few in let s = read_short before.calls number in omega (arith, k, s, l);
   all = λ call i. all_wait after.later after.soon after.first call.spot
       (subst (λ z. Contains (map spot_of (z ++ after.later)) call.spot) (sym w)
       (p.by before.soon all call (subst (λ n. Contains (read before.calls n) call) (sym n) i)));
@@ -246,9 +266,10 @@ callers_added before after target number f w c d n all p = record {
 pub callers_done : {E : Type 0} (before after : Worklist) (target number : ℕ) (r : Result (Unit {0}) E) → after.first ≡ before.first → after.soon ≡ before.soon
     → after.calls ≡ before.calls → after.called ≡ before.called → number ≡ get_or before.called target 0
     → AllWait before.calls before.waits (before.soon ++ before.later)
-    → OnOk r (CallsPut before.calls before.later before.waits after.later (read before.calls number)) → OnOk r (CallersAdded before after target)
-callers_done before after target number (Ok u) f w c d n all p = callers_added before after target number f w c d n all p
-callers_done before after target number (Err e) f w c d n all p = tt
+    → number ≤ length before.calls → OnOk r (CallsPut before.calls before.later before.waits after.later (read before.calls number))
+    → OnOk r (CallersAdded before after target)
+callers_done before after target number (Ok u) f w c d n all l p = callers_added before after target number f w c d n all l p
+callers_done before after target number (Err e) f w c d n all l p = tt
 
 pub list_inside : (calls : List (Node Call)) (called : List ℕ) (target number : ℕ) → AreThere calls called → number ≡ get_or called target 0
     → number ≤ length calls

@@ -86,6 +86,8 @@ pub record CallsPut (calls : List (Node Call)) (before : List Again) (waits : Li
     (after : List Again) (these : List Call) : Type 0 where
   pub added : List Again
   pub is : after ≡ before ++ added
+  -- each is put once at most
+  pub few : length added ≤ length these
   pub by : (others : List Again) → AllWait calls waits (others ++ before) → (call : Call)
       → Contains these call → Contains (map spot_of (others ++ after)) call.spot
 
@@ -93,6 +95,7 @@ pub record CallsPut (calls : List (Node Call)) (before : List Again) (waits : Li
 
 pub record SameCalls (before after : Worklist) : Type 0 where
   pub by : (target : ℕ) → calls_of after target ≡ calls_of before target
+  pub count : length after.calls ≡ length before.calls
 
 abbrev pub growths : Worklist → Side → List ℕ
 growths w Cells = w.cells
@@ -107,6 +110,7 @@ pub record CallKept (before after : Worklist) (row : ℕ) (call : Call) : Type 0
       ⊎ (calls_of after call.target ≡ call ∷ calls_of before call.target)
   pub once : IsMarked before row call → after ≡ before
   pub others : (t : ℕ) → t ≢ call.target → calls_of after t ≡ calls_of before t
+  pub longer : length before.calls ≤ length after.calls
 
 -- The calls of a routine are to be looked at, after all that is looked at first. They stay kept.
 pub record CallersAdded (before after : Worklist) (target : ℕ) : Type 0 where
@@ -114,6 +118,8 @@ pub record CallersAdded (before after : Worklist) (target : ℕ) : Type 0 where
   pub soon : after.soon ≡ before.soon
   pub added : List Again
   pub later : after.later ≡ before.later ++ added
+  -- no more than all calls that are kept
+  pub few : length added ≤ length before.calls
   pub all : (call : Call) → Contains (calls_of before target) call
       → Contains (waiting after) call.spot
   pub calls : SameCalls before after

@@ -249,6 +249,13 @@ impl Todo {
         Ok(())
     }
 
+    /// How many calls are kept.
+    pub fn kept(&self) -> usize
+        ensures count { result ≡ length self.now.calls }
+    {
+        self.calls.len()
+    }
+
     /// Has the calls of a routine looked at again, after the spots that are looked at first.
     #[tactic(auto, using(crate::proofs::Worklists::calling))]
     pub fn add_callers(&mut self, target: u32) -> Result<(), NoMemory>

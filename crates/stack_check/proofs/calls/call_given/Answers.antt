@@ -1,3 +1,4 @@
+use Rattle.stack_check.proofs.Following.{adds_calls_none, spots_first}
 use Rattle.std.proofs.Common.{arith, rules, ◌≤◌, ◌-◌, ◌∙◌, drop, length, refl, subst, sym, take, ap, ◌++◌}
 use Rattle.stack_shape.specs.declared.reach.Reach.{Reach}
 use Rattle.stack_lists.specs.Shared.{read}
@@ -36,6 +37,7 @@ returns-then-branch c = record {
       (behind_shape c.args.heap.now c.args.at.from.held c.args.callee c.args.given c.lower-rest.result _ _ (ap (λ n. n - c.args.callee.unseen.cells) c.depth.ensures.depth)
       (c.lower-rest.ensures.reads ∙ ap (λ (r : Reach). drop r.cells (read c.args.heap.now.slots c.args.at.from.held.cells)) c.window.ensures) refl));
   waits = refl;
+  few = adds_calls_none c.args.todo.now 3;
 }
 
 pub with_cells-requires-clause-upper : goal.with_cells-requires-clause-upper
@@ -74,4 +76,5 @@ returns c = record {
       })) c.in_ok-is_found.ensures.same c.in_ok-now.ensures.holds))
       c.in_ok-seen.ensures.keeps c.in_ok-seen.ensures.quiet c.in_ok-seen.ensures.takes;
   waits = c.in_ok-seen.ensures.waits;
+  few = spots_first c.args.todo.now c.follow.new.todo c.in_ok-seen.ensures.few;
 }

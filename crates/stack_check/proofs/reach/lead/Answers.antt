@@ -1,9 +1,9 @@
-use Rattle.std.proofs.Common.{◌≡◌, subst, sym}
+use Rattle.std.proofs.Common.{arith, ◌≡◌, subst, sym}
 use Rattle.std.specs.Prelude.{IfOk}
 use Rattle.std.proofs.lemmas.Result.{IfOk-weaker}
 use Rattle.stack_lists.specs.Held.{shape_of}
-use Rattle.stack_check.specs.Inference.{AllLed, RowIs, RowsKept, Takes, WhereQuiet}
-use Rattle.stack_check.proofs.Following.{changed_keeps, changed_quiet, kept_then, one_led, takes_both, takes_next, two_quiet}
+use Rattle.stack_check.specs.Inference.{Adds, AllLed, RowIs, RowsKept, Takes, WhereQuiet}
+use Rattle.stack_check.proofs.Following.{adds_two, adds_up, changed_keeps, changed_quiet, kept_then, one_led, takes_both, takes_next, two_quiet}
 use Rattle.stack_check.proofs.Steps.{step_kept}
 use Rattle.stack_check.proofs.reach.lead.Goals as goal
 
@@ -58,3 +58,20 @@ returns-in_ok-seen-in-Changed-clause-takes c =
     takes_both _ c.args.facts.now c.lead_to-in-Two.new.facts _ c.in_ok-seen-in-Changed.seen c.after_change.result
     (subst (λ seen. Takes c.args.facts.now c.lead_to-in-Two.new.facts seen) c.in-Changed.is c.in_ok-seen-in-Two.ensures.takes)
     c.in_ok-seen-in-Changed.ensures.takes c.in_ok-seen-in-Changed.ensures.quiet c.after_change.ensures
+
+pub returns-in-One-clause-few : goal.returns-in-One-clause-few
+returns-in-One-clause-few c =
+    IfOk-weaker c.lead_to.result _ (λ seen. Adds c.args.todo.now c.lead_to.new.todo 2)
+    (λ seen k. adds_up c.args.todo.now c.lead_to.new.todo 2 k (omega arith)) c.lead_to.ensures.few
+
+pub returns-in-Bad-clause-few : goal.returns-in-Bad-clause-few
+returns-in-Bad-clause-few c = adds_up c.args.todo.now c.lead_to-in-Two.new.todo 2 c.in_ok-seen-in-Two.ensures.few (omega arith)
+
+pub returns-in-Quiet-clause-few : goal.returns-in-Quiet-clause-few
+returns-in-Quiet-clause-few c =
+    IfOk-weaker c.lead_to-in-Quiet.result _ (λ seen. Adds c.args.todo.now c.lead_to-in-Quiet.new.todo 2)
+    (λ seen k. adds_two c.args.todo.now c.lead_to-in-Two.new.todo c.lead_to-in-Quiet.new.todo c.in_ok-seen-in-Two.ensures.few k) c.lead_to-in-Quiet.ensures.few
+
+pub returns-in_ok-seen-in-Changed-clause-few : goal.returns-in_ok-seen-in-Changed-clause-few
+returns-in_ok-seen-in-Changed-clause-few c =
+    adds_two c.args.todo.now c.lead_to-in-Two.new.todo c.lead_to-in-Changed.new.todo c.in_ok-seen-in-Two.ensures.few c.in_ok-seen-in-Changed.ensures.few

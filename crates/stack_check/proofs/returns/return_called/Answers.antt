@@ -1,3 +1,4 @@
+use Rattle.stack_check.proofs.Following.{adds_calls_none}
 use Rattle.stack_check.proofs.ReturnSteps.{pending_bad, saved_bad}
 use Rattle.stack_check.proofs.returns.return_called.Goals as goal
 
@@ -6,6 +7,7 @@ returns-then-from-ne0 c = record {
   sees = pending_bad c.args.judged.now.table.now c.args.judged.now.code.now c.args.heap.now c.args.facts.now c.args.from.trial c.args.from.place c.args.target c.args.from.held
       c.args.trial c.requires.keeps c.requires.row c.requires.op c.requires.trial c.requires.entry c.if-from-ne0.true;
   waits = tt;
+  few = adds_calls_none c.args.todo.now 3;
 }
 
 pub returns-in-Some : goal.returns-in-Some
@@ -13,4 +15,5 @@ returns-in-Some c = record {
   sees = saved_bad c.args.judged.now.table.now c.args.judged.now.code.now c.args.heap.now c.args.facts.now c.args.from.trial c.args.from.place c.args.target c.args.from.held
       c.args.trial _ _ c.requires.keeps c.requires.row c.requires.op c.requires.trial c.requires.entry c.in-Some.ensures.top;
   waits = tt;
+  few = adds_calls_none c.args.todo.now 3;
 }

@@ -1,3 +1,4 @@
+use Rattle.stack_check.proofs.Following.{adds_calls_none}
 use Rattle.std.proofs.Common.{refl}
 use Rattle.std.proofs.lemmas.Bool.{iff_false}
 use Rattle.stack_check.proofs.ReturnSteps.{gives_bad, gives_quiet}
@@ -9,6 +10,7 @@ returns-then-same c = record {
       c.args.trial c.in-Some.given c.requires.keeps c.requires.op c.requires.trial c.requires.entry c.in-Some.is (c.same.ensures.0 c.if-same.true)
       c.requires.saved c.requires.pending;
   waits = refl;
+  few = adds_calls_none c.args.todo.now 3;
   again = tt;
 }
 
@@ -18,5 +20,6 @@ returns-else-same c = record {
       c.args.trial c.in-Some.given c.requires.keeps c.requires.row c.requires.op c.requires.trial c.requires.entry c.in-Some.is
       (iff_false c.same.ensures c.if-same.false);
   waits = tt;
+  few = adds_calls_none c.args.todo.now 3;
   again = tt;
 }

@@ -1,7 +1,7 @@
 use Rattle.std.proofs.Common.{◌∙◌, subst, sym}
 use Rattle.stack_lists.specs.Held.{shape_of}
 use Rattle.stack_check.specs.Inference.{UnseenOwed}
-use Rattle.stack_check.proofs.Following.{calls_wait}
+use Rattle.stack_check.proofs.Following.{calls_wait, sees_few}
 use Rattle.stack_check.proofs.Seeing.{see_owed, see_within}
 use Rattle.stack_check.proofs.Windows.{whole_same}
 use Rattle.stack_check.proofs.see.see.Goals as goal
@@ -35,3 +35,8 @@ pub returns-clause-again : goal.returns-clause-again
 returns-clause-again c = λ e.
     calls_wait c.args.todo.now c.note_growth.new.todo c.look_again.new.todo c.add.new.self c.args.facts.now c.args.from.trial c.in-Some.trial.now _
     (sym c.in-Some.ensures.item) c.in_ok-note_growth-in-Some.ensures.calls c.in_ok-look_again-in-Some.ensures c.in_ok-add-in-Some.ensures.added
+
+pub returns-clause-few : goal.returns-clause-few
+returns-clause-few c =
+    sees_few c.args.todo.now c.note_growth.new.todo c.look_again.new.todo c.add.new.self c.in-Some.trial.now.entry _ c.in_ok-note_growth-in-Some.ensures.waits
+    c.in_ok-note_growth-in-Some.ensures.calls c.in_ok-look_again-in-Some.ensures c.in_ok-add-in-Some.ensures.added c.in_ok-add-in-Some.ensures.calls

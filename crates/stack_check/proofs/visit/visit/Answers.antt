@@ -1,3 +1,4 @@
+use Rattle.stack_check.proofs.Following.{adds_calls_none}
 use Rattle.stack_check.proofs.Storing.{no_op_bad}
 use Rattle.stack_check.proofs.visit.visit.Goals as goal
 
@@ -6,4 +7,5 @@ returns-in-None c = record {
   sees = no_op_bad c.args.judged.now.table.now c.args.judged.now.code.now c.args.heap.now c.args.facts.now c.args.from.trial c.args.from.place c.args.from.held c.requires.keeps
       c.requires.row c.in-None.ensures.op;
   waits = tt;
+  few = adds_calls_none c.args.todo.now 3;
 }

@@ -1,5 +1,5 @@
-use Rattle.stack_check.proofs.Following.{waits_from}
-use Rattle.std.proofs.Common.{rules, ◌≡◌, ap, subst, sym, ◌∙◌}
+use Rattle.stack_check.proofs.Following.{adds_calls_from, adds_calls_none, waits_from}
+use Rattle.std.proofs.Common.{arith, rules, ◌≡◌, ap, subst, sym, ◌∙◌}
 use Rattle.ncs_code.specs.Plain.{plain}
 use Rattle.stack_shape.specs.Rule.{rule}
 use Rattle.stack_lists.specs.Held.{AfterStep, shape_of}
@@ -19,6 +19,7 @@ returns-in-None c = record {
       (subst (λ o. AfterStep c.args.heap.now c.step.new.heap o (rule c.args.judged.now.table.now (plain c.args.at.now.op.now) (shape_of c.args.heap.now c.args.at.now.from.held)))
       c.in-None.is c.in_ok-step.ensures.after);
   waits = tt;
+  few = adds_calls_none c.args.todo.now 2;
 }
 
 pub see-requires-clause-keeps : goal.see-requires-clause-keeps
@@ -66,4 +67,6 @@ returns-in_ok-seen-in-Some c =
           × AllLed c.step.new.heap f c.args.at.now.from.trial c.leads_of-leads.result (shape_of c.step.new.heap c.in-Some.after))) w.0 c.in_ok-seen-in-Some.ensures.quiet)
           (subst (λ (f : Facts). Takes f c.lead.new.facts c.in_ok-seen-in-Some.seen) w.0 c.in_ok-seen-in-Some.ensures.takes);
       waits = waits_from c.args.todo.now c.see.new.todo c.lead.new.todo c.in_ok-seen-in-Some.seen (c.in_ok-see-in-Some.ensures.same (search rules)) c.in_ok-seen-in-Some.ensures.waits;
+      few = adds_calls_from c.args.todo.now c.see.new.todo c.lead.new.todo 2 2 (c.in_ok-see-in-Some.ensures.same (search rules)) c.in_ok-seen-in-Some.ensures.few
+          (omega arith);
     }

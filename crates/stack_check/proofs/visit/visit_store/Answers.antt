@@ -1,5 +1,5 @@
-use Rattle.stack_check.proofs.Following.{waits_changed, waits_then}
-use Rattle.std.proofs.Common.{subst}
+use Rattle.stack_check.proofs.Following.{adds_calls_then, adds_calls_up, waits_changed, waits_then}
+use Rattle.std.proofs.Common.{arith, subst}
 use Rattle.ncs_code.specs.Plain.{plain}
 use Rattle.stack_lists.specs.Growth.{heap_same, still_in}
 use Rattle.stack_check.specs.declared.seen.Seen.{Seen}
@@ -38,6 +38,7 @@ returns-in-Bad c = record {
       (subst (λ (s : Seen). SeesStep c.args.judged.now.table.now c.args.judged.now.code.now c.args.heap.now c.visit_step.new.heap c.args.facts.now c.visit_step.new.facts
       c.args.at.now.from.trial c.args.at.now.from.place c.args.at.now.from.held (plain c.args.at.now.op.now) s) c.in-Bad.is c.in_ok-first.ensures.sees);
   waits = tt;
+  few = adds_calls_up c.args.todo.now c.visit_step.new.todo 2 3 c.in_ok-first.ensures.few (omega arith);
 }
 
 pub returns-in_ok-seen-in-Quiet : goal.returns-in_ok-seen-in-Quiet
@@ -49,6 +50,7 @@ returns-in_ok-seen-in-Quiet c = record {
       c.args.at.now.from.trial c.args.at.now.from.place c.args.at.now.from.held (plain c.args.at.now.op.now) s) c.in-Quiet.is c.in_ok-first.ensures.sees)
       c.in_ok-seen-in-Quiet.ensures.keeps c.in_ok-seen-in-Quiet.ensures.quiet c.in_ok-seen-in-Quiet.ensures.takes;
   waits = waits_then c.args.todo.now c.visit_step.new.todo c.resume.new.todo c.in_ok-first.first c.in_ok-seen-in-Quiet.seen c.in_ok-first.ensures.waits c.in-Quiet.is c.in_ok-seen-in-Quiet.ensures.waits;
+  few = adds_calls_then c.args.todo.now c.visit_step.new.todo c.resume.new.todo 2 1 c.in_ok-first.ensures.few c.in_ok-seen-in-Quiet.ensures.few;
 }
 
 pub returns-in_ok-seen-in-Changed : goal.returns-in_ok-seen-in-Changed
@@ -60,4 +62,5 @@ returns-in_ok-seen-in-Changed c = record {
       (heap_same c.visit_step.new.heap) c.in_ok-seen-in-Changed.ensures.keeps c.in_ok-seen-in-Changed.ensures.quiet c.in_ok-seen-in-Changed.ensures.takes
       c.after_change.ensures;
   waits = waits_changed c.args.todo.now c.resume-in-Changed.new.todo c.in_ok-seen-in-Changed.seen c.after_change.result c.after_change.ensures;
+  few = adds_calls_then c.args.todo.now c.visit_step.new.todo c.resume-in-Changed.new.todo 2 1 c.in_ok-first.ensures.few c.in_ok-seen-in-Changed.ensures.few;
 }

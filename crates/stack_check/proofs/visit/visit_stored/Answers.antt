@@ -1,3 +1,4 @@
+use Rattle.stack_check.proofs.Following.{adds_calls_none}
 use Rattle.std.proofs.Common.{◌≡◌, IfSome, subst}
 use Rattle.std.specs.Option.{option_map}
 use Rattle.ncs_code.specs.Plain.{plain}
@@ -19,6 +20,7 @@ returns-in-None c = record {
       (subst (λ o. AfterStep c.args.heap.now c.resumed.new.heap o (option_map stored_shape (stored_of c.args.globals c.args.locals
       (shape_of c.args.heap.now c.args.at.now.from.held)))) c.in-None.is c.in_ok-resumed.ensures.after);
   waits = tt;
+  few = adds_calls_none c.args.todo.now 3;
 }
 
 pub visit_store-requires-clause-keeps : goal.visit_store-requires-clause-keeps
@@ -49,4 +51,5 @@ returns-in_ok-seen-in-Some c = record {
       (subst (λ o. AfterStep c.args.heap.now c.resumed.new.heap o (option_map stored_shape (stored_of c.args.globals c.args.locals
       (shape_of c.args.heap.now c.args.at.now.from.held)))) c.in-Some.is c.in_ok-resumed.ensures.after).0 c.in_ok-seen-in-Some.ensures.sees;
   waits = c.in_ok-seen-in-Some.ensures.waits;
+  few = c.in_ok-seen-in-Some.ensures.few;
 }

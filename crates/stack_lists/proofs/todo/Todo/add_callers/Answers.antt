@@ -1,7 +1,7 @@
 use Rattle.std.proofs.Common.{refl, subst}
 use Rattle.std.specs.Prelude.{OnOk}
 use Rattle.stack_lists.specs.Worklist.{CallersAdded, Worklist}
-use Rattle.stack_lists.proofs.Worklists.{callers_done}
+use Rattle.stack_lists.proofs.Worklists.{callers_done, list_inside}
 use Rattle.stack_lists.proofs.todo.Todo.add_callers.Goals as goal
 
 pub returns : goal.returns
@@ -28,5 +28,6 @@ returns c = record {
         cells = c.self.inside.cells;
         under = c.self.inside.under;
       })
-      _ c.args.target c.get-number.result c.put_all.result refl refl refl refl c.get-number.ensures.number c.self.invariant.2 c.put_all.ensures.put);
+      _ c.args.target c.get-number.result c.put_all.result refl refl refl refl c.get-number.ensures.number c.self.invariant.2
+      (list_inside c.self.inside.calls c.self.inside.called c.args.target c.get-number.result c.self.invariant.0 c.get-number.ensures.number) c.put_all.ensures.put);
 }
