@@ -12,7 +12,7 @@ ghost use Rattle.nwq_value.specs.declared.value.Value.TheVariants.{Text as TextV
 ghost use Rattle.table_2da.specs.Look.{look};
 ghost use Rattle.hook_table.specs.Standard.{cell_function, function_numbered, IsAnswer};
 
-use nwq_text::put_number;
+use itoa::Buffer;
 use nwq_value::{Args, NoMemory, Text, Value};
 use std::alloc::Global;
 use table_2da::Tables;
@@ -62,9 +62,8 @@ fn absolute(n: i32) -> i32
 fn decimal(alloc: Global, n: i32) -> Result<Value, NoMemory>
     ensures value { IfOk result (λ v. v ≡ string_value (signed_decimal n)) }
 {
-    let mut out = Vec::new(alloc);
-    put_number(&mut out, i64::from(n))?;
-    string_value(alloc, out.as_slice())
+    let mut digits = Buffer::new();
+    string_value(alloc, digits.format(n).as_bytes())
 }
 
 /// The number that the digits in front write, in 32 bits.
