@@ -19,13 +19,56 @@ pub struct Slot<T> {
 
 pub(crate) type Slots<T> = VecDeque<Slot<T>>;
 
-/// The place of a stamp: how many slots have a lesser one.
+/// Where the place of a stamp is, if no stamp was left out behind the first slot's.
+fn likely_place<T>(slots: &Slots<T>, stamp: u64) -> usize
+    ensures inside { result ≤ length slots.now.items }
+{
+    match slots.front() {
+        None => 0,
+        Some(first) => {
+            let ahead = stamp.saturating_sub(first.stamp);
+            if ahead < slots.len() as u64 { ahead as usize } else { slots.len() }
+        }
+    }
+}
+
+/// Whether the slot before a place has a lesser stamp, or there is none.
+#[tactic(auto, using(crate::proofs::SlotLemmas::below_steps))]
+fn passes<T>(slots: &Slots<T>, at: usize, stamp: u64) -> bool
+    requires ascend { Ascend 0 slots.now.items }
+    requires inside { at ≤ length slots.now.items }
+    ensures passed { result ≡ true → at ≤ below stamp slots.now.items }
+{
+    if at == 0 {
+        return true;
+    }
+    slots[at - 1].stamp < stamp
+}
+
+/// Whether the slot at a place has no lesser stamp, or there is none.
+#[tactic(auto, using(crate::proofs::SlotLemmas::below_steps))]
+fn stops<T>(slots: &Slots<T>, at: usize, stamp: u64) -> bool
+    requires inside { at ≤ length slots.now.items }
+    ensures stopped { result ≡ true → below stamp slots.now.items ≤ at }
+{
+    if at == slots.len() {
+        return true;
+    }
+    stamp <= slots[at].stamp
+}
+
+/// The place of a stamp: how many slots have a lesser one. Mostly no stamp was left out, or the
+/// place is behind all slots: then two looks are enough.
 #[tactic(auto, using(crate::proofs::SlotLemmas::below_steps))]
 pub(crate) fn below<T>(slots: &Slots<T>, stamp: u64) -> usize
     requires ascend { Ascend 0 slots.now.items }
     ensures place { result ≡ below stamp slots.now.items }
     ensures inside { result ≤ length slots.now.items }
 {
+    let likely = likely_place(slots, stamp);
+    if passes(slots, likely, stamp) && stops(slots, likely, stamp) {
+        return likely;
+    }
     let mut low = 0;
     let mut high = slots.len();
     while low < high {
