@@ -25,6 +25,7 @@ impl<X: Drop> Parts<X> {
     }
 
     /// The action is to run as the target, where there is such an object.
+    #[inline(never)]
     pub(crate) fn assign(&mut self, target: u32, action: Option<X>)
         requires room { 1 ≤ self.old.posts }
         requires few { self.old.world.agenda.next < 2 ^ 63 }
@@ -46,6 +47,7 @@ impl<X: Drop> Parts<X> {
     }
 
     /// The action is to run as the caller, after a delay.
+    #[inline(never)]
     pub(crate) fn delay(&mut self, caller: u32, ms: i32, action: Option<X>)
         requires room { 1 ≤ self.old.posts }
         requires few { self.old.world.agenda.next < 2 ^ 63 }
@@ -80,6 +82,7 @@ impl<X: Drop> Parts<X> {
     }
 
     /// One action more for an object to do, where there is such an object.
+    #[inline(never)]
     #[tactic(auto, using(crate::proofs::ThingsLemmas::long_changed))]
     pub(crate) fn add_action(&mut self, o: u32, item: Item<X>) -> Result<(), NoMemory>
         requires world { IsWorld self.old.world }
@@ -99,6 +102,7 @@ impl<X: Drop> Parts<X> {
     }
 
     /// One stored action more for an object to do, where there is such an object.
+    #[inline(never)]
     pub(crate) fn add_do(&mut self, o: u32, action: Option<X>) -> Result<(), NoMemory>
         requires world { IsWorld self.old.world }
         requires room { 1 ≤ self.old.posts }

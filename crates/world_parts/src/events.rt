@@ -43,6 +43,7 @@ impl<X: Drop> Parts<X> {
     }
 
     /// The event of this user number comes to an object at once, where there is one.
+    #[inline(never)]
     pub(crate) fn signal(&mut self, o: u32, user: i32) -> Result<(), NoMemory>
         requires room { 1 ≤ self.old.posts }
         requires few { self.old.world.agenda.next < 2 ^ 63 }

@@ -50,6 +50,8 @@ fn test(test: bool) -> Result<Option<Value>, NoMemory>
 impl<X: Drop> Parts<X> {
     /// The routine of this number in the built-in header; a number without one does nothing. The
     /// room for a post and a line is there, and all other room is taken before anything is changed.
+    /// What holds a line or an action is a call of its own, since a function clears the room of all
+    /// that it may hold each time it is called.
     #[tactic(auto, unfolding(crate::specs::Row::does))]
     pub fn row(
         &mut self,
@@ -115,6 +117,7 @@ impl<X: Drop> Parts<X> {
     }
 
     /// Tells an argument.
+    #[inline(never)]
     fn print(&mut self, caller: u32, value: Value) -> Result<Option<Value>, NoMemory>
         requires line { 1 ≤ self.old.lines }
         ensures told { result ≡ Ok None }
@@ -126,6 +129,7 @@ impl<X: Drop> Parts<X> {
     }
 
     /// Tells the first argument, a string.
+    #[inline(never)]
     fn print_text(&mut self, caller: u32, args: Args) -> Result<Option<Value>, NoMemory>
         requires line { 1 ≤ self.old.lines }
         ensures ok { IfOk result (λ given. record { value = given; world = self.new.world }
@@ -138,6 +142,7 @@ impl<X: Drop> Parts<X> {
     }
 
     /// Speaks the first argument.
+    #[inline(never)]
     fn speak(&mut self, caller: u32, args: Args) -> Result<Option<Value>, NoMemory>
         requires line { 1 ≤ self.old.lines }
         ensures ok { IfOk result (λ value. record { value = value; world = self.new.world }
@@ -151,6 +156,7 @@ impl<X: Drop> Parts<X> {
     }
 
     /// The caller is to speak the first argument.
+    #[inline(never)]
     fn add_speech(&mut self, caller: u32, args: Args) -> Result<Option<Value>, NoMemory>
         requires world { IsWorld self.old.world }
         requires room { 1 ≤ self.old.posts }
@@ -174,6 +180,7 @@ impl<X: Drop> Parts<X> {
     }
 
     /// Applies an effect, by its duration type, itself, its object and its time.
+    #[inline(never)]
     fn apply(&mut self, args: Args) -> Result<Option<Value>, NoMemory>
         requires world { IsWorld self.old.world }
         requires room { 1 ≤ self.old.posts }
@@ -192,6 +199,7 @@ impl<X: Drop> Parts<X> {
     }
 
     /// Removes an effect of an object.
+    #[inline(never)]
     fn remove(&mut self, args: Args) -> Result<Option<Value>, NoMemory>
         requires world { IsWorld self.old.world }
         requires line { 1 ≤ self.old.lines }
