@@ -27,7 +27,11 @@ fn likely_place<T>(slots: &Slots<T>, stamp: u64) -> usize
         None => 0,
         Some(first) => {
             let ahead = stamp.saturating_sub(first.stamp);
-            if ahead < slots.len() as u64 { ahead as usize } else { slots.len() }
+            if ahead < slots.len() as u64 {
+                ahead as usize
+            } else {
+                slots.len()
+            }
         }
     }
 }
