@@ -6,7 +6,7 @@ ghost use Rattle.nwq_value.specs.Limits.{file_limit};
 use crate::inputs::{Inputs, inputs_of};
 use crate::overwritten::put_overwritten;
 use crate::tell::End;
-use crate::units::{read_named, scripts_of, table_of};
+use crate::units::{names_of, read_named, scripts_of, table_of};
 use command_words::Command;
 use message_notes::{Input, put_play_notes};
 use message_sentences::{put_note, same};
@@ -15,7 +15,7 @@ use nss_lexer::Token;
 use nwq_outside::Files;
 use nwq_text::put_count;
 use nwq_value::{NoMemory, Role, Table, Text};
-use plan_text::read_plan;
+use plan_text::{Plan, read_plan};
 use state_format::read_parts;
 use std::alloc::Global;
 
@@ -109,18 +109,18 @@ fn has_random<F: Files>(alloc: Global, inputs: Inputs<'_>, files: &mut F) -> boo
     }
 }
 
-/// Appends a note where a script calls `Random` in a play that has no random numbers.
+/// Appends a note where one of these scripts calls `Random` in a play that has no random numbers.
 fn put_random_note<F: Files>(
     alloc: Global,
     out: &mut Vec<u8>,
     inputs: Inputs<'_>,
+    scripts: &[Text],
     name: &[u8],
     files: &mut F,
 ) -> Result<(), NoMemory>
     ensures same { F.contents files.new ≡ F.contents files.old }
 {
-    let scripts = scripts_of(alloc, inputs, files)?;
-    let Some(script) = caller(alloc, scripts.as_slice(), files)? else {
+    let Some(script) = caller(alloc, scripts, files)? else {
         return Ok(());
     };
     if !has_random(alloc, inputs, files) {
@@ -132,14 +132,6 @@ fn put_random_note<F: Files>(
         "the script `%` calls `Random`, which gives 0: the play has no random numbers",
         script.bytes(),
     )
-}
-
-/// How many random numbers a plan gives, unless it is none.
-fn given_by(alloc: Global, bytes: &[u8]) -> Option<usize> {
-    match read_plan(alloc, bytes) {
-        Ok(plan) => Some(plan.random.len()),
-        Err(_) => None,
-    }
 }
 
 /// How many random numbers a state has, if there is one in the file of this name.
@@ -188,21 +180,21 @@ fn put_numbers_note<F: Files>(
     out: &mut Vec<u8>,
     inputs: Inputs<'_>,
     end: End<'_>,
-    plan: Input<'_>,
+    plan: &Plan,
+    name: &[u8],
     files: &mut F,
 ) -> Result<(), NoMemory>
     ensures same { F.contents files.new ≡ F.contents files.old }
 {
-    match given_by(alloc, plan.bytes) {
-        None => Ok(()),
-        Some(0) => put_random_note(alloc, out, inputs, plan.name, files),
-        Some(given) => {
-            if used_up(alloc, inputs, end, files) {
-                put_used_up(alloc, out, plan.name, PLAN_USED_UP, given)
-            } else {
-                Ok(())
-            }
-        }
+    let given = plan.random.len();
+    if given == 0 {
+        let scripts = names_of(alloc, plan)?;
+        return put_random_note(alloc, out, inputs, scripts.as_slice(), name, files);
+    }
+    if used_up(alloc, inputs, end, files) {
+        put_used_up(alloc, out, name, PLAN_USED_UP, given)
+    } else {
+        Ok(())
     }
 }
 
@@ -224,6 +216,9 @@ fn put_plan_notes<F: Files>(
     ) else {
         return Ok(());
     };
+    let Ok(read) = read_plan(alloc, plan_bytes.as_slice()) else {
+        return Ok(());
+    };
     let area_input = Input {
         name: area.as_bytes(),
         bytes: area_bytes.as_slice(),
@@ -232,8 +227,8 @@ fn put_plan_notes<F: Files>(
         name: plan.as_bytes(),
         bytes: plan_bytes.as_slice(),
     };
-    put_play_notes(alloc, out, plan_input, area_input)?;
-    put_numbers_note(alloc, out, inputs, end, plan_input, files)
+    put_play_notes(alloc, out, plan_input, &read, area_input)?;
+    put_numbers_note(alloc, out, inputs, end, &read, plan.as_bytes(), files)
 }
 
 /// Appends the notes on the rest of a play, which began with the random numbers of a state.
@@ -267,7 +262,15 @@ fn put_run_notes<F: Files>(
 {
     let mut name = Vec::from_slice(alloc, script.as_bytes())?;
     name.extend_from_slice(b".nss")?;
-    put_random_note(alloc, out, inputs, name.as_slice(), files)
+    let scripts = scripts_of(alloc, inputs, files)?;
+    put_random_note(
+        alloc,
+        out,
+        inputs,
+        scripts.as_slice(),
+        name.as_slice(),
+        files,
+    )
 }
 
 /// Appends the notes on a command that played what it reads.

@@ -106,10 +106,19 @@ fn lists(plan: &Plan, file: &str) -> bool {
         .any(|script| is_file_of(script, file.as_bytes()))
 }
 
-/// Whether a plan lists a script that has this file.
+/// Whether a script could have this file, by its ending.
+fn ends_as_script(file: &[u8]) -> bool {
+    file.ends_with(b".ncs") || file.ends_with(b".nss")
+}
+
+/// Whether a plan lists a script that has this file. The plan is read only for a file that a script
+/// could have.
 fn is_listed<F: Files>(alloc: Global, plan: &str, file: &str, files: &mut F) -> bool
     ensures same { F.contents files.new ≡ F.contents files.old }
 {
+    if !ends_as_script(file.as_bytes()) {
+        return false;
+    }
     match read_named(alloc, plan, files) {
         None => false,
         Some(bytes) => match read_plan(alloc, bytes.as_slice()) {

@@ -61,7 +61,7 @@ pub(crate) fn table_of<F: Files>(alloc: Global, header: &str, files: &mut F) -> 
 }
 
 /// The names of the scripts that a plan lists.
-fn names_of(alloc: Global, plan: &Plan) -> Result<Vec<Text>, NoMemory> {
+pub(crate) fn names_of(alloc: Global, plan: &Plan) -> Result<Vec<Text>, NoMemory> {
     let mut names = Vec::new(alloc);
     for script in plan.scripts.as_slice() {
         names.push(script.name.copy(alloc)?)?;

@@ -14,7 +14,7 @@ use gff_tree::{Gff, Node};
 use message_sentences::{put_note, put_note_at};
 use nwq_text::{Line as TextLine, Lines};
 use nwq_value::NoMemory;
-use plan_text::{Line, read_plan};
+use plan_text::{Line, Plan};
 use std::alloc::Global;
 
 /// How many lines of a plan are noted at most.
@@ -160,17 +160,18 @@ fn put_lacks(
     Ok(())
 }
 
-/// Appends the notes on the lines of a plan over the area of a tree.
+/// Appends the notes on the lines of a plan, as it was read, over the area of a tree.
 fn put_plan_notes(
     alloc: Global,
     out: &mut Vec<u8>,
     plan: Input<'_>,
+    read: &Plan,
     tree: Gff,
 ) -> Result<(), NoMemory>
     requires size { length plan.bytes.now ≤ file_limit }
     requires few { node_count (plain_gff tree).top < 4294967296 }
 {
-    let (Ok(area), Ok(read)) = (Area::of(alloc, tree), read_plan(alloc, plan.bytes)) else {
+    let Ok(area) = Area::of(alloc, tree) else {
         return Ok(());
     };
     let lines = read.events.as_slice();
@@ -188,11 +189,12 @@ fn put_plan_notes(
     )
 }
 
-/// Appends the notes on the play of a plan over an area.
+/// Appends the notes on the play of a plan, as it was read, over an area.
 pub fn put_play_notes(
     alloc: Global,
     out: &mut Vec<u8>,
     plan: Input<'_>,
+    read: &Plan,
     area: Input<'_>,
 ) -> Result<(), NoMemory>
     requires plan { length plan.bytes.now ≤ file_limit }
@@ -209,5 +211,5 @@ pub fn put_play_notes(
             b"",
         )?;
     }
-    put_plan_notes(alloc, out, plan, tree)
+    put_plan_notes(alloc, out, plan, read, tree)
 }
