@@ -3,10 +3,12 @@ use Rattle.std.proofs.Common.{◌≡◌, ◌≢◌, ◌<◌, ◌≤◌, ◌++◌
 use Rattle.std.specs.Prelude.{◌⊎◌, if◌then◌else◌, nat_eq, unwrap_or, OnOk, OnErr, MatchOption}
 use Rattle.std.specs.Option.{option_or}
 use Rattle.std.proofs.lemmas.Bool.{eq-eqb}
-use Rattle.std.specs.Ordering.{nat_cmp, match_ordering}
+use Rattle.std.proofs.lemmas.Map.Keys.{ge_from_not_lt}
+use Rattle.std.specs.Ordering.{nat_cmp, is_lt, match_ordering}
 use Rattle.std.specs.declared.cmp.Ordering.{Ordering}
 use Rattle.std.specs.declared.cmp.Ordering.TheVariants.{Less, Equal, Greater}
-use Rattle.std.specs.Map.{lookup, set_value, remove_entry}
+use Rattle.std.specs.List.{All}
+use Rattle.std.specs.Map.{keys_of, lookup, set_value, remove_entry}
 use Rattle.std.specs.BTreeMap.{is_at, insert_entry}
 use Rattle.std.proofs.lemmas.Bool.Decides.{nat_tests}
 use Rattle.std.proofs.lemmas.List.{append-nil}
@@ -26,6 +28,16 @@ none_held a same = cc
 
 same_due : (due k : ℕ) → is_at (nat_cmp due) k ≡ true → k ≡ due
 same_due due k is = grind (arith, nat_tests)
+
+-- where no key is after one that is before the time, none is the time
+pub none_at_last : {X : Type 0} (due last : ℕ) (es : List (ℕ × X)) → All (λ q. is_lt (nat_cmp last q) ≡ false) (keys_of es) → last < due
+    → lookup (is_at (nat_cmp due)) es ≡ None
+none_at_last due last [] all lt = refl
+none_at_last due last (e ∷ es) all lt = by (is_at (nat_cmp due) e.0) refl (none_at_last due last es (λ k d inside. all (suc k) d (omega (arith, inside))) lt)
+  where
+    by : (b : Bool) → is_at (nat_cmp due) e.0 ≡ b → lookup (is_at (nat_cmp due)) es ≡ None → (if b then Some e.1 else lookup (is_at (nat_cmp due)) es) ≡ None
+    by true is rest = absurd (omega (arith, lt, same_due due e.0 is, ge_from_not_lt last e.0 (all 0 0 (omega arith))))
+    by false is rest = rest
 
 at_same : (due k : ℕ) → k ≡ due → is_at (nat_cmp due) k ≡ true
 at_same due k is = grind (arith, nat_tests)

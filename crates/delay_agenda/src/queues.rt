@@ -1,5 +1,5 @@
 //! Calls on the queues of entries, an ordered map from due times.
-ghost use Rattle.std.specs.Prelude.{◌≡◌, ◌≢◌, None, [], drop, slice_get, IfErr, MatchOption};
+ghost use Rattle.std.specs.Prelude.{◌≡◌, ◌≢◌, None, [], drop, slice_get, IfErr, MatchOption, true};
 ghost use Rattle.std.specs.Prelude.{OnOk, OnErr};
 ghost use Rattle.std.specs.Ordering.{nat_cmp};
 ghost use Rattle.std.specs.BTreeMap.{get};
@@ -39,6 +39,17 @@ pub(crate) fn first_of<X: Drop>(queues: &Queues<X>) -> Option<(u64, u64)>
     }
 }
 
+/// Whether there are queues and all of them are due before a time. This takes no search.
+#[tactic(auto, using(crate::proofs::Rows::none_at_last))]
+fn are_before<X: Drop>(queues: &Queues<X>, due: u64) -> bool
+    ensures before { result ≡ true → get nat_cmp queues.now due ≡ None }
+{
+    match queues.last_key_value() {
+        None => false,
+        Some((last, _)) => *last < due,
+    }
+}
+
 /// Puts an entry where it belongs. For want of memory it comes back, and the queues are as before.
 pub(crate) fn put_in<X: Drop>(
     queues: &mut Queues<X>,
@@ -54,6 +65,9 @@ pub(crate) fn put_in<X: Drop>(
     ensures queues { AreQueues queues.new.entries }
 {
     let due = entry.due;
+    if are_before(queues, due) {
+        return put_alone(queues, alloc, entry);
+    }
     match queues.get_mut(&due) {
         Some(queue) => queue.put(entry),
         None => put_alone(queues, alloc, entry),
