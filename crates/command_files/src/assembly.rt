@@ -1,9 +1,8 @@
-ghost use Rattle.std.specs.Prelude.{◌≡◌, ◌≤◌, ℕ, length, IsTrue, IfErr};
-ghost use Rattle.nwq_value.specs.Limits.{file_limit};
+ghost use Rattle.std.specs.Prelude.{◌≡◌, ℕ, IsTrue, IfErr};
 ghost use Rattle.nwq_outside.specs.Outside.{next};
-ghost use Rattle.command_work.specs.Counts.{Refusing, StopsCode};
-ghost use Rattle.command_work.specs.Calls.{DoesOn, TalliesOn, TalliesPuts, DoesPuts};
-ghost use Rattle.command_files.specs.Assemblies.{asm_flaw, assembly_in, assembly_named};
+ghost use Rattle.command_work.specs.Counts.{StopsCode};
+ghost use Rattle.command_work.specs.Calls.{DoesOn, TalliesOn};
+ghost use Rattle.command_files.specs.Assemblies.{asm_flaw, assembly_named};
 
 use command_work::{CodeFlaw, Status, read_file, refuse_code};
 use ncs_text::{AsmFault, assemble};
@@ -23,31 +22,8 @@ fn asm_flaw(fault: AsmFault) -> Option<CodeFlaw>
     }
 }
 
-/// The file of the assembler text of this name.
-#[tactic(auto, using(crate::proofs::AssemblyLemmas::assemblies))]
-fn assembly_of_text<S: Sink>(
-    alloc: Global,
-    name: &[u8],
-    text: &[u8],
-    out: &mut S,
-) -> Result<Items<u8>, Status>
-    requires { length text.now ≤ file_limit }
-    ensures does { IsTrue S.tells → DoesPuts S.taken (assembly_in name.now text.now)
-        out.old result out.new }
-    ensures counts { TalliesPuts S.faults result out.old out.new }
-    ensures only { IfErr result (Refusing Status.Code) }
-{
-    match assemble(alloc, text) {
-        Ok(file) => Ok(Items::of_vec(file)),
-        Err(fault) => match asm_flaw(fault) {
-            Some(flaw) => Err(refuse_code(alloc, name, flaw, out)),
-            None => Err(Status::Memory),
-        },
-    }
-}
-
 /// The file that the assembler text of this name stands for.
-#[tactic(auto, using(crate::proofs::Steps::steps), unfolding(crate::specs::Assemblies::assembly_named))]
+#[tactic(auto, using(crate::proofs::Steps::steps, crate::proofs::AssemblyLemmas::assemblies), unfolding(crate::specs::Assemblies::assembly_named))]
 pub fn read_assembly<F: Files, S: Sink>(
     alloc: Global,
     name: &str,
@@ -63,6 +39,12 @@ pub fn read_assembly<F: Files, S: Sink>(
 {
     match read_file(alloc, name, files, out) {
         Err(status) => Err(status),
-        Ok(text) => assembly_of_text(alloc, name.as_bytes(), text.as_slice(), out),
+        Ok(text) => match assemble(alloc, text.as_slice()) {
+            Ok(file) => Ok(Items::of_vec(file)),
+            Err(fault) => match asm_flaw(fault) {
+                Some(flaw) => Err(refuse_code(alloc, name.as_bytes(), flaw, out)),
+                None => Err(Status::Memory),
+            },
+        },
     }
 }

@@ -7,7 +7,7 @@ ghost use Rattle.command_work.specs.Counts.{Refusing, StopsCode};
 ghost use Rattle.command_work.specs.Calls.{DoesOn, TalliesOn, TalliesPuts, DoesPuts};
 ghost use Rattle.command_sources.specs.Reads.{header_read};
 ghost use Rattle.command_files.specs.Checks.{checked_in, checked_named, plain_checked_answer};
-ghost use Rattle.command_files.specs.Checks.{passed_line, puts_passed, checks_under, checks};
+ghost use Rattle.command_files.specs.Checks.{passed_line, checks};
 ghost use Rattle.command_files.specs.Checks.{KeepsTable, StopsCheck};
 
 use crate::read_code;
@@ -20,7 +20,8 @@ use nwq_value::{NoMemory, Table};
 use stack_check::{CheckFault, Checked, check};
 use std::alloc::Global;
 
-/// Checks the code of the file of this name under a header.
+/// Checks the code of the file of this name under a header. Code that is well stacked is never
+/// refused.
 #[tactic(auto)]
 pub fn check_code<S: Sink>(
     alloc: Global,
@@ -34,7 +35,6 @@ pub fn check_code<S: Sink>(
     ensures counts { TalliesPuts S.faults result out.old out.new }
     ensures kept { IfOk result (KeepsTable table.now) }
     ensures only { IfErr result (Refusing Status.Code) }
-    // Code that is well stacked is never refused.
     ensures passes { WellStacked table.now code → IfErr result CutsShort }
 {
     match check(alloc, code, table) {
@@ -44,7 +44,8 @@ pub fn check_code<S: Sink>(
     }
 }
 
-/// The file of bytecode of this name, checked under a header.
+/// The file of bytecode of this name, checked under a header. The code is well stacked by the table
+/// that is kept.
 #[tactic(auto, using(crate::proofs::Steps::steps), unfolding(crate::specs::Checks::checked_named))]
 pub fn read_checked<F: Files, S: Sink>(
     alloc: Global,
@@ -53,13 +54,11 @@ pub fn read_checked<F: Files, S: Sink>(
     files: &mut F,
     out: &mut S,
 ) -> Result<Checked, Status>
-    ensures does { IsTrue F.tells → IsTrue S.tells → DoesOn F.contents S.taken
-        (checked_named table.now name.now)
-        files.old out.old (plain_checked_answer result) files.new out.new }
+    ensures does { IsTrue F.tells → IsTrue S.tells → DoesOn F.contents S.taken (checked_named
+        table.now name.now) files.old out.old (plain_checked_answer result) files.new out.new }
     ensures counts { TalliesOn F.counts S.faults result files.old out.old files.new out.new }
     ensures same { F.contents files.new ≡ F.contents files.old }
     ensures once { F.reads files.new ≡ next (F.reads files.old) }
-    // The code is well stacked by the table that is kept.
     ensures kept { IfOk result (KeepsTable table.now) }
     ensures only { IfErr result StopsCode }
 {
@@ -79,41 +78,9 @@ fn passed_line(alloc: Global, count: u32) -> Result<Vec<u8>, NoMemory>
     Ok(text)
 }
 
-/// Puts the line for a file that passed.
-#[tactic(auto, using(command_work::specs::Parts::puts_does))]
-fn put_passed<S: Sink>(alloc: Global, checked: &Checked, out: &mut S) -> Result<(), Status>
-    ensures does { IsTrue S.tells → DoesPuts S.taken (puts_passed checked.now.code)
-        out.old result out.new }
-    ensures counts { TalliesPuts S.faults result out.old out.new }
-    ensures only { IfErr result CutsShort }
-{
-    put(passed_line(alloc, checked.code().count()), out)
-}
-
-/// Checks the file of this name under a header.
-#[tactic(auto, using(crate::proofs::Steps::steps), unfolding(crate::specs::Checks::checks_under))]
-fn check_under<F: Files, S: Sink>(
-    alloc: Global,
-    table: &Table,
-    name: &str,
-    files: &mut F,
-    out: &mut S,
-) -> Result<(), Status>
-    ensures does { IsTrue F.tells → IsTrue S.tells → DoesOn F.contents S.taken
-        (checks_under name.now table.now) files.old out.old result files.new out.new }
-    ensures counts { TalliesOn F.counts S.faults result files.old out.old files.new out.new }
-    ensures same { F.contents files.new ≡ F.contents files.old }
-    ensures once { F.reads files.new ≡ next (F.reads files.old) }
-    ensures only { IfErr result StopsCode }
-{
-    match read_checked(alloc, table, name, files, out) {
-        Err(status) => Err(status),
-        Ok(checked) => put_passed(alloc, &checked, out),
-    }
-}
-
-/// Checks the file of this name, under the header that a word names.
-#[tactic(auto, using(crate::proofs::Steps::steps, crate::proofs::CheckLemmas::stops), unfolding(crate::specs::Checks::checks))]
+/// Checks the file of this name, under the header that a word names. The header is read, unless it
+/// is the built-in one, and then the file, once.
+#[tactic(auto, using(crate::proofs::Steps::steps, crate::proofs::CheckLemmas::stops, command_work::specs::Parts::puts_does), unfolding(crate::specs::Checks::checks, crate::specs::Checks::checks_under))]
 pub fn check_file<F: Files, S: Sink>(
     alloc: Global,
     header: &str,
@@ -125,13 +92,15 @@ pub fn check_file<F: Files, S: Sink>(
         (checks header.now name.now) files.old out.old result files.new out.new }
     ensures counts { TalliesOn F.counts S.faults result files.old out.old files.new out.new }
     ensures same { F.contents files.new ≡ F.contents files.old }
-    // The header is read, unless it is the built-in one, and then the file, once.
     ensures once { OnOk result
         (F.reads files.new ≡ next (header_read header.now (F.reads files.old))) }
     ensures only { IfErr result StopsCheck }
 {
     match read_table(alloc, header, files, out) {
         Err(status) => Err(status),
-        Ok(table) => check_under(alloc, &table, name, files, out),
+        Ok(table) => match read_checked(alloc, &table, name, files, out) {
+            Err(status) => Err(status),
+            Ok(checked) => put(passed_line(alloc, checked.code().count()), out),
+        },
     }
 }

@@ -29,7 +29,8 @@ fn load_flaw(fault: LoadFault) -> Option<CodeFlaw>
     }
 }
 
-/// The instructions in the bytes of the file of this name.
+/// The instructions in the bytes of the file of this name. The bytes of a file are refused never,
+/// and its instructions are loaded.
 #[tactic(auto, using(crate::proofs::CodeLemmas::codes))]
 pub fn code_of_bytes<S: Sink>(
     alloc: Global,
@@ -42,7 +43,6 @@ pub fn code_of_bytes<S: Sink>(
         out.old result out.new }
     ensures counts { TalliesPuts S.faults result out.old out.new }
     ensures only { IfErr result (Refusing Status.Code) }
-    // The bytes of a file are refused never, and its instructions are loaded.
     ensures one { (ops : List PlainOp) → IsCode ops → bytes.items ≡ file_bytes ops →
         IfOk result (λ code. code ≡ ops) }
     ensures whole { (ops : List PlainOp) → IsCode ops → bytes.items ≡ file_bytes ops →

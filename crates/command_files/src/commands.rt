@@ -1,15 +1,13 @@
 //! The commands that turn a file into a text, or a text into a file.
 
 ghost use Rattle.std.specs.Prelude.{◌≡◌, ℕ, length, codes, IsTrue, IfErr};
-ghost use Rattle.gff_tree.specs.Whole.{plain_gff};
 ghost use Rattle.nwq_outside.specs.Outside.{next};
 ghost use Rattle.command_work.specs.Work.{CutsShort};
 ghost use Rattle.command_work.specs.Counts.{KeepsBut, StopsArea, StopsCode};
-ghost use Rattle.command_work.specs.Calls.{DoesOn, TalliesOn, TalliesPuts, IsName, DoesPuts};
+ghost use Rattle.command_work.specs.Calls.{DoesOn, TalliesOn, IsName};
 ghost use Rattle.command_files.specs.Texts.{done_line};
-ghost use Rattle.command_files.specs.Commands.{puts_tree, shows_tree, writes_and_puts};
-ghost use Rattle.command_files.specs.Commands.{writes_listing, disassembles, writes_assembly};
-ghost use Rattle.command_files.specs.Commands.{assembles};
+ghost use Rattle.command_files.specs.Commands.{shows_tree, writes_and_puts};
+ghost use Rattle.command_files.specs.Commands.{disassembles, assembles};
 
 use crate::assembly::read_assembly;
 use crate::code::read_code;
@@ -17,26 +15,13 @@ use crate::texts::done_line;
 use crate::tree::read_tree;
 use command_work::{Status, put, write_file};
 use gff_text::tree_text;
-use gff_tree::Gff;
-use ncs_file::Code;
 use ncs_text::disassemble;
 use nwq_outside::{Files, Sink};
 use nwq_value::NoMemory;
 use std::alloc::Global;
 
-/// Puts the text of a tree.
-#[tactic(auto, using(command_work::specs::Parts::puts_does))]
-fn put_tree<S: Sink>(alloc: Global, tree: &Gff, out: &mut S) -> Result<(), Status>
-    ensures does { IsTrue S.tells → DoesPuts S.taken (puts_tree (plain_gff tree.now))
-        out.old result out.new }
-    ensures counts { TalliesPuts S.faults result out.old out.new }
-    ensures only { IfErr result CutsShort }
-{
-    put(tree_text(alloc, tree), out)
-}
-
 /// Shows the tree of the GFF file of this name.
-#[tactic(auto, using(crate::proofs::Steps::steps), unfolding(crate::specs::Commands::shows_tree))]
+#[tactic(auto, using(crate::proofs::Steps::steps, command_work::specs::Parts::puts_does), unfolding(crate::specs::Commands::shows_tree))]
 pub fn show_tree<F: Files, S: Sink>(
     alloc: Global,
     file: &str,
@@ -52,7 +37,7 @@ pub fn show_tree<F: Files, S: Sink>(
 {
     match read_tree(alloc, file, files, out) {
         Err(status) => Err(status),
-        Ok(tree) => put_tree(alloc, &tree, out),
+        Ok(tree) => put(tree_text(alloc, &tree), out),
     }
 }
 
@@ -81,41 +66,8 @@ pub fn write_and_put<F: Files, S: Sink>(
     }
 }
 
-/// Writes the text of instructions.
-#[tactic(auto, using(crate::proofs::CommandLemmas::bytes_wanted, command_work::specs::KeepsLemmas::keeps_all))]
-fn write_listing<F: Files, S: Sink>(
-    alloc: Global,
-    to: &str,
-    code: &Code,
-    files: &mut F,
-    out: &mut S,
-) -> Result<(), Status>
-    ensures does { IsTrue F.tells → IsTrue S.tells → DoesOn F.contents S.taken
-        (writes_listing to.now code.now) files.old out.old result files.new out.new }
-    ensures counts { TalliesOn F.counts S.faults result files.old out.old files.new out.new }
-    ensures names { KeepsBut (IsName to.now) (F.contents files.old) (F.contents files.new) }
-    ensures unread { F.reads files.new ≡ F.reads files.old }
-    ensures only { IfErr result CutsShort }
-{
-    match disassemble(alloc, code) {
-        Err(NoMemory) => Err(Status::Memory),
-        Ok(text) => {
-            let count = u64::from(code.count());
-            write_and_put(
-                alloc,
-                to,
-                text.as_slice(),
-                "disassembled ",
-                count,
-                files,
-                out,
-            )
-        }
-    }
-}
-
 /// Writes the text of the file of bytecode of this name under another.
-#[tactic(auto, using(crate::proofs::Steps::steps, command_work::specs::KeepsLemmas::keeps_all), unfolding(crate::specs::Commands::disassembles))]
+#[tactic(auto, using(crate::proofs::Steps::steps, crate::proofs::CommandLemmas::bytes_wanted, command_work::specs::KeepsLemmas::keeps_all), unfolding(crate::specs::Commands::disassembles))]
 pub fn disassemble_file<F: Files, S: Sink>(
     alloc: Global,
     file: &str,
@@ -132,7 +84,14 @@ pub fn disassemble_file<F: Files, S: Sink>(
 {
     match read_code(alloc, file, files, out) {
         Err(status) => Err(status),
-        Ok(code) => write_listing(alloc, to, &code, files, out),
+        Ok(code) => match disassemble(alloc, &code) {
+            Err(NoMemory) => Err(Status::Memory),
+            Ok(text) => {
+                let count = u64::from(code.count());
+                let text = text.as_slice();
+                write_and_put(alloc, to, text, "disassembled ", count, files, out)
+            }
+        },
     }
 }
 

@@ -15,7 +15,8 @@ use nwq_value::Table;
 use stack_check::Checked;
 use std::alloc::Global;
 
-/// The instructions in the bytes of the file of this name, checked under a header.
+/// The instructions in the bytes of the file of this name, checked under a header. A file of well
+/// stacked instructions is never refused.
 #[tactic(auto, using(crate::proofs::Steps::steps), unfolding(crate::specs::Checks::loaded_in))]
 pub fn load_checked<S: Sink>(
     alloc: Global,
@@ -30,7 +31,6 @@ pub fn load_checked<S: Sink>(
     ensures counts { TalliesPuts S.faults result out.old out.new }
     ensures kept { IfOk result (KeepsTable table.now) }
     ensures only { IfErr result (Refusing Status.Code) }
-    // A file of well stacked instructions is never refused.
     ensures passes { IsStackedFile table.now bytes.items → IfErr result CutsShort }
 {
     match code_of_bytes(alloc, name, bytes, out) {

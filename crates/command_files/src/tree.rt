@@ -1,6 +1,5 @@
-ghost use Rattle.std.specs.Prelude.{◌≡◌, ◌≤◌, ◌<◌, ℕ, length, IsTrue, IfOk, IfErr, None};
+ghost use Rattle.std.specs.Prelude.{◌≡◌, ◌≤◌, ◌<◌, ℕ, length, IsTrue, IfOk, IfErr};
 ghost use Rattle.nwq_value.specs.Limits.{file_limit};
-ghost use Rattle.gff_bytes.specs.File.{open_fault};
 ghost use Rattle.gff_tree.specs.Whole.{plain_gff};
 ghost use Rattle.gff_tree.specs.Count.{node_count};
 ghost use Rattle.gff_read.specs.Stands.{Stands};
@@ -42,34 +41,9 @@ fn tree_flaw(fault: TreeFault) -> Option<AreaFlaw>
     }
 }
 
-/// The tree of a GFF file whose sections lie inside it.
-#[tactic(auto, using(crate::proofs::TreeLemmas::trees))]
-fn tree_of_view<S: Sink>(
-    alloc: Global,
-    name: &[u8],
-    view: &View<'_>,
-    out: &mut S,
-) -> Result<Gff, Status>
-    requires opens { open_fault view.now ≡ None }
-    ensures does { IsTrue S.tells → DoesPuts S.taken (tree_in name.now view.now)
-        out.old (plain_tree_answer result) out.new }
-    ensures counts { TalliesPuts S.faults result out.old out.new }
-    ensures stands { IfOk result (λ tree. Stands view.now (plain_gff tree)) }
-    // The structs of a tree can be numbered by 32 bits.
-    ensures few { IfOk result (λ tree. node_count (plain_gff tree).top < 4294967296) }
-    ensures only { IfErr result (Refusing Status.Area) }
-{
-    match read(alloc, view) {
-        Ok(tree) => Ok(tree),
-        Err(fault) => match tree_flaw(fault) {
-            Some(flaw) => Err(refuse_area(alloc, name, flaw, out)),
-            None => Err(Status::Memory),
-        },
-    }
-}
-
-/// The tree in the bytes of the file of this name.
-#[tactic(auto, using(crate::proofs::TreeLemmas::unopened_does))]
+/// The tree in the bytes of the file of this name: what the bytes stand for. Its structs can be
+/// numbered by 32 bits.
+#[tactic(auto, using(crate::proofs::TreeLemmas::unopened_does, crate::proofs::TreeLemmas::trees))]
 pub fn tree_of_bytes<S: Sink>(
     alloc: Global,
     name: &[u8],
@@ -80,19 +54,23 @@ pub fn tree_of_bytes<S: Sink>(
     ensures does { IsTrue S.tells → DoesPuts S.taken (tree_in name.now bytes.now)
         out.old (plain_tree_answer result) out.new }
     ensures counts { TalliesPuts S.faults result out.old out.new }
-    // What is read is what the bytes stand for.
     ensures stands { IfOk result (λ tree. Stands bytes.now (plain_gff tree)) }
-    // The structs of a tree can be numbered by 32 bits.
     ensures few { IfOk result (λ tree. node_count (plain_gff tree).top < 4294967296) }
     ensures only { IfErr result (Refusing Status.Area) }
 {
     match View::open(bytes) {
         Err(fault) => Err(refuse_area(alloc, name, open_flaw(fault), out)),
-        Ok(view) => tree_of_view(alloc, name, &view, out),
+        Ok(view) => match read(alloc, &view) {
+            Ok(tree) => Ok(tree),
+            Err(fault) => match tree_flaw(fault) {
+                Some(flaw) => Err(refuse_area(alloc, name, flaw, out)),
+                None => Err(Status::Memory),
+            },
+        },
     }
 }
 
-/// The tree of the GFF file of this name.
+/// The tree of the GFF file of this name, whose structs can be numbered by 32 bits.
 #[tactic(auto, using(crate::proofs::Steps::steps), unfolding(crate::specs::Trees::tree_named))]
 pub fn read_tree<F: Files, S: Sink>(
     alloc: Global,
@@ -105,7 +83,6 @@ pub fn read_tree<F: Files, S: Sink>(
     ensures counts { TalliesOn F.counts S.faults result files.old out.old files.new out.new }
     ensures same { F.contents files.new ≡ F.contents files.old }
     ensures once { F.reads files.new ≡ next (F.reads files.old) }
-    // The structs of the tree can be numbered by 32 bits.
     ensures few { IfOk result (λ tree. node_count (plain_gff tree).top < 4294967296) }
     ensures only { IfErr result StopsArea }
 {

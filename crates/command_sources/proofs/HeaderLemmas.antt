@@ -51,4 +51,4 @@ module _ (name bytes : List ℕ) (c : Contents) where
 -- the built-in header
 pub ruleset built = (cut_here, makes_does)
 
-pub ruleset fates = (bad_does, header_does, twice_does, many_does, cut_does)
+pub ruleset fates = (table_does, bad_does, header_does, twice_does, many_does, cut_does)

@@ -1,12 +1,12 @@
-ghost use Rattle.std.specs.Prelude.{◌≡◌, ◌≤◌, ℕ, List, length, IsTrue, IfOk, IfErr, Err};
+ghost use Rattle.std.specs.Prelude.{◌≡◌, ◌≤◌, ℕ, List, length, IsTrue, IfOk, IfErr};
 ghost use Rattle.std.specs.Prelude.{bytes_eq, codes};
 ghost use Rattle.nwq_value.specs.Limits.{file_limit};
 ghost use Rattle.nwq_value.specs.Engine.{EngineTable};
 ghost use Rattle.nwq_outside.specs.Outside.{next};
-ghost use Rattle.engine_table.specs.Headers.{HasTable, IsRefused, IsWithin};
+ghost use Rattle.engine_table.specs.Headers.{HasTable};
 ghost use Rattle.command_work.specs.Counts.{Refusing, StopsSource};
-ghost use Rattle.command_work.specs.Calls.{DoesOn, TalliesOn, TalliesPuts, TalliesStop, DoesPuts};
-ghost use Rattle.command_sources.specs.Headers.{table_in, table_named, table_of_word};
+ghost use Rattle.command_work.specs.Calls.{DoesOn, TalliesOn, TalliesPuts, DoesPuts};
+ghost use Rattle.command_sources.specs.Headers.{table_in, table_of_word};
 ghost use Rattle.command_sources.specs.Reads.{header_read};
 
 use command_work::{Cause, Status, read_file, refuse_at};
@@ -16,37 +16,8 @@ use nwq_text::line_of;
 use nwq_value::{NoMemory, Table};
 use std::alloc::Global;
 
-/// Refuses a header's text, which is that of the file of this name.
-#[tactic(auto, using(crate::proofs::HeaderLemmas::fates))]
-fn refuse_header<S: Sink>(
-    alloc: Global,
-    name: &[u8],
-    bytes: &[u8],
-    fault: HeaderFault,
-    out: &mut S,
-) -> Status
-    requires size { length bytes.now ≤ file_limit }
-    requires within { IsWithin (length bytes.now) fault }
-    ensures does { IsTrue S.tells → IsRefused bytes.now fault → DoesPuts S.taken
-        (table_in name.now bytes.now) out.old (Err result) out.new }
-    ensures counts { TalliesStop S.faults result out.old out.new }
-    ensures only { Refusing Status.Script result }
-{
-    match fault {
-        HeaderFault::Bad(at) => refuse_at(alloc, name, line_of(bytes, at), at, Cause::Bad, out),
-        HeaderFault::Header(at) => {
-            refuse_at(alloc, name, line_of(bytes, at), at, Cause::Header, out)
-        }
-        HeaderFault::Twice(at) => {
-            refuse_at(alloc, name, line_of(bytes, at), at, Cause::Twice, out)
-        }
-        HeaderFault::Many(at) => refuse_at(alloc, name, line_of(bytes, at), at, Cause::Many, out),
-        HeaderFault::NoMemory => Status::Memory,
-    }
-}
-
 /// The table of a header's text, which is that of the file of this name.
-#[tactic(auto, using(crate::proofs::HeaderLemmas::table_does))]
+#[tactic(auto, using(crate::proofs::HeaderLemmas::fates))]
 pub fn table_of_text<S: Sink>(
     alloc: Global,
     name: &[u8],
@@ -62,28 +33,19 @@ pub fn table_of_text<S: Sink>(
 {
     match read_header(alloc, bytes) {
         Ok(table) => Ok(table),
-        Err(fault) => Err(refuse_header(alloc, name, bytes, fault, out)),
-    }
-}
-
-/// The table of the header file of this name.
-#[tactic(auto, using(crate::proofs::Steps::steps), unfolding(crate::specs::Headers::table_named))]
-fn table_of_file<F: Files, S: Sink>(
-    alloc: Global,
-    name: &str,
-    files: &mut F,
-    out: &mut S,
-) -> Result<Table, Status>
-    ensures does { IsTrue F.tells → IsTrue S.tells → DoesOn F.contents S.taken
-        (table_named name.now) files.old out.old result files.new out.new }
-    ensures counts { TalliesOn F.counts S.faults result files.old out.old files.new out.new }
-    ensures same { F.contents files.new ≡ F.contents files.old }
-    ensures once { F.reads files.new ≡ next (F.reads files.old) }
-    ensures only { IfErr result StopsSource }
-{
-    match read_file(alloc, name, files, out) {
-        Err(status) => Err(status),
-        Ok(bytes) => table_of_text(alloc, name.as_bytes(), bytes.as_slice(), out),
+        Err(HeaderFault::Bad(at)) => {
+            Err(refuse_at(alloc, name, line_of(bytes, at), at, Cause::Bad, out))
+        }
+        Err(HeaderFault::Header(at)) => {
+            Err(refuse_at(alloc, name, line_of(bytes, at), at, Cause::Header, out))
+        }
+        Err(HeaderFault::Twice(at)) => {
+            Err(refuse_at(alloc, name, line_of(bytes, at), at, Cause::Twice, out))
+        }
+        Err(HeaderFault::Many(at)) => {
+            Err(refuse_at(alloc, name, line_of(bytes, at), at, Cause::Many, out))
+        }
+        Err(HeaderFault::NoMemory) => Err(Status::Memory),
     }
 }
 
@@ -95,7 +57,7 @@ pub fn is_dash(word: &str) -> bool
 }
 
 /// The table of the header that a word names: `-` is the built-in one, every other word a file.
-#[tactic(auto, using(crate::proofs::HeaderLemmas::built), unfolding(crate::specs::Headers::table_of_word))]
+#[tactic(auto, using(crate::proofs::Steps::steps, crate::proofs::HeaderLemmas::built), unfolding(crate::specs::Headers::table_of_word, crate::specs::Headers::table_named))]
 pub fn read_table<F: Files, S: Sink>(
     alloc: Global,
     header: &str,
@@ -109,11 +71,15 @@ pub fn read_table<F: Files, S: Sink>(
     ensures once { F.reads files.new ≡ header_read header.now (F.reads files.old) }
     ensures only { IfErr result StopsSource }
 {
-    if !is_dash(header) {
-        return table_of_file(alloc, header, files, out);
-    }
-    match built_in(alloc) {
-        Ok(table) => Ok(table),
-        Err(NoMemory) => Err(Status::Memory),
+    if is_dash(header) {
+        match built_in(alloc) {
+            Ok(table) => Ok(table),
+            Err(NoMemory) => Err(Status::Memory),
+        }
+    } else {
+        match read_file(alloc, header, files, out) {
+            Err(status) => Err(status),
+            Ok(bytes) => table_of_text(alloc, header.as_bytes(), bytes.as_slice(), out),
+        }
     }
 }

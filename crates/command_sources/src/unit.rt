@@ -92,13 +92,12 @@ pub fn refuse_end<S: Sink>(alloc: Global, unit: &Unit, cause: Cause, out: &mut S
     }
 }
 
-/// Refuses a script that has no unit.
+/// Refuses a script that has no unit. The counts of the files are those that its fault came with.
 #[tactic(auto)]
 fn refuse_gather<S: Sink>(alloc: Global, fault: GatherFault, out: &mut S) -> Status
     ensures does { IsTrue S.tells → (c : Contents) (name : List ℕ) →
         Gathers (content c) name (Err fault) →
         Does (unit_of name) c (S.taken out.old) (Err result) c (S.taken out.new) }
-    // The counts before and now, where the fault came with them.
     ensures counts { (before now : FileCounts) → IsCounted fault before now → TalliesEnd result
         (Counted before (S.faults out.old)) (Counted now (S.faults out.new)) }
     ensures only { StopsSource result }
@@ -129,26 +128,8 @@ fn tree_of(alloc: Global, unit: &Unit) -> Result<Tree, ParseFault>
     }
 }
 
-/// Refuses a unit that has no tree.
-#[tactic(auto, using(crate::proofs::UnitLemmas::parsed))]
-fn refuse_parse<S: Sink>(alloc: Global, unit: &Unit, fault: ParseFault, out: &mut S) -> Status
-    requires script { 0 < length unit.now.files }
-    requires fault { HasFault unit.now fault }
-    ensures does { IsTrue S.tells → (c : Contents) (name : List ℕ) →
-        IsUnit (content c) name unit.now.tokens unit.now.files None →
-        Does (unit_of name) c (S.taken out.old) (Err result) c (S.taken out.new) }
-    ensures counts { TalliesStop S.faults result out.old out.new }
-    ensures only { Refusing Status.Script result }
-{
-    match fault {
-        ParseFault::Nested(i) => refuse_token(alloc, unit, i as usize, Cause::Nested, out),
-        ParseFault::Syntax(i) => refuse_token(alloc, unit, i as usize, Cause::Syntax, out),
-        ParseFault::NoMemory => Status::Memory,
-    }
-}
-
 /// The script of a unit.
-#[tactic(auto, using(crate::proofs::UnitLemmas::whole_does))]
+#[tactic(auto, using(crate::proofs::UnitLemmas::whole_does, crate::proofs::UnitLemmas::parsed))]
 fn parsed<S: Sink>(alloc: Global, unit: Unit, out: &mut S) -> Result<Script, Status>
     requires { 0 < length unit.files }
     ensures does { IsTrue S.tells → (c : Contents) (name : List ℕ) →
@@ -159,12 +140,19 @@ fn parsed<S: Sink>(alloc: Global, unit: Unit, out: &mut S) -> Result<Script, Sta
     ensures only { IfErr result (Refusing Status.Script) }
 {
     match tree_of(alloc, &unit) {
-        Err(fault) => Err(refuse_parse(alloc, &unit, fault, out)),
         Ok(tree) => Ok(Script { unit, tree }),
+        Err(ParseFault::Nested(i)) => {
+            Err(refuse_token(alloc, &unit, i as usize, Cause::Nested, out))
+        }
+        Err(ParseFault::Syntax(i)) => {
+            Err(refuse_token(alloc, &unit, i as usize, Cause::Syntax, out))
+        }
+        Err(ParseFault::NoMemory) => Err(Status::Memory),
     }
 }
 
-/// The unit of the script of this name, with its tree.
+/// The unit of the script of this name, with its tree, which is that of the unit's tokens also
+/// where files don't tell what they hold.
 #[tactic(auto, using(crate::proofs::UnitLemmas::has_some))]
 pub fn read_unit<F: Files, S: Sink>(
     alloc: Global,
@@ -174,7 +162,6 @@ pub fn read_unit<F: Files, S: Sink>(
 ) -> Result<Script, Status>
     ensures does { IsTrue F.tells → IsTrue S.tells → DoesOn F.contents S.taken (unit_of script.now)
         files.old out.old (plain_script_answer result) files.new out.new }
-    // Also of files that don't tell what they hold the tree is that of the unit's tokens.
     ensures tree { IfOk result (λ script. HasTree script.unit (plain_tree script.tree)) }
     ensures counts { TalliesOn F.counts S.faults result files.old out.old files.new out.new }
     ensures same { F.contents files.new ≡ F.contents files.old }

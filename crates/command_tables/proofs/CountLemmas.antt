@@ -1,5 +1,6 @@
 -- How often files were read for tables.
-use Rattle.std.proofs.Common.{◌≡◌, ℕ, inl, inr, List, [], ◌∷◌, ◌++◌, length, Result, Ok, Err, IfOk, OnOk, OnErr, refl, sym, ap, subst, ◌∙◌, arith, append_assoc, append-nil}
+use Rattle.std.proofs.Common.{◌≡◌, ℕ, inl, inr, List, [], ◌∷◌, ◌++◌, length, Option, Some, Bor, Result, Ok, Err, IfOk, OnOk, OnErr, refl, sym, ap, subst, ◌∙◌, arith, append_assoc, append-nil}
+use Rattle.std.specs.Option.{option_map}
 use Rattle.nwq_outside.specs.Outside.{Contents, next}
 use Rattle.command_work.specs.declared.status.Status.{Status}
 use Rattle.command_work.specs.Refusal.{status_of}
@@ -8,7 +9,7 @@ use Rattle.command_work.specs.Parts.{value_or, ok_not_err}
 use Rattle.command_work.specs.Reading.{IsRead, IsUnread}
 use Rattle.command_work.specs.Comes.{Came, gave, stopped, cut, file_comes}
 use Rattle.command_tables.specs.Lists.{HasNames}
-use Rattle.command_tables.specs.Reads.{AtMostOnce, after_each, ReadsFront, ListsNames, ReadsListed, ReadsPart, alone, some}
+use Rattle.command_tables.specs.Reads.{AtMostOnce, after_each, ReadsFront, ListsNames, ReadsListed, ReadsPart, alone, some, ReadsTables, ReadsSomeTables}
 
 -- ---- one read, or none
 
@@ -89,3 +90,11 @@ pub listed_part : {A : Type 0} (r : Result A Status) (list : List ℕ) (c : Cont
 listed_part (Ok a) list c names all before mid now same lists is front = tt
 listed_part (Err status) list c names all before mid now same lists is front =
     some names lists (subst (λ xs. ReadsFront xs (next before) now) same (subst (λ n. ReadsFront all n now) is front))
+
+-- where there is a list, what is read for a command is read for it
+module _ {A : Type 0} (r : Result A Status) (list : Option (Bor (List ℕ))) (name : Bor (List ℕ)) (is : list ≡ Some name) (c : Contents) (before now : ℕ) where
+  pub given_all : OnOk r (ReadsListed name.now c before now) → OnOk r (ReadsTables (option_map (λ (n : Bor (List ℕ)). n.now) list) c before now)
+  given_all reads = subst (λ (o : Option (Bor (List ℕ))). OnOk r (ReadsTables (option_map (λ (n : Bor (List ℕ)). n.now) o) c before now)) (sym is) reads
+
+  pub given_part : OnErr r (ReadsPart name.now c before now) → OnErr r (ReadsSomeTables (option_map (λ (n : Bor (List ℕ)). n.now) list) c before now)
+  given_part reads = subst (λ (o : Option (Bor (List ℕ))). OnErr r (ReadsSomeTables (option_map (λ (n : Bor (List ℕ)). n.now) o) c before now)) (sym is) reads

@@ -1,9 +1,9 @@
 ghost use Rattle.std.specs.Prelude.{◌≡◌, ℕ, true, [], ◌∷◌, ◌++◌, IsTrue, IfOk, IfErr, OnOk};
 ghost use Rattle.std.specs.List.{list_any};
 ghost use Rattle.table_2da.specs.Look.{same_name};
-ghost use Rattle.command_work.specs.Counts.{Refusing, StopsArea};
-ghost use Rattle.command_work.specs.Calls.{DoesOn, TalliesOn, TalliesPuts, DoesPuts};
-ghost use Rattle.command_tables.specs.Lists.{may_follow, AreNames, HasNames, IsFaulty, names_in};
+ghost use Rattle.command_work.specs.Counts.{StopsArea};
+ghost use Rattle.command_work.specs.Calls.{DoesOn, TalliesOn};
+ghost use Rattle.command_tables.specs.Lists.{may_follow, AreNames, HasNames, IsFaulty};
 ghost use Rattle.command_tables.specs.Lists.{names_listed};
 ghost use Rattle.command_tables.specs.Reads.{ListsNames};
 ghost use Rattle.nwq_outside.specs.Outside.{next};
@@ -76,30 +76,8 @@ fn names_of_text(alloc: Global, bytes: &[u8]) -> Result<Names, ListFault>
     Ok(names)
 }
 
-/// The names in the text of the file of this name.
-#[tactic(auto, using(crate::proofs::ListLemmas::lists))]
-fn names_of_bytes<S: Sink>(
-    alloc: Global,
-    list: &[u8],
-    bytes: &[u8],
-    out: &mut S,
-) -> Result<Names, Status>
-    ensures does { IsTrue S.tells → DoesPuts S.taken (names_in list.now bytes.now)
-        out.old result out.new }
-    ensures counts { TalliesPuts S.faults result out.old out.new }
-    ensures has { IfOk result (HasNames bytes.now) }
-    ensures names { IfOk result AreNames }
-    ensures only { IfErr result (Refusing Status.Area) }
-{
-    match names_of_text(alloc, bytes) {
-        Ok(names) => Ok(names),
-        Err(ListFault::Line(line)) => Err(refuse_area(alloc, list, AreaFlaw::Line(line), out)),
-        Err(ListFault::NoMemory) => Err(Status::Memory),
-    }
-}
-
 /// The names that the file of this name lists.
-#[tactic(auto, using(crate::proofs::Steps::steps), unfolding(crate::specs::Lists::names_listed))]
+#[tactic(auto, using(crate::proofs::Steps::steps, crate::proofs::ListLemmas::lists), unfolding(crate::specs::Lists::names_listed))]
 pub(crate) fn read_list<F: Files, S: Sink>(
     alloc: Global,
     list: &str,
@@ -118,6 +96,12 @@ pub(crate) fn read_list<F: Files, S: Sink>(
 {
     match read_file(alloc, list, files, out) {
         Err(status) => Err(status),
-        Ok(bytes) => names_of_bytes(alloc, list.as_bytes(), bytes.as_slice(), out),
+        Ok(bytes) => match names_of_text(alloc, bytes.as_slice()) {
+            Ok(names) => Ok(names),
+            Err(ListFault::Line(line)) => {
+                Err(refuse_area(alloc, list.as_bytes(), AreaFlaw::Line(line), out))
+            }
+            Err(ListFault::NoMemory) => Err(Status::Memory),
+        },
     }
 }

@@ -7,11 +7,9 @@ ghost use Rattle.command_work.specs.Counts.{StopsArea};
 ghost use Rattle.command_work.specs.Calls.{DoesOn, TalliesOn};
 ghost use Rattle.command_tables.specs.Lists.{AreNames};
 ghost use Rattle.command_tables.specs.Reading.{with_tables};
-ghost use Rattle.command_tables.specs.Reads.{AtMostOnce, ReadsFront, ReadsListed, ReadsPart};
-ghost use Rattle.command_tables.specs.Reads.{after_each, ReadsTables, ReadsSomeTables};
-ghost use Rattle.command_tables.specs.Tables.{table_file, table_in_file, with_table, one_more};
-ghost use Rattle.command_tables.specs.Tables.{all_behind};
-ghost use Rattle.command_tables.specs.Tables.{tables_listed, tables_given};
+ghost use Rattle.command_tables.specs.Reads.{AtMostOnce, ReadsFront, after_each, ReadsTables};
+ghost use Rattle.command_tables.specs.Reads.{ReadsSomeTables};
+ghost use Rattle.command_tables.specs.Tables.{with_table, one_more, all_behind, tables_given};
 
 use crate::list::read_list;
 use crate::table::{file_of, read_named};
@@ -20,29 +18,6 @@ use nwq_outside::{Files, Sink};
 use nwq_value::{NoMemory, Text};
 use std::alloc::Global;
 use table_2da::{Table2, Tables};
-
-/// The table of this name.
-#[tactic(auto, using(crate::proofs::ReadLemmas::table_wanted, crate::proofs::CountLemmas::most_reads))]
-fn read_one<F: Files, S: Sink>(
-    alloc: Global,
-    name: &[u8],
-    files: &mut F,
-    out: &mut S,
-) -> Result<Table2, Status>
-    requires name { IsTrue (is_script_name name.now) }
-    ensures does { IsTrue F.tells → IsTrue S.tells → DoesOn F.contents S.taken
-        (table_in_file (table_file name.now)) files.old out.old result files.new out.new }
-    ensures counts { TalliesOn F.counts S.faults result files.old out.old files.new out.new }
-    ensures same { F.contents files.new ≡ F.contents files.old }
-    ensures once { OnOk result (F.reads files.new ≡ next (F.reads files.old)) }
-    ensures most { OnErr result (AtMostOnce (F.reads files.old) (F.reads files.new)) }
-    ensures only { IfErr result StopsArea }
-{
-    match file_of(alloc, name) {
-        Err(NoMemory) => Err(Status::Memory),
-        Ok(file) => read_named(alloc, &file, files, out),
-    }
-}
 
 /// Puts a table under a copy of the name last.
 fn put_table(alloc: Global, name: &Text, table: Table2, tables: &mut Tables) -> Result<(), NoMemory>
@@ -59,7 +34,7 @@ fn put_table(alloc: Global, name: &Text, table: Table2, tables: &mut Tables) -> 
 }
 
 /// Reads the table of this name and puts it last.
-#[tactic(auto, using(crate::proofs::Steps::steps, crate::proofs::ReadLemmas::more_tables, crate::proofs::CountLemmas::most_reads), unfolding(crate::specs::Tables::one_more))]
+#[tactic(auto, using(crate::proofs::Steps::steps, crate::proofs::ReadLemmas::table_wanted, crate::proofs::ReadLemmas::more_tables, crate::proofs::CountLemmas::most_reads), unfolding(crate::specs::Tables::one_more))]
 fn add_table<F: Files, S: Sink>(
     alloc: Global,
     name: &Text,
@@ -80,47 +55,19 @@ fn add_table<F: Files, S: Sink>(
     ensures most { OnErr result (AtMostOnce (F.reads files.old) (F.reads files.new)) }
     ensures only { IfErr result StopsArea }
 {
-    match read_one(alloc, name.bytes(), files, out) {
-        Err(status) => Err(status),
-        Ok(table) => match put_table(alloc, name, table, tables) {
-            Err(NoMemory) => Err(Status::Memory),
-            Ok(()) => Ok(()),
+    match file_of(alloc, name.bytes()) {
+        Err(NoMemory) => Err(Status::Memory),
+        Ok(file) => match read_named(alloc, &file, files, out) {
+            Err(status) => Err(status),
+            Ok(table) => match put_table(alloc, name, table, tables) {
+                Err(NoMemory) => Err(Status::Memory),
+                Ok(()) => Ok(()),
+            },
         },
     }
 }
 
-/// Reads the tables of these names in order and puts them last.
-fn add_tables<F: Files, S: Sink>(
-    alloc: Global,
-    names: &[Text],
-    tables: &mut Tables,
-    files: &mut F,
-    out: &mut S,
-) -> Result<(), Status>
-    requires names { AreNames names.now }
-    requires none { tables.old ≡ [] }
-    ensures does { IsTrue F.tells → IsTrue S.tells → DoesOn F.contents S.taken
-        (all_behind [] names.now)
-        files.old out.old (with_tables tables.new result) files.new out.new }
-    ensures counts { TalliesOn F.counts S.faults result files.old out.old files.new out.new }
-    ensures same { F.contents files.new ≡ F.contents files.old }
-    ensures once { OnOk result (F.reads files.new ≡ after_each names.now (F.reads files.old)) }
-    ensures front { OnErr result
-        (ReadsFront names.now (F.reads files.old) (F.reads files.new)) }
-    ensures only { IfErr result StopsArea }
-{
-    let mut rest = names;
-    while let Some((name, others)) = rest.split_first() {
-        match add_table(alloc, name, tables, files, out) {
-            Err(status) => return Err(status),
-            Ok(()) => {}
-        }
-        rest = others;
-    }
-    Ok(())
-}
-
-/// The tables of these names.
+/// The tables of these names, read in order.
 fn read_all<F: Files, S: Sink>(
     alloc: Global,
     names: &[Text],
@@ -138,40 +85,23 @@ fn read_all<F: Files, S: Sink>(
     ensures only { IfErr result StopsArea }
 {
     let mut tables = Tables::new(alloc);
-    match add_tables(alloc, names, &mut tables, files, out) {
-        Err(status) => {
-            drop(tables);
-            Err(status)
+    let mut rest = names;
+    while let Some((name, others)) = rest.split_first() {
+        match add_table(alloc, name, &mut tables, files, out) {
+            Err(status) => {
+                drop(tables);
+                return Err(status);
+            }
+            Ok(()) => {}
         }
-        Ok(()) => Ok(tables),
+        rest = others;
     }
-}
-
-/// The tables that the file of this name lists. The list is tested whole before the first is read.
-#[tactic(auto, using(crate::proofs::Steps::steps), unfolding(crate::specs::Tables::tables_listed))]
-fn read_listed<F: Files, S: Sink>(
-    alloc: Global,
-    list: &str,
-    files: &mut F,
-    out: &mut S,
-) -> Result<Tables, Status>
-    ensures does { IsTrue F.tells → IsTrue S.tells → DoesOn F.contents S.taken
-        (tables_listed list.now) files.old out.old result files.new out.new }
-    ensures counts { TalliesOn F.counts S.faults result files.old out.old files.new out.new }
-    ensures same { F.contents files.new ≡ F.contents files.old }
-    ensures once { IsTrue F.tells → IsTrue S.tells → OnOk result (ReadsListed list.now
-        (F.contents files.old) (F.reads files.old) (F.reads files.new)) }
-    ensures front { IsTrue F.tells → IsTrue S.tells → OnErr result (ReadsPart list.now
-        (F.contents files.old) (F.reads files.old) (F.reads files.new)) }
-    ensures only { IfErr result StopsArea }
-{
-    match read_list(alloc, list, files, out) {
-        Err(status) => Err(status),
-        Ok(names) => read_all(alloc, names.as_slice(), files, out),
-    }
+    Ok(tables)
 }
 
 /// The tables that a command is given: those that its list names, and none where it has no list.
+/// The list is tested whole before the first is read.
+#[tactic(auto, using(crate::proofs::Steps::steps), unfolding(crate::specs::Tables::tables_listed))]
 pub fn read_tables<F: Files, S: Sink>(
     alloc: Global,
     list: Option<&str>,
@@ -195,6 +125,9 @@ pub fn read_tables<F: Files, S: Sink>(
 {
     match list {
         None => Ok(Tables::new(alloc)),
-        Some(name) => read_listed(alloc, name, files, out),
+        Some(name) => match read_list(alloc, name, files, out) {
+            Err(status) => Err(status),
+            Ok(names) => read_all(alloc, names.as_slice(), files, out),
+        },
     }
 }

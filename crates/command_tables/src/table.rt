@@ -1,9 +1,9 @@
 ghost use Rattle.std.specs.Prelude.{◌≡◌, ℕ, string_bytes, IsTrue, IfOk, IfErr};
 ghost use Rattle.nwq_outside.specs.Outside.{next};
 ghost use Rattle.nwq_text.specs.Names.{is_script_name};
-ghost use Rattle.command_work.specs.Counts.{Refusing, StopsArea};
-ghost use Rattle.command_work.specs.Calls.{DoesOn, TalliesOn, TalliesPuts, DoesPuts};
-ghost use Rattle.command_tables.specs.Tables.{table_file, table_in, table_in_file};
+ghost use Rattle.command_work.specs.Counts.{StopsArea};
+ghost use Rattle.command_work.specs.Calls.{DoesOn, TalliesOn};
+ghost use Rattle.command_tables.specs.Tables.{table_file, table_in_file};
 
 use command_work::{AreaFlaw, Status, read_file, refuse_area};
 use nwq_outside::{Files, Sink};
@@ -22,28 +22,8 @@ pub(crate) fn file_of(alloc: Global, name: &[u8]) -> Result<String, NoMemory>
     Ok(file)
 }
 
-/// The table in the bytes of the file of this name.
-#[tactic(auto, using(crate::proofs::TableLemmas::tables))]
-fn table_of_bytes<S: Sink>(
-    alloc: Global,
-    file: &[u8],
-    bytes: &[u8],
-    out: &mut S,
-) -> Result<Table2, Status>
-    ensures does { IsTrue S.tells → DoesPuts S.taken (table_in file.now bytes.now)
-        out.old result out.new }
-    ensures counts { TalliesPuts S.faults result out.old out.new }
-    ensures only { IfErr result (Refusing Status.Area) }
-{
-    match read_table(alloc, bytes) {
-        Ok(table) => Ok(table),
-        Err(TableFault::Line(line)) => Err(refuse_area(alloc, file, AreaFlaw::Line(line), out)),
-        Err(TableFault::NoMemory) => Err(Status::Memory),
-    }
-}
-
 /// The table in the file of this name.
-#[tactic(auto, using(crate::proofs::Steps::steps), unfolding(crate::specs::Tables::table_in_file))]
+#[tactic(auto, using(crate::proofs::Steps::steps, crate::proofs::TableLemmas::tables), unfolding(crate::specs::Tables::table_in_file))]
 pub(crate) fn read_named<F: Files, S: Sink>(
     alloc: Global,
     file: &str,
@@ -59,6 +39,12 @@ pub(crate) fn read_named<F: Files, S: Sink>(
 {
     match read_file(alloc, file, files, out) {
         Err(status) => Err(status),
-        Ok(bytes) => table_of_bytes(alloc, file.as_bytes(), bytes.as_slice(), out),
+        Ok(bytes) => match read_table(alloc, bytes.as_slice()) {
+            Ok(table) => Ok(table),
+            Err(TableFault::Line(line)) => {
+                Err(refuse_area(alloc, file.as_bytes(), AreaFlaw::Line(line), out))
+            }
+            Err(TableFault::NoMemory) => Err(Status::Memory),
+        },
     }
 }

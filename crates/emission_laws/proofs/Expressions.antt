@@ -1,6 +1,7 @@
 -- The code of an expression flows, wherever it stands and whatever lies beneath: with the types of
 -- its value on top at its end.
-use Rattle.std.proofs.Common.{arith, ◌≡◌, ◌≤◌, ◌<◌, ◌+◌, ◌-◌, ◌⊎◌, inl, inr, cond, ℕ, pos, List, [], ◌∷◌, ◌++◌, length, map, reverse, Option, Some, None, Bool, true, false, slice_get, sym, ◌∙◌, ap, refl, subst, append_assoc, append-nil, option_map}
+use Rattle.std.proofs.Common.{arith, ◌≡◌, ◌≤◌, ◌<◌, ◌+◌, ◌-◌, ◌⊎◌, inl, inr, cond, ℕ, pos, List, [], ◌∷◌, ◌++◌, length, map, reverse, Option, Some, None, Bool, true, false, slice_get, sym, ◌∙◌, ap}
+use Rattle.std.proofs.Common.{refl, subst, append_assoc, append-nil, option_map}
 use Rattle.std.proofs.lemmas.Bool.Decides.{nat_tests}
 use Rattle.std.proofs.lemmas.List.{reverse-append, length-reverse, length-append, length-map}
 use Rattle.std.specs.List.{AllByRecursion}
@@ -33,7 +34,9 @@ use Rattle.typing_rules.specs.Typed.{TypedExpr, TypedExprs, TypedParameter, lite
 use Rattle.typing_rules.specs.Cells.{Structs, cell_types, cells, is_captured}
 use Rattle.emission_rules.specs.Layout.{Layout, position}
 use Rattle.emission_rules.specs.Operations.{beneath, bytes_of, cell_kind, constant, int_constant, literal_of, started, top_again, operation, combination}
-use Rattle.emission_rules.specs.Expressions.{Home, InFrame, InGlobals, moved, home, at_home, read, write, increment, decrement, member_code, prefix_code, postfix_code, shortcut, shortcut_labels, binary_code, is_set, read_first, cells_first, constants, result_room, call_line as called_line, argument_labels, argument_code, count_arguments, arguments_cells, emit, emit_all, labels, all_labels}
+use Rattle.emission_rules.specs.Expressions.{Home, InFrame, InGlobals, moved, home, at_home, read, write, increment, decrement, member_code, prefix_code, postfix_code, shortcut, shortcut_labels}
+use Rattle.emission_rules.specs.Expressions.{binary_code, is_set, read_first, cells_first, constants, result_room, call_line as called_line, argument_labels, argument_code, count_arguments}
+use Rattle.emission_rules.specs.Expressions.{arguments_cells, emit, emit_all, labels, all_labels}
 use Rattle.emission_rules.specs.Bounds.{IsCell, IsType, IsExpr, AreExprs}
 use Rattle.stack_shape.specs.declared.shape.Slot.{Slot}
 use Rattle.stack_shape.specs.declared.shape.Slot.TheVariants.{Of, Base}
@@ -48,7 +51,8 @@ use Rattle.source_laws.specs.Laws.{CallsEngine, AllCallEngine}
 use Rattle.source_laws.specs.Fine.{AreParts, argument_type, argument_types, AreValues, AreSingle, IsArgument, parameter_type, CallsFunction, CallsRoutine, IsFine, AreFine}
 use Rattle.emission_laws.specs.Spots.{Resumes, Spot, GoesStraight}
 use Rattle.emission_laws.proofs.Cells.{Ground, over, spot_over, affects, exchanged, Seen, seen_over, seen_part, stored_there, on_top}
-use Rattle.emission_laws.proofs.Ops.{of_int_types, of_sum_types, same_is, Sees, Turns, const_turns, int_turns, started_turns, read_turns, write_turns, increment_turns, decrement_turns, again_turns, cut_turns, negate_turns, complement_turns, not_turns, operation_turns}
+use Rattle.emission_laws.proofs.Ops.{of_int_types, of_sum_types, same_is, Sees, Turns, const_turns, int_turns, started_turns, read_turns, write_turns, increment_turns, decrement_turns, again_turns}
+use Rattle.emission_laws.proofs.Ops.{cut_turns, negate_turns, complement_turns, not_turns, operation_turns}
 use Rattle.emission_laws.proofs.Parts.{and_line, line_and, one, back, call as calling, mark, store, with_label}
 use Rattle.emission_laws.proofs.Turns.{Turn, retyped, recounted, seq, seq_line, line_seq, same_types, turn, marked, jumped, tested_by, one_label, two_labels}
 

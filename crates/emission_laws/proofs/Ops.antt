@@ -1,5 +1,6 @@
 -- The rule of each instruction that expressions and statements emit.
-use Rattle.std.proofs.Common.{arith, ◌≡◌, ◌≤◌, ◌<◌, ◌+◌, ◌-◌, ◌&&◌, cond, ℕ, List, [], ◌∷◌, ◌++◌, length, map, take, drop, reverse, Some, None, Bool, true, false, sym, ◌∙◌, ap, refl, subst, append_assoc, append-nil}
+use Rattle.std.proofs.Common.{arith, ◌≡◌, ◌≤◌, ◌<◌, ◌+◌, ◌-◌, ◌&&◌, cond, ℕ, List, [], ◌∷◌, ◌++◌, length, map, take, drop, reverse, Some, None, Bool, true, false, sym, ◌∙◌, ap, refl, subst}
+use Rattle.std.proofs.Common.{append_assoc, append-nil}
 use Rattle.std.specs.Prelude.{ℤ}
 use Rattle.std.proofs.lemmas.Bool.Decides.{Decides-eqb}
 use Rattle.std.proofs.lemmas.List.{length-reverse}

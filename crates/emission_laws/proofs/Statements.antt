@@ -1,7 +1,9 @@
 -- The code of statements flows: with the types of what they declare on top at their end.
-use Rattle.std.proofs.Common.{arith, ◌≡◌, ◌≤◌, ◌<◌, ◌+◌, ◌-◌, ◌*◌, ◌⊎◌, inl, inr, ℕ, zero, suc, pos, List, [], ◌∷◌, ◌++◌, length, map, drop, Option, Some, None, Bool, true, slice_get, sym, ◌∙◌, ap, refl, subst, append_assoc, append-nil}
+use Rattle.std.proofs.Common.{arith, ◌≡◌, ◌≤◌, ◌<◌, ◌+◌, ◌-◌, ◌*◌, ◌⊎◌, inl, inr, ℕ, zero, suc, pos, List, [], ◌∷◌, ◌++◌, length, map, drop, Option, Some, None, Bool, true, slice_get, sym, ◌∙◌, ap}
+use Rattle.std.proofs.Common.{refl, subst, append_assoc, append-nil}
 use Rattle.std.proofs.lemmas.List.{length-append}
-use Rattle.nss_tree.specs.Statements.{block, empty, expression, if_only, if_else, while_loop, do_loop, for_loop, switch, break_off, continue_on, return_from, declaration, case_label, default_label, no_stmt, more_stmts}
+use Rattle.nss_tree.specs.Statements.{block, empty, expression, if_only, if_else, while_loop, do_loop, for_loop, switch, break_off, continue_on, return_from, declaration, case_label, default_label}
+use Rattle.nss_tree.specs.Statements.{no_stmt, more_stmts}
 use Rattle.nwq_value.specs.declared.value.Ty.{Ty}
 use Rattle.nwq_value.specs.declared.value.Ty.TheVariants.{Int}
 use Rattle.nwq_value.specs.declared.engine.Const.{Const}
@@ -14,7 +16,8 @@ use Rattle.typing_rules.specs.Cells.{Structs, cell_types, cells}
 use Rattle.emission_rules.specs.Layout.{Layout, position, names_cells, declared_cells, all_declared_cells}
 use Rattle.emission_rules.specs.Operations.{beneath, bytes_of, dropped, top_again, constant, literal_of}
 use Rattle.emission_rules.specs.Expressions.{emit, labels}
-use Rattle.emission_rules.specs.Statements.{Exits, in_loop, in_switch, some_labels, evaluated, tested, returned, initial, names_labels, emit_names, count_labels, tests, otherwise, placed, placed_on, stmt_labels, all_stmt_labels, emit_stmt, emit_stmts}
+use Rattle.emission_rules.specs.Statements.{Exits, in_loop, in_switch, some_labels, evaluated, tested, returned, initial, names_labels, emit_names, count_labels, tests, otherwise, placed, placed_on}
+use Rattle.emission_rules.specs.Statements.{stmt_labels, all_stmt_labels, emit_stmt, emit_stmts}
 use Rattle.emission_rules.specs.Bounds.{IsExpr, IsSome, AreNames, IsStmt, AreStmts}
 use Rattle.stack_shape.specs.declared.shape.Slot.{Slot}
 use Rattle.stack_shape.specs.declared.shape.Slot.TheVariants.{Of}

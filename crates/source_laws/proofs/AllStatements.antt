@@ -1,6 +1,7 @@
 -- Every statement, where each of its expressions does what it means.
 use Rattle.std.proofs.Common.{ℕ, List, [], ◌∷◌, Option, None, Some}
-use Rattle.nss_tree.specs.Statements.{block, empty, expression, if_only, if_else, while_loop, do_loop, for_loop, switch, break_off, continue_on, return_from, declaration, case_label, default_label, no_stmt, more_stmts}
+use Rattle.nss_tree.specs.Statements.{block, empty, expression, if_only, if_else, while_loop, do_loop, for_loop, switch, break_off, continue_on, return_from, declaration, case_label, default_label}
+use Rattle.nss_tree.specs.Statements.{no_stmt, more_stmts}
 use Rattle.nwq_value.specs.declared.value.Ty.{Ty}
 use Rattle.typing_rules.specs.Typed.{TypedExpr, TypedName, TypedStmt, TypedStmts}
 use Rattle.saved_state.specs.declared.saved.Saved.{Saved}
@@ -16,7 +17,8 @@ use Rattle.source_laws.specs.Simulation.{Executor, ExprRuns}
 use Rattle.source_laws.specs.StatementsRun.{StmtRuns}
 use Rattle.source_laws.specs.Laws.{CallsNothing, CallsEngine, OfSome, OfNames, OfEach, OfAll, StatementsRun, EngineStatementsRun}
 use Rattle.source_laws.proofs.Induction.{quiet_runs, engine_runs_in}
-use Rattle.source_laws.proofs.Statements.{MaybeRuns, EachName, DoAll, none_do, more_do, block_does, empty_does, expression_does, if_only_does, if_else_does, while_does, do_does, for_does, break_does, continue_does, return_nothing_does, return_value_does, declaration_does, case_does, default_does}
+use Rattle.source_laws.proofs.Statements.{MaybeRuns, EachName, DoAll, none_do, more_do, block_does, empty_does, expression_does, if_only_does, if_else_does, while_does, do_does, for_does, break_does}
+use Rattle.source_laws.proofs.Statements.{continue_does, return_nothing_does, return_value_does, declaration_does, case_does, default_does}
 use Rattle.source_laws.proofs.Switches.{EachRest, switch_does}
 
 -- what holds of every expression holds of those of a statement

@@ -33,7 +33,8 @@ use Rattle.source_meaning.specs.Values.{start_part, start_parts}
 use Rattle.source_meaning.specs.Evaluation.{Deferred, Progress, Outcome, Gives, bind, spend}
 use Rattle.source_meaning.specs.Expressions.{Running, made}
 use Rattle.source_meaning.specs.Statements.{declared}
-use Rattle.source_meaning.specs.Scripts.{Listed, Setting, Starter, listed_started, functions, calls, calling, no_functions, without_variables, globals_made, global_names, entry_called, executing, running, unit_started}
+use Rattle.source_meaning.specs.Scripts.{Listed, Setting, Starter, listed_started, functions, calls, calling, no_functions, without_variables, globals_made, global_names, entry_called, executing}
+use Rattle.source_meaning.specs.Scripts.{running, unit_started}
 use Rattle.source_laws.specs.Ledger.{Machine, MachineHost, Took, Sim}
 use Rattle.source_laws.specs.Kept.{pushed, Site, IsListed, at, In}
 use Rattle.source_laws.specs.Carries.{Carries, unit_site}

@@ -46,7 +46,8 @@ use Rattle.machine_rules.specs.Machine.{Goes, step, answered as machine_answered
 use Rattle.machine_rules.specs.Laws.{EqualityIsTested}
 use Rattle.source_meaning.specs.Values.{constant_value}
 use Rattle.source_meaning.specs.Evaluation.{Variables, Deferred, Progress, Outcome, Gives, bind, spend}
-use Rattle.source_meaning.specs.Expressions.{Running, Caller, Arguments, with_argument, parts_in, all_parts, answered, runs_script, runs_script_in, executed, asked, engine_called, defaults, deferred, argument, eval, evals}
+use Rattle.source_meaning.specs.Expressions.{Running, Caller, Arguments, with_argument, parts_in, all_parts, answered, runs_script, runs_script_in, executed, asked, engine_called, defaults, deferred}
+use Rattle.source_meaning.specs.Expressions.{argument, eval, evals}
 use Rattle.source_meaning.specs.Expressions as meaning
 use Rattle.source_meaning.specs.Scripts.{Function}
 use Rattle.source_laws.specs.Ledger.{Machine, MachineHost, Took, Sim}
@@ -672,5 +673,6 @@ module _ (host : MachineHost) (R : Saved → Deferred → Type 0) (tested : Equa
       sim_map host R (HoldsValue R x scope size t) (value_place R x scope size t next temps between calls pending)
       (HoldsValue R x scope size t) (value_place R x scope size t next temps between calls pending)
       q.left all s (value_credits all) (value_credits c) (engine_called here routine a q)
-      (action_runs t routine es ks engine_runs executes call_fine values scope size middle next all a q temps between calls pending h b.1.0 goes (omega (arith, less, le)) (let z = spare_all es ks c in omega (arith, z)) held)
+      (action_runs t routine es ks engine_runs executes call_fine values scope size middle next all a q temps between calls pending h b.1.0 goes (omega (arith, less, le))
+      (let z = spare_all es ks c in omega (arith, z)) held)
       (λ v r g. (g, took_less host (8 + c) (let z = spare_more es ks c in omega (arith, z)) (took_none host r.left (8 + all) (spot_at R x next (pushed v temps) between calls pending g.1)))))

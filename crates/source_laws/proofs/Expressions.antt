@@ -37,7 +37,8 @@ use Rattle.saved_state.specs.declared.cell.Cell.TheVariants.{Value as Holds}
 use Rattle.saved_state.specs.declared.saved.Saved.{Saved}
 use Rattle.emission_rules.specs.Layout.{position}
 use Rattle.emission_rules.specs.Operations.{bytes_of, constant, int_constant, top_again, operation, combination}
-use Rattle.emission_rules.specs.Expressions.{Home, InFrame, InGlobals, home, at_home, read, write, increment, decrement, member_code, Shortcut, Never, shortcut, shortcut_labels, binary_code, is_set, read_first, cells_first, emit, labels}
+use Rattle.emission_rules.specs.Expressions.{Home, InFrame, InGlobals, home, at_home, read, write, increment, decrement, member_code, Shortcut, Never, shortcut, shortcut_labels, binary_code, is_set}
+use Rattle.emission_rules.specs.Expressions.{read_first, cells_first, emit, labels}
 use Rattle.world_rules.specs.Pure.{CellLookup}
 use Rattle.world_rules.specs.World.{World}
 use Rattle.machine_rules.specs.Cells.{value_types, of_int, zero_on_top}
@@ -57,7 +58,8 @@ use Rattle.source_laws.specs.Simulation.{Executor, running_at, HoldsValue, value
 use Rattle.source_laws.proofs.Cells.{held_pushed, pushed_over, pushed_length}
 use Rattle.source_laws.proofs.Ledger.{took_none, took_cost, took_then, took_less, sim_after, sim_bind, sim_paid, sim_chosen}
 use Rattle.source_laws.proofs.Operators.{one_typed, are_ints, if_some, compound_type, operator_does, same_types, applied_type, combination_is, applied_reads, int_types}
-use Rattle.source_laws.proofs.Places.{InFrameCounts, InGlobalsCounts, frame_reads, base_reads, spot_reads, spot_writes, spot_counts, increases_frame, decreases_frame, increases_globals, decreases_globals, place_code, read_written, written_left, no_spot}
+use Rattle.source_laws.proofs.Places.{InFrameCounts, InGlobalsCounts, frame_reads, base_reads, spot_reads, spot_writes, spot_counts, increases_frame, decreases_frame, increases_globals}
+use Rattle.source_laws.proofs.Places.{decreases_globals, place_code, read_written, written_left, no_spot}
 use Rattle.source_laws.proofs.Steps.{both_stand, sizes, constant_goes, int_goes, jump_goes, zero_jumps, other_passes, one_goes, cut_goes, top_copied, operator_goes, operator_divides}
 use Rattle.source_laws.proofs.Variables.{part_types_are, home_of, IsSpot, spot_of}
 

@@ -15,7 +15,8 @@ use Rattle.nwq_value.specs.declared.value.Value.TheVariants.{Int, Text}
 use Rattle.nwq_value.specs.Engine.{EngineTable}
 use Rattle.nwq_value.specs.Roles.{tys_eq}
 use Rattle.nwq_value.specs.Values.{type_of}
-use Rattle.nwq_value.specs.Operators.{as_int, is_zero, both, either, bits_and, bits_or, bits_xor, shift_left, shift_right, shift_right_unsigned, sum, difference, product, quotient, remainder, less, less_or_equal, greater, greater_or_equal, values_eq, value_eq, joined_texts}
+use Rattle.nwq_value.specs.Operators.{as_int, is_zero, both, either, bits_and, bits_or, bits_xor, shift_left, shift_right, shift_right_unsigned, sum, difference, product, quotient, remainder, less}
+use Rattle.nwq_value.specs.Operators.{less_or_equal, greater, greater_or_equal, values_eq, value_eq, joined_texts}
 use Rattle.ncs_code.specs.Spelling.{op_size}
 use Rattle.ncs_emit.specs.Labelled.{Instruction}
 use Rattle.typing_rules.specs.Cells.{Structs, cell_types}
@@ -311,10 +312,12 @@ module _ (tested : EqualityIsTested) where
         undivided = refl;
         typed = ap (cell_types structs) (sym c.result);
       }
-  operator_does structs bin.GreaterOrEqual s t r v w cells self bp h tv tw = ints_do structs bin.GreaterOrEqual greater_or_equal s t r v w cells self bp (are_ints s t r h) tv tw refl (λ stack. refl) (λ b. refl)
+  operator_does structs bin.GreaterOrEqual s t r v w cells self bp h tv tw = ints_do structs bin.GreaterOrEqual greater_or_equal s t r v w cells self bp (are_ints s t r h) tv tw refl
+      (λ stack. refl) (λ b. refl)
   operator_does structs bin.Greater s t r v w cells self bp h tv tw = ints_do structs bin.Greater greater s t r v w cells self bp (are_ints s t r h) tv tw refl (λ stack. refl) (λ b. refl)
   operator_does structs bin.Less s t r v w cells self bp h tv tw = ints_do structs bin.Less less s t r v w cells self bp (are_ints s t r h) tv tw refl (λ stack. refl) (λ b. refl)
-  operator_does structs bin.LessOrEqual s t r v w cells self bp h tv tw = ints_do structs bin.LessOrEqual less_or_equal s t r v w cells self bp (are_ints s t r h) tv tw refl (λ stack. refl) (λ b. refl)
+  operator_does structs bin.LessOrEqual s t r v w cells self bp h tv tw = ints_do structs bin.LessOrEqual less_or_equal s t r v w cells self bp (are_ints s t r h) tv tw refl (λ stack. refl)
+      (λ b. refl)
   operator_does structs bin.ShiftLeft s t r v w cells self bp h tv tw = ints_do structs bin.ShiftLeft shift_left s t r v w cells self bp (are_ints s t r h) tv tw refl (λ stack. refl) (λ b. refl)
   operator_does structs bin.ShiftRight s t r v w cells self bp h tv tw = ints_do structs bin.ShiftRight shift_right s t r v w cells self bp (are_ints s t r h) tv tw refl (λ stack. refl) (λ b. refl)
   operator_does structs bin.UnsignedShiftRight s t r v w cells self bp h tv tw =

@@ -317,10 +317,12 @@ module _ (host : MachineHost) (R : Saved → Deferred → Type 0) (x : Site) (li
       → step host (at x place cells calls pending world) ≡ Some (Goes (at x next (over ++ Holds (Int (f n)) ∷ under) calls pending world))
 
   pub increases_frame : InFrameCounts (λ n. sum n (pos 1)) (increment x.layout)
-  increases_frame place next depth from cells over under n calls pending world begins goes is deep = frame_increased host x listed place next depth from cells over under n calls pending world begins goes is deep
+  increases_frame place next depth from cells over under n calls pending world begins goes is deep = frame_increased host x listed place next depth from cells over under n calls pending
+      world begins goes is deep
 
   pub decreases_frame : InFrameCounts (λ n. difference n (pos 1)) (decrement x.layout)
-  decreases_frame place next depth from cells over under n calls pending world begins goes is deep = frame_decreased host x listed place next depth from cells over under n calls pending world begins goes is deep
+  decreases_frame place next depth from cells over under n calls pending world begins goes is deep = frame_decreased host x listed place next depth from cells over under n calls pending
+      world begins goes is deep
 
   pub increases_globals : InGlobalsCounts (λ n. sum n (pos 1)) (increment x.layout)
   increases_globals place next depth from above cells over under n calls pending world begins goes is deep low far =

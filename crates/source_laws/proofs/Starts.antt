@@ -33,7 +33,8 @@ use Rattle.source_meaning.specs.Values.{start_part, start_parts}
 use Rattle.source_meaning.specs.Evaluation.{no_variables, Deferred, Progress, Outcome, Gives, bind, spend, spend_of}
 use Rattle.source_meaning.specs.Expressions.{Running, Caller, made}
 use Rattle.source_meaning.specs.Statements.{declared, after_names}
-use Rattle.source_meaning.specs.Scripts.{Function, Listed, Setting, Starter, functions, calls, calling, no_functions, without_variables, globals_made, global_names, entry_called, executing, running, unit_started, listed_started}
+use Rattle.source_meaning.specs.Scripts.{Function, Listed, Setting, Starter, functions, calls, calling, no_functions, without_variables, globals_made, global_names, entry_called, executing, running}
+use Rattle.source_meaning.specs.Scripts.{unit_started, listed_started}
 use Rattle.source_laws.specs.Ledger.{Machine, MachineHost, Took, Sim}
 use Rattle.source_laws.specs.Kept.{pushed, AreHeld, Site, IsListed, at, Vars, Kept, spot_at}
 use Rattle.source_laws.specs.Carries.{Carries, unit_site}

@@ -1,11 +1,13 @@
 -- The code of statements does what they mean, statement by statement; a `switch` stands in
 -- Switches.
-use Rattle.std.proofs.Common.{arith, ◌≡◌, ◌≤◌, ◌<◌, ◌+◌, ◌-◌, ◌*◌, ◌⊎◌, inl, inr, ℕ, zero, suc, List, [], ◌∷◌, ◌++◌, length, map, take, drop, reverse, Option, Some, None, Bool, true, false, sym, subst, ◌∙◌, ap, refl, append_assoc}
+use Rattle.std.proofs.Common.{arith, ◌≡◌, ◌≤◌, ◌<◌, ◌+◌, ◌-◌, ◌*◌, ◌⊎◌, inl, inr, ℕ, zero, suc, List, [], ◌∷◌, ◌++◌, length, map, take, drop, reverse, Option, Some, None, Bool, true, false, sym}
+use Rattle.std.proofs.Common.{subst, ◌∙◌, ap, refl, append_assoc}
 use Rattle.std.specs.Prelude.{ℤ, pos, not, ◌==◌, if◌then◌else◌}
 use Rattle.std.specs.List.{AllByRecursion}
 use Rattle.std.proofs.lemmas.Bool.Decides.{Decides-eqb}
 use Rattle.std.proofs.lemmas.List.{length-append, length-map, take-append-drop, length-take-le, length-drop, length-reverse, reverse-reverse}
-use Rattle.nss_tree.specs.Statements.{block, empty, expression, if_only, if_else, while_loop, do_loop, for_loop, switch, break_off, continue_on, return_from, declaration, case_label, default_label, no_stmt, more_stmts}
+use Rattle.nss_tree.specs.Statements.{block, empty, expression, if_only, if_else, while_loop, do_loop, for_loop, switch, break_off, continue_on, return_from, declaration, case_label, default_label}
+use Rattle.nss_tree.specs.Statements.{no_stmt, more_stmts}
 use Rattle.nwq_value.specs.declared.value.Ty.{Ty}
 use Rattle.nwq_value.specs.declared.value.Ty.TheVariants.{Void, Int as IntTy, Text as TextTy, Object as ObjectTy, Effect as EffectTy, Event as EventTy, Action, Struct, Refused}
 use Rattle.nwq_value.specs.declared.value.Value.{Value}
@@ -38,7 +40,8 @@ use Rattle.machine_rules.specs.Machine.{Goes, step}
 use Rattle.source_meaning.specs.Values.{start_part, start_parts, is_true}
 use Rattle.source_meaning.specs.Evaluation.{Variables, with_variable, Deferred, Progress, Outcome, Gives, bind, spend, chosen}
 use Rattle.source_meaning.specs.Expressions.{Running, Caller, made, eval}
-use Rattle.source_meaning.specs.Statements.{Flow, Next, Broke, Continued, Returned, on_next, on_body, turns, looped, maybe, tested as tested_value, initial as initial_value, declared, exec, execs, after_names, after_stmt}
+use Rattle.source_meaning.specs.Statements.{Flow, Next, Broke, Continued, Returned, on_next, on_body, turns, looped, maybe, tested as tested_value, initial as initial_value, declared, exec, execs}
+use Rattle.source_meaning.specs.Statements.{after_names, after_stmt}
 use Rattle.source_meaning.specs.Scripts.{Function}
 use Rattle.source_laws.specs.Ledger.{Machine, MachineHost, Took, Sim}
 use Rattle.source_laws.specs.Kept.{pushed, Stands, AreHeld, Site, IsListed, at, In, part_types, Vars, Kept, spot_at}
@@ -674,8 +677,10 @@ module _ (host : MachineHost) (R : Saved → Deferred → Type 0) (x : Site) (li
                 (back ∷ calls) pending K)) none
                 (lower_goes g scope size less (seen_stmts ss scope) beneath_it q.left c middle (pushed room lower) (back ∷ calls) pending many gone lines)),
           )
-      on_end breaks continues ss scope size many middle next c room lower back calls pending lines ending beneath_it Broke q g = (g, took_none host q.left c (spot_at R x (x.places breaks.label) [] (pushed room lower) (back ∷ calls) pending g.1))
-      on_end breaks continues ss scope size many middle next c room lower back calls pending lines ending beneath_it Continued q g = (g, took_none host q.left c (spot_at R x (x.places continues.label) [] (pushed room lower) (back ∷ calls) pending g.1))
+      on_end breaks continues ss scope size many middle next c room lower back calls pending lines ending beneath_it Broke q g =
+          (g, took_none host q.left c (spot_at R x (x.places breaks.label) [] (pushed room lower) (back ∷ calls) pending g.1))
+      on_end breaks continues ss scope size many middle next c room lower back calls pending lines ending beneath_it Continued q g =
+          (g, took_none host q.left c (spot_at R x (x.places continues.label) [] (pushed room lower) (back ∷ calls) pending g.1))
       on_end breaks continues ss scope size many middle next c room lower back calls pending lines ending beneath_it
           (Returned v) q g = (g, took_none host q.left c (spot_at R x back [] (pushed v lower) calls pending g.1))
 
@@ -1429,7 +1434,8 @@ module _ (host : MachineHost) (R : Saved → Deferred → Type 0) (x : Site) (li
       let broken : x.places (n + 2) ≡ next = d.1.1.0 ∙ ending in
       let continued : x.places (n + 1) ≡ head = b.1.0 ∙ same_head in
       let again : x.places n ≡ start = stands.0 ∙ same in
-      let runs : LoopRuns breaks continues scope size room lower back calls pending head decides start body_end head next (n + 2) (n + 1) c (λ q. eval here caller scope e q) (λ q. exec here caller scope a q) (λ q. Gives [] q) = record {
+      let runs : LoopRuns breaks continues scope size room lower back calls pending head decides start body_end head next (n + 2) (n + 1) c (λ q. eval here caller scope e q)
+      (λ q. exec here caller scope a q) (λ q. Gives [] q) = record {
         break_is = broken;
         continue_is = continued;
         test_runs = λ q L few. as_test e scope size head decides c q L between (back ∷ calls) pending fine.1.1
@@ -1466,7 +1472,8 @@ module _ (host : MachineHost) (R : Saved → Deferred → Type 0) (x : Site) (li
       (λ f q g less. first_body breaks continues scope size room lower back calls pending head next body_end (n + 2)
       (n + 1) c (λ w. looped (λ w. eval here caller scope e w) (λ w. exec here caller scope a w)
       (λ w. Gives [] w) w) broken continued same_head
-      (λ q L few. looped_run breaks continues scope size room lower back calls pending head decides start body_end head next (n + 2) (n + 1) c (λ q. eval here caller scope e q) (λ q. exec here caller scope a q) (λ q. Gives [] q) runs q L few) f q g (omega (arith, less, le))))
+      (λ q L few. looped_run breaks continues scope size room lower back calls pending head decides start body_end head next (n + 2) (n + 1) c (λ q. eval here caller scope e q)
+      (λ q. exec here caller scope a q) (λ q. Gives [] q) runs q L few) f q g (omega (arith, less, le))))
     where
       first_body : (breaks continues : Exit) (scope : List ℕ) (size : ℕ) (room : List Value) (lower : List Cell)
           (back : ℕ) (calls : List ℕ) (pending : List Saved) (head next body_end break_label continue_label c : ℕ)

@@ -27,7 +27,8 @@ use Rattle.stack_shape.specs.Ranges.{cell_count}
 use Rattle.emission_rules.specs.Operations.{beneath, bytes_of, literal_of, operation}
 use Rattle.world_rules.specs.World.{World}
 use Rattle.machine_rules.specs.Values.{literal_value}
-use Rattle.machine_rules.specs.Cells.{values_on, values_at, value_types, with_values, overwritten, from_bp, of_int, value_pushed, range_pushed, range_written, int_written, int_changed, values_dropped, values_kept, zero_on_top}
+use Rattle.machine_rules.specs.Cells.{values_on, values_at, value_types, with_values, overwritten, from_bp, of_int, value_pushed, range_pushed, range_written, int_written, int_changed, values_dropped}
+use Rattle.machine_rules.specs.Cells.{values_kept, zero_on_top}
 use Rattle.machine_rules.specs.Act.{Act, Moves, act, moved, cells_after, place_after, is_division, bp_range, one_more, one_less}
 use Rattle.machine_rules.specs.Machine.{Goes, Divided, step, followed, next_op}
 use Rattle.machine_rules.specs.Laws.{EqualityIsTested}

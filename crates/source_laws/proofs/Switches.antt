@@ -3,7 +3,8 @@
 use Rattle.std.proofs.Common.{arith, ◌≡◌, ◌≤◌, ◌+◌, ◌-◌, ◌⊎◌, inl, inr, ℕ, List, [], ◌∷◌, ◌++◌, length, Some, None, Bool, true, false, sym, subst, ◌∙◌, ap, refl, zero-add}
 use Rattle.std.specs.Prelude.{ℤ, if◌then◌else◌}
 use Rattle.nss_tree.specs.declared.operators.BinaryOperator.TheVariants as bin
-use Rattle.nss_tree.specs.Statements.{block, empty, expression, if_only, if_else, while_loop, do_loop, for_loop, switch, break_off, continue_on, return_from, declaration, case_label, default_label, no_stmt, more_stmts}
+use Rattle.nss_tree.specs.Statements.{block, empty, expression, if_only, if_else, while_loop, do_loop, for_loop, switch, break_off, continue_on, return_from, declaration, case_label, default_label}
+use Rattle.nss_tree.specs.Statements.{no_stmt, more_stmts}
 use Rattle.nwq_value.specs.declared.value.Ty.{Ty}
 use Rattle.nwq_value.specs.declared.value.Ty.TheVariants.{Int as IntTy}
 use Rattle.nwq_value.specs.declared.value.Value.{Value}

@@ -237,7 +237,8 @@ module _ (host : MachineHost) (R : Saved → Deferred → Type 0) (tested : Equa
       (λ a. spare es (spare_defaults ks (c + one_of wide))) (value_credits c)
       (arguments_of host R tested x listed tables execute functions caller most scope es ks q)
       (λ a r. unit_called caller f a r)
-      (call_arguments_run host R tested x listed tables execute functions caller most es ks captures each scope size n within one (c + one_of wide) q h.2 (pushed (start_parts ts) temps) between calls pending fine.1 d.0
+      (call_arguments_run host R tested x listed tables execute functions caller most es ks captures each scope size n within one (c + one_of wide) q h.2 (pushed (start_parts ts) temps)
+      between calls pending fine.1 d.0
       (let starts_long = ap length h.0 in let z = pushed_length (start_parts ts) temps in omega
       (arith, long, starts_long, z, deep)) (omega (arith, less, le)) (held_pushed (start_parts ts) temps held)
       (omega (arith, none)))

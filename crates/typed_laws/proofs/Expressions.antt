@@ -19,7 +19,8 @@ use Rattle.nwq_value.specs.Engine.{EngineTable, const_type, constant_named, rout
 use Rattle.typing_rules.specs.declared.places.Callee.TheVariants.{Engine}
 use Rattle.typing_rules.specs.Types.{is_void, is_int, is_action, same_type, binary_type, assigned_type, is_step}
 use Rattle.typing_rules.specs.Typed.{TypedExpr, TypedExprs, call, member, prefix, postfix, binary, assign, no_typed, more_typed, type_of, is_place}
-use Rattle.typing_rules.specs.Sight.{Meaning, variable, constant, Entry, Member, Members, Structure, Signature, Head, Sight, Called, find_from, find, entry_means, name_means, has_body, first_types, body_number, members_of, members_in, find_member, is_callable_role, of_routine, routine_called, of_signature, types_wanted, callee}
+use Rattle.typing_rules.specs.Sight.{Meaning, variable, constant, Entry, Member, Members, Structure, Signature, Head, Sight, Called, find_from, find, entry_means, name_means, has_body, first_types}
+use Rattle.typing_rules.specs.Sight.{body_number, members_of, members_in, find_member, is_callable_role, of_routine, routine_called, of_signature, types_wanted, callee}
 use Rattle.typing_rules.specs.Rules.{when, named, defaults, filled, is_void_call, takes, all_taken, is_of_unit, is_barred, filled_call, call_of, takes_action, others, member_at, member_rule, assigned}
 use Rattle.typing_rules.specs.Meaning.{Types, AllTypes}
 use Rattle.typing_rules.specs.Meaning as rules

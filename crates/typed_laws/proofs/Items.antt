@@ -1,6 +1,7 @@
 -- The functions of a typed unit are fine: what stands in sight where each begins, and where its
 -- variables stand.
-use Rattle.std.proofs.Common.{arith, ◌≡◌, ◌≤◌, ◌<◌, ◌+◌, ◌⊎◌, inl, inr, ℕ, zero, suc, List, [], ◌∷◌, ◌++◌, length, map, get_or, Option, Some, None, Bool, true, false, sym, subst, ◌∙◌, ap, refl, append_assoc}
+use Rattle.std.proofs.Common.{arith, ◌≡◌, ◌≤◌, ◌<◌, ◌+◌, ◌⊎◌, inl, inr, ℕ, zero, suc, List, [], ◌∷◌, ◌++◌, length, map, get_or, Option, Some, None, Bool, true, false, sym, subst, ◌∙◌, ap, refl}
+use Rattle.std.proofs.Common.{append_assoc}
 use Rattle.std.specs.Prelude.{not, slice_get, is_some}
 use Rattle.std.specs.List.{AllByRecursion, flat_map}
 use Rattle.std.specs.Option.{option_map, option_and_then}
@@ -24,7 +25,8 @@ use Rattle.typing_rules.specs.Sight.{Meaning, variable, constant, Entry, Structu
 use Rattle.typing_rules.specs.Rules.{no_fields, Fields, struct_rule, gives, TypedHead}
 use Rattle.typing_rules.specs.Meaning.{TypesNames, TypesFields, TypesLines, TypesParams, TypesItem, TypesItems}
 use Rattle.typing_rules.specs.Meaning as rules
-use Rattle.typing_rules.specs.Verdicts.{after_names, line_type, struct_verdict, struct_members, constant_meaning, constant_name_verdict, parameter_declared, late_after, after_params, in_function, in_body, after_item}
+use Rattle.typing_rules.specs.Verdicts.{after_names, line_type, struct_verdict, struct_members, constant_meaning, constant_name_verdict, parameter_declared, late_after, after_params, in_function}
+use Rattle.typing_rules.specs.Verdicts.{in_body, after_item}
 use Rattle.typing_rules.specs.Laws.{ItemsAreRight}
 use Rattle.typing_rules.specs.Cells.{Structs, cell_types, cells, line_cells, structs_from}
 use Rattle.emission_rules.specs.Bounds.{IsCell}

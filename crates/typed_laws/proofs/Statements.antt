@@ -10,7 +10,8 @@ use Rattle.nss_tree.specs.Source.{SourceStmt, SourceStmts, SourceDeclared}
 use Rattle.nss_tree.specs.Expressions.{PlainExpr}
 use Rattle.nss_tree.specs.declared.constants.TypeName.{TypeName}
 use Rattle.nss_tree.specs.Statements as stmt
-use Rattle.nss_tree.specs.Statements.{block, empty, expression, if_only, if_else, while_loop, do_loop, for_loop, switch, break_off, continue_on, return_from, declaration, case_label, default_label, no_stmt, more_stmts}
+use Rattle.nss_tree.specs.Statements.{block, empty, expression, if_only, if_else, while_loop, do_loop, for_loop, switch, break_off, continue_on, return_from, declaration, case_label, default_label}
+use Rattle.nss_tree.specs.Statements.{no_stmt, more_stmts}
 use Rattle.nwq_value.specs.declared.value.Ty.{Ty}
 use Rattle.nwq_value.specs.declared.engine.Routine.{Routine}
 use Rattle.nwq_value.specs.Engine.{EngineTable, const_type, IsRoutine, IsTable}
@@ -18,7 +19,8 @@ use Rattle.typing_rules.specs.Numbers.{number_of, numbers, all_numbers}
 use Rattle.typing_rules.specs.Types.{is_void, is_int, same_type}
 use Rattle.typing_rules.specs.Typed.{TypedExpr, TypedName, TypedStmt, TypedStmts, type_of}
 use Rattle.typing_rules.specs.Nodes.{There, absent, present}
-use Rattle.typing_rules.specs.Sight.{Meaning, variable, constant, Entry, Labels, Head, Sight, is_taken, crosses_with, cells as sight_cells, type_means, value_type, variable_of, declared, scope_entered, inside, looped, switched, with_declaration, is_callable_role}
+use Rattle.typing_rules.specs.Sight.{Meaning, variable, constant, Entry, Labels, Head, Sight, is_taken, crosses_with, cells as sight_cells, type_means, value_type, variable_of, declared}
+use Rattle.typing_rules.specs.Sight.{scope_entered, inside, looped, switched, with_declaration, is_callable_role}
 use Rattle.typing_rules.specs.Rules.{line_rows, value_fits, is_condition, result_fits, is_again, is_outside, has_default_label}
 use Rattle.typing_rules.specs.Meaning.{TypesValue, TypesNames, TypesStmt, TypesStmts}
 use Rattle.typing_rules.specs.Meaning as rules
@@ -187,7 +189,8 @@ module _ (hs : List Head) where
         (λ t. is_label t ≡ false) (when_is (is_int (type_of e)) (do_loop n u e) s r).1 refl;
     still = out;
   }
-  stays_out c (rules.TypesStmt.for_loop d n {t = t} {u = u} {v = v} {w = w} {s = s} h k l m r) out = record { no_label = subst (λ t. is_label t ≡ false) (when_is (is_condition u) (for_loop n t u v w) s r).1 refl; still = out }
+  stays_out c (rules.TypesStmt.for_loop d n {t = t} {u = u} {v = v} {w = w} {s = s} h k l m r) out = record
+      { no_label = subst (λ t. is_label t ≡ false) (when_is (is_condition u) (for_loop n t u v w) s r).1 refl; still = out }
   stays_out c (rules.TypesStmt.switch d n {t = e} {ts = ts} {s = s} h k r) out =
       record { no_label = subst (λ t. is_label t ≡ false) (when_is (is_int (type_of e) && not (crosses_with d 1)) (switch n e ts) s r).1 refl; still = out }
   stays_out c (rules.TypesStmt.break_off d n {s = s} r) out = record { no_label = subst (λ t. is_label t ≡ false) (when_is d.may_break (break_off n) s r).1 refl; still = out }

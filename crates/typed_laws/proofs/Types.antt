@@ -1,5 +1,6 @@
 -- The types that declarations may have, and the cells of structs.
-use Rattle.std.proofs.Common.{arith, ◌≡◌, ◌≤◌, ◌<◌, ◌+◌, ◌⊎◌, inl, inr, ℕ, suc, List, [], ◌∷◌, ◌++◌, length, map, take, drop, Option, Some, None, Bool, true, false, sym, subst, ◌∙◌, ap, refl, append_assoc}
+use Rattle.std.proofs.Common.{arith, ◌≡◌, ◌≤◌, ◌<◌, ◌+◌, ◌⊎◌, inl, inr, ℕ, suc, List, [], ◌∷◌, ◌++◌, length, map, take, drop, Option, Some, None, Bool, true, false, sym, subst, ◌∙◌, ap, refl}
+use Rattle.std.proofs.Common.{append_assoc}
 use Rattle.std.specs.Prelude.{slice_get, bytes_eq, if◌then◌else◌}
 use Rattle.std.specs.List.{AllByRecursion, flat_map}
 use Rattle.std.proofs.lemmas.Bool.Decides.{Decides-eqb}
@@ -10,7 +11,8 @@ use Rattle.nss_tree.specs.declared.constants.TypeName.TheVariants as spelled
 use Rattle.nss_tree.specs.declared.units.Identifier.{Identifier}
 use Rattle.nwq_value.specs.declared.value.Ty.{Ty}
 use Rattle.nwq_value.specs.declared.value.Ty.TheVariants.{Void, Int, Text, Object, Effect, Event, Action, Struct, Refused}
-use Rattle.typing_rules.specs.Sight.{Member, Members, Structure, Meant, IsRefused, IsMissing, Is, is_of_struct, struct_means, type_means, value_type, any_type, members_of, find_member, cells_of_members}
+use Rattle.typing_rules.specs.Sight.{Member, Members, Structure, Meant, IsRefused, IsMissing, Is, is_of_struct, struct_means, type_means, value_type, any_type, members_of, find_member}
+use Rattle.typing_rules.specs.Sight.{cells_of_members}
 use Rattle.typing_rules.specs.Sight as sight
 use Rattle.typing_rules.specs.Types.{is_void, is_int, is_action, same_type}
 use Rattle.typing_rules.specs.Typed.{TypedLine}

@@ -1,4 +1,5 @@
-use Rattle.world_rules.specs.StayAlike.{new_is_alike, begin_keeps_alike, turn_keeps_alike, turn_done_keeps_alike, unapply_keeps_alike, fault_keeps_alike, no_script_keeps_alike, drained_keeps_alike, trace_alike}
+use Rattle.world_rules.specs.StayAlike.{new_is_alike, begin_keeps_alike, turn_keeps_alike, turn_done_keeps_alike, unapply_keeps_alike, fault_keeps_alike, no_script_keeps_alike, drained_keeps_alike}
+use Rattle.world_rules.specs.StayAlike.{trace_alike}
 use Rattle.source_laws.specs.Carries.{Carries}
 use Rattle.source_laws.proofs.laws.entries_stay_alike.Goals as goal
 

@@ -2,7 +2,7 @@ use Rattle.std.proofs.Common.{◌≡◌, length}
 use Rattle.command_work.specs.Counts.{Counted}
 use Rattle.command_tables.proofs.ReadLemmas.{SoFar}
 use Rattle.command_tables.proofs.CountLemmas.{ReadsTo}
-use Rattle.command_tables.proofs.read.add_tables.Given as goal
+use Rattle.command_tables.proofs.read.read_all.Given as goal
 
 abbrev pub invariant-loop-name : goal.invariant-loop-name
 invariant-loop-name g l = record {

@@ -2,7 +2,7 @@ use Rattle.std.proofs.Common.{◌++◌, map, refl, sym, ap, ◌∙◌}
 use Rattle.command_tables.proofs.NameLemmas.{next_named, next_new}
 use Rattle.command_tables.proofs.ReadLemmas.{tables_begin, tables_go_on, tables_stop, tables_done}
 use Rattle.command_tables.proofs.CountLemmas.{reads_begin, reads_go_on, reads_stop, reads_done}
-use Rattle.command_tables.proofs.read.add_tables.Goals as goal
+use Rattle.command_tables.proofs.read.read_all.Goals as goal
 
 pub add_table-requires-clause-name : goal.add_table-requires-clause-name
 add_table-requires-clause-name g c =
@@ -24,7 +24,7 @@ returns-in-Err-clause-does g c =
 pub loop-name-init : goal.loop-name-init
 loop-name-init g c = record {
   so_far = tables_begin g.F.Files.tells g.S.Sink.tells (g.F.Files.contents c.args.files.now) (g.S.Sink.taken c.args.out.now) c.args.names.now
-      c.args.tables.now c.requires.none;
+      c.new-tables.result c.new-tables.ensures.empty;
   counts = refl;
   same = refl;
   reads = reads_begin c.args.names.now (g.F.Files.reads c.args.files.now);
