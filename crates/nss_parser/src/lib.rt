@@ -11,6 +11,7 @@
 mod declaration;
 mod expression;
 pub mod fault;
+pub mod front;
 pub mod laws;
 mod operator;
 pub mod reader;
@@ -18,4 +19,5 @@ mod statement;
 mod unit;
 
 pub use fault::ParseFault;
+pub use front::{is_prefix, whole_items};
 pub use reader::parse;
