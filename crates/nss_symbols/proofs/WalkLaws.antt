@@ -1,12 +1,12 @@
 -- The walk over the nest of tokens that is to go on with others.
-use Rattle.std.proofs.Common.{◌≡◌, ◌∙◌, ◌<◌, ◌≤◌, ◌+◌, ◌↔◌, IsTrue, Bool, true, false, ap, sym, refl, subst, arith, ℕ, zero, suc, List, [], ◌∷◌, ◌++◌, append_assoc, Option, None, Some, length, take, drop, get_or, map}
+use Rattle.std.proofs.Common.{◌≡◌, ◌∙◌, ◌<◌, ◌≤◌, ◌+◌, ◌↔◌, ap, sym, refl, subst, arith, ℕ, zero, suc, List, [], ◌∷◌, ◌++◌, append_assoc, Option, None, length, take, drop, get_or, map}
 use Rattle.std.specs.List.{AllByRecursion}
 use Rattle.std.proofs.lemmas.List.{take_all, take_more, take-append-drop}
 use Rattle.nss_symbols.specs.declared.symbol.Seen.{Seen}
 use Rattle.nss_symbols.specs.Cursor.{plain_symbol}
 use Rattle.nss_symbols.specs.Symbols.{Symbol}
 use Rattle.nss_symbols.specs.declared.terminal.Terminal.{Terminal}
-use Rattle.nss_symbols.specs.Nest.{State, Walk, StaysWithin, changed, head_of, terminal_in, nests, nests_from, start, total, IsWithinNest}
+use Rattle.nss_symbols.specs.Nest.{State, StaysWithin, changed, terminal_in, nests, nests_from, start, total, IsWithinNest}
 
 AreLow : List ℕ → Type 0
 AreLow = AllByRecursion (λ n. n ≤ 256)
