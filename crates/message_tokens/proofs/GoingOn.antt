@@ -1,101 +1,131 @@
--- What the answer of the parser says of tokens that are to be completed.
-use Rattle.std.proofs.Common.{◌≡◌, ◌≢◌, ℕ, zero, suc, ◌+◌, ◌<◌, ◌≤◌, ◌==◌, Bool, true, false, ◌↔◌, IsTrue, List, [], ◌∷◌, ◌++◌, length, map, take, drop, get_or, sym, ap, subst, refl, ◌∙◌, arith, append_assoc}
+-- What can follow tokens, by what is known of them.
+use Rattle.std.proofs.Common.{◌≡◌, ℕ, zero, suc, ◌+◌, ◌<◌, ◌≤◌, Bool, true, false, ◌↔◌, IsTrue, List, [], ◌∷◌, ◌++◌, None, Some, length, map, take, drop, get_or, sym, ap, subst, refl, ◌∙◌, arith, append_assoc, Option, Result, Ok, Err, IfOk, ◌-◌}
 use Rattle.std.specs.List.{AllByRecursion}
-use Rattle.std.proofs.lemmas.List.{take_all, take_more, take-append-drop, append-nil}
+use Rattle.std.proofs.lemmas.List.{take_all, take_more, take-append-drop, append-nil, length-take-le, length-drop}
 use Rattle.nss_lexer.specs.declared.token.Token.{Token}
-use Rattle.nss_lexer.specs.Lexemes.{IsToken}
-use Rattle.nss_lexer.specs.Splitting.{IsFirstToken, plain}
 use Rattle.nss_tree.specs.Source.{SourceTree}
+use Rattle.nss_symbols.specs.declared.symbol.Seen.{Seen}
+use Rattle.nss_symbols.specs.Cursor.{plain_symbol, IsSound, AreSound}
 use Rattle.nss_symbols.specs.Symbols.{Symbol}
-use Rattle.nss_symbols.specs.Nest.{IsWithinNest, IsFirstOver}
+use Rattle.nss_symbols.specs.Nest.{IsWithinNest, IsFirstOver, IsWalkOver, StaysWithin, Walk}
 use Rattle.nss_symbols.specs.Tokens.{symbol_of, symbols_of}
-use Rattle.std.proofs.lemmas.Bool.Decides.{nat_tests}
-use Rattle.nss_parser.specs.declared.fault.ParseFault.TheVariants.{Syntax}
-use Rattle.nss_parser.specs.Fault.{Refuses}
-use Rattle.nss_parser.specs.Sentence.{Parses, IsPrefix, IsPlace, IsDead}
-use Rattle.message_tokens.specs.Following.{CanGoOn, CanFollow, HasNoPlace, Lists, can, cannot, Adds, added, passed}
-
--- tokens with a tree are completed
-pub tree_goes_on : (tokens : List Symbol) (x : SourceTree) → Parses tokens x → IsWithinNest tokens → CanGoOn tokens
-tree_goes_on tokens x parses nest =
-    record {
-      prefix = record { more = []; spelled = tt; tree = x; parses = subst (λ ts. Parses ts x) (sym (append-nil tokens)) parses };
-      nest = nest;
-    }
-
--- tokens whose place is at their end can be completed
-pub end_goes_on : (tokens : List Symbol) (i : ℕ) → IsPlace tokens i → i ≡ length tokens → IsWithinNest tokens → CanGoOn tokens
-end_goes_on tokens i place is nest =
-    record { prefix = subst IsPrefix (take_all i tokens (omega (arith, is))) place.prefix; nest = nest }
-
--- tokens with a dead front can't
-dead_front : (tokens : List Symbol) (i : ℕ) → IsDead (take i tokens) → IsPrefix tokens → ⊥
-dead_front tokens i dead p =
-    let same : take i tokens ++ (drop i tokens ++ p.more) ≡ tokens ++ p.more
-    = sym (append_assoc (take i tokens) (drop i tokens) p.more) ∙ ap (λ ts. ts ++ p.more) (take-append-drop i tokens)
-    in dead (drop i tokens ++ p.more) p.tree (subst (λ ts. Parses ts p.tree) (sym same) p.parses)
-
-pub inside_stops : (tokens : List Symbol) (i : ℕ) → IsPlace tokens i → i ≢ length tokens → CanGoOn tokens → ⊥
-inside_stops tokens i place is goes =
-    let inside : i < length tokens = omega (arith, place.within, is) in dead_front tokens (i + 1) (place.dead inside) goes.prefix
-
--- tokens that nest too deep can't
-pub deep_stops : (tokens : List Symbol) (i : ℕ) → IsFirstOver tokens i → CanGoOn tokens → ⊥
-deep_stops tokens i over goes = let low = goes.nest i in let high = over.over in omega arith
-
-pub token_is : (bytes : List ℕ) (file at : ℕ) (t : Token) → IsFirstToken bytes file at (plain t) → IsToken t
-token_is bytes file at t h = h.begins.lexeme
-
-pub all_push : {A : Type 0} (P : A → Type 0) (xs : List A) (x : A) → AllByRecursion P xs → P x → AllByRecursion P (xs ++ x ∷ [])
-all_push P [] x h p = (p, tt)
-all_push P (y ∷ ys) x h p = (h.0, all_push P ys x h.1 p)
+use Rattle.nss_parser.specs.Front.{AreItems, TellsPrefix}
+use Rattle.nss_parser.specs.Sentence.{Parses, IsPrefix, IsPlace}
+use Rattle.message_tokens.specs.Following.{CanGoOn, CanFollow, HasNoPlace, Lists, none, can, cannot, Adds, added, passed}
+use Rattle.message_tokens.specs.Behind.{IsBehind, TellsFollowing, AddsBehind, ListsBehind}
 
 pub all_taken : {A : Type 0} (P : A → Type 0) (n : ℕ) (xs : List A) → AllByRecursion P xs → AllByRecursion P (take n xs)
 all_taken P zero xs h = tt
 all_taken P (suc n) [] h = tt
 all_taken P (suc n) (x ∷ xs) h = (h.0, all_taken P n xs h.1)
 
--- ---- what the parser answers of tokens with one more behind them
+-- ---- what is known of tokens with one more behind them
 
 as_many : {A B : Type 0} (f : A → B) (xs : List A) → length (map f xs) ≡ length xs
 as_many f [] = refl
 as_many f (x ∷ xs) = let more = as_many f xs in omega (arith, more)
 
-goes : (before all : List Token) (t : Token) → all ≡ before ++ t ∷ [] → CanGoOn (symbols_of all) → CanFollow before t
-goes before all t same h = subst (λ ts. CanGoOn (symbols_of ts)) same h
+map_append : {A B : Type 0} (f : A → B) (xs ys : List A) → map f (xs ++ ys) ≡ map f xs ++ map f ys
+map_append f [] ys = refl
+map_append f (x ∷ xs) ys = ap (λ r. f x ∷ r) (map_append f xs ys)
 
-went : (before all : List Token) (t : Token) → all ≡ before ++ t ∷ [] → CanFollow before t → CanGoOn (symbols_of all)
-went before all t same h = subst (λ ts. CanGoOn (symbols_of ts)) (sym same) h
+map_drop : {A B : Type 0} (f : A → B) (n : ℕ) (xs : List A) → map f (drop n xs) ≡ drop n (map f xs)
+map_drop f zero xs = refl
+map_drop f (suc n) [] = refl
+map_drop f (suc n) (x ∷ xs) = map_drop f n xs
 
-pub tree_follows : (before all : List Token) (t : Token) (x : SourceTree) → all ≡ before ++ t ∷ [] → Parses (symbols_of all) x
-    → IsWithinNest (symbols_of all) → IsTrue true ↔ CanFollow before t
-tree_follows before all t x same parses nest = ((λ _. goes before all t same (tree_goes_on (symbols_of all) x parses nest)), (λ _. refl))
+pub sound_push : (xs : List Seen) (s : Seen) → AreSound xs → IsSound s → AreSound (xs ++ s ∷ [])
+sound_push [] s all one = (one, tt)
+sound_push (x ∷ xs) s all one = (all.0, sound_push xs s all.1 one)
 
-pub deep_follows : (before all : List Token) (t : Token) (i : ℕ) → all ≡ before ++ t ∷ [] → IsFirstOver (symbols_of all) i
-    → IsTrue false ↔ CanFollow before t
-deep_follows before all t i same over =
-    ((λ no. let none : ⊥ = cc in absurd none), (λ h. absurd (deep_stops (symbols_of all) i over (went before all t same h))))
+pub sound_drop : (n : ℕ) (xs : List Seen) → AreSound xs → AreSound (drop n xs)
+sound_drop zero xs all = all
+sound_drop (suc n) [] all = tt
+sound_drop (suc n) (x ∷ xs) all = sound_drop n xs all.1
 
-place_by : (before all : List Token) (t : Token) (i : ℕ) (c : Bool) → (i == length all) ≡ c → all ≡ before ++ t ∷ []
-    → IsPlace (symbols_of all) i → IsWithinNest (symbols_of all) → IsTrue c ↔ CanFollow before t
-place_by before all t i true is same place nest =
-    let many = as_many symbol_of all in
-    let at_end : i ≡ length all = grind (arith, nat_tests) in
-    let there : i ≡ length (symbols_of all) = omega (arith, many, at_end) in
-    ((λ _. goes before all t same (end_goes_on (symbols_of all) i place there nest)), (λ _. refl))
-place_by before all t i false is same place nest =
-    let many = as_many symbol_of all in
-    let inside : i ≢ length all = grind (arith, nat_tests) in
-    let other : i ≢ length (symbols_of all) = omega (arith, many, inside) in
-    ((λ yes. let none : ⊥ = cc in absurd none), (λ h. absurd (inside_stops (symbols_of all) i place other (went before all t same h))))
+-- the token nests too deep behind them
+pub too_deep : (walk : Walk) (count : ℕ) (rest : List Symbol) (next : Symbol) (b : Bool) → (IsTrue b ↔ StaysWithin walk (next ∷ [])) → b ≡ false
+    → TellsFollowing walk count rest next false
+too_deep walk count rest next b stays is before known =
+    ((λ yes. let none : ⊥ = cc in absurd none), (λ h. let yes = stays.1 ((known.walked (next ∷ [])).0 h.nest) in let none : ⊥ = cc in absurd none))
 
-pub place_follows : (before all : List Token) (t : Token) (i : ℕ) → all ≡ before ++ t ∷ [] → IsPlace (symbols_of all) i
-    → IsWithinNest (symbols_of all) → IsTrue (i == length all) ↔ CanFollow before t
-place_follows before all t i same place nest = place_by before all t i (i == length all) refl same place nest
+-- it doesn't, so the grammar alone decides
+pub by_grammar : (walk : Walk) (count : ℕ) (rest : List Symbol) (next : Symbol) (b able : Bool) → (IsTrue b ↔ StaysWithin walk (next ∷ [])) → b ≡ true
+    → TellsPrefix count (rest ++ next ∷ []) able → TellsFollowing walk count rest next able
+by_grammar walk count rest next b able stays is tells before known =
+    let told = tells known.front known.items known.many in
+    let whole : known.front ++ (rest ++ next ∷ []) ≡ before ++ next ∷ [] = sym (append_assoc known.front rest (next ∷ [])) ∙ ap (λ ts. ts ++ next ∷ []) (sym known.whole) in
+    ((λ yes. record { prefix = subst IsPrefix whole (told.0 yes); nest = (known.walked (next ∷ [])).1 (stays.0 (let t : IsTrue b = is in t)) }),
+    (λ h. told.1 (subst IsPrefix (sym whole) h.prefix)))
 
-pub refused_follows : (before all : List Token) (t : Token) (i : ℕ) → all ≡ before ++ t ∷ [] → Refuses (symbols_of all) (Syntax i)
-    → IsTrue (i == length all) ↔ CanFollow before t
-refused_follows before all t i same refused = place_follows before all t i same refused.1 refused.0
+pub grammar_tells : (walk : Walk) (count : ℕ) (rest all : List Seen) (next : Seen) (b able : Bool) → (IsTrue b ↔ StaysWithin walk (plain_symbol next ∷ [])) → b ≡ true
+    → all ≡ rest ++ next ∷ [] → TellsPrefix count (map plain_symbol all) able → TellsFollowing walk count (map plain_symbol rest) (plain_symbol next) able
+grammar_tells walk count rest all next b able stays is same tells =
+    by_grammar walk count (map plain_symbol rest) (plain_symbol next) b able stays is
+    (subst (λ ts. TellsPrefix count ts able) (ap (map plain_symbol) same ∙ map_append plain_symbol rest (next ∷ [])) tells)
+
+with_token : (before : List Token) (t : Token) → symbols_of (before ++ t ∷ []) ≡ symbols_of before ++ symbol_of t ∷ []
+with_token before t = map_append symbol_of before (t ∷ [])
+
+follows_as : (before : List Token) (t : Token) (able : Bool) → (IsTrue able ↔ CanGoOn (symbols_of before ++ symbol_of t ∷ [])) → IsTrue able ↔ CanFollow before t
+follows_as before t able h = subst (λ ts. IsTrue able ↔ CanGoOn ts) (sym (with_token before t)) h
+
+-- nothing follows tokens that nest too deep whatever follows
+none_behind : (before done rest : List Token) → ((t : Token) → CanFollow before t → ⊥) → Lists before done [] → Lists before (done ++ rest) []
+none_behind before done [] stops so = subst (λ ts. Lists before ts []) (sym (append-nil done)) so
+none_behind before done (t ∷ ts) stops so =
+    subst (λ all. Lists before all []) (append_assoc done (t ∷ []) ts) (none_behind before (done ++ t ∷ []) ts stops (cannot done [] t so (stops t)))
+
+pub none_listed : (before tried : List Token) (all : List Symbol) → all ≡ symbols_of before → IsWalkOver all None → Lists before tried []
+none_listed before tried all same deep =
+    none_behind before [] tried (λ t h. deep (symbol_of t ∷ []) (subst IsWithinNest (with_token before t ∙ ap (λ ts. ts ++ symbol_of t ∷ []) (sym same)) h.nest)) none
+
+-- what is known of all tokens before the place
+pub known_behind : (walk : Walk) (count : ℕ) (seen : List Seen) (before : List Symbol) → map plain_symbol seen ≡ before → IsWalkOver (map plain_symbol seen) (Some walk)
+    → count ≤ length seen → AreItems (take count (map plain_symbol seen)) → IsBehind walk count (map plain_symbol (drop count seen)) before
+known_behind walk count seen before same walked within items =
+    let many = as_many plain_symbol seen in
+    record {
+      walked = subst (λ ts. IsWalkOver ts (Some walk)) same walked;
+      front = take count (map plain_symbol seen);
+      items = items;
+      many = length-take-le count (map plain_symbol seen) (omega (arith, many, within));
+      whole = sym same ∙ sym (take-append-drop count (map plain_symbol seen)) ∙ ap (λ r. take count (map plain_symbol seen) ++ r) (sym (map_drop plain_symbol count seen));
+    }
+
+-- the same of what code holds
+pub behind_all : (walk : Walk) (count : ℕ) (seen one two three : List Seen) (tokens : List Token) (o : Option Walk) → one ≡ seen → two ≡ seen → three ≡ seen
+    → map plain_symbol seen ≡ symbols_of tokens → IsWalkOver (map plain_symbol one) o → o ≡ Some walk → count ≤ length two → AreItems (take count (map plain_symbol two))
+    → IsBehind walk count (map plain_symbol (take (length three - count) (drop count three))) (symbols_of tokens)
+behind_all walk count seen one two three tokens o e1 e2 e3 same walked is within items =
+    let over : IsWalkOver (map plain_symbol seen) (Some walk) =
+    subst (λ l. IsWalkOver (map plain_symbol l) (Some walk)) e1 (subst (λ p. IsWalkOver (map plain_symbol one) p) is walked) in
+    let inside : count ≤ length seen = subst (λ l. count ≤ length l) e2 within in
+    let front : AreItems (take count (map plain_symbol seen)) = subst (λ l. AreItems (take count (map plain_symbol l))) e2 items in
+    let many = length-drop count three in
+    let rest : take (length three - count) (drop count three) ≡ drop count seen =
+    take_all (length three - count) (drop count three) (omega (arith, many)) ∙ ap (drop count) e3 in
+    subst (λ l. IsBehind walk count (map plain_symbol l) (symbols_of tokens)) (sym rest) (known_behind walk count seen (symbols_of tokens) same over inside front)
+
+pub rest_sound : (count : ℕ) (seen three : List Seen) → three ≡ seen → AreSound seen → AreSound (take (length three - count) (drop count three))
+rest_sound count seen three e sound =
+    let many = length-drop count three in
+    let rest : take (length three - count) (drop count three) ≡ drop count seen =
+    take_all (length three - count) (drop count three) (omega (arith, many)) ∙ ap (drop count) e in
+    subst AreSound (sym rest) (sound_drop count seen sound)
+
+pub as_many_seen : (seen : List Seen) (tokens : List Token) → map plain_symbol seen ≡ symbols_of tokens → length seen ≡ length tokens
+as_many_seen seen tokens e = sym (as_many plain_symbol seen) ∙ ap length e ∙ as_many symbol_of tokens
+
+pub none_walked : (before tried listed : List Token) (seen one : List Seen) (o : Option Walk) → one ≡ seen → map plain_symbol seen ≡ symbols_of before
+    → IsWalkOver (map plain_symbol one) o → o ≡ None → listed ≡ [] → Lists before tried listed
+none_walked before tried listed seen one o e same walked is empty =
+    subst (λ l. Lists before tried l) (sym empty)
+    (none_listed before tried (map plain_symbol one) (ap (map plain_symbol) e ∙ same) (subst (λ p. IsWalkOver (map plain_symbol one) p) is walked))
+
+pub if_ok_map : {A E : Type 0} (r : Result A E) (P Q : A → Type 0) → ((x : A) → P x → Q x) → IfOk r P → IfOk r Q
+if_ok_map (Ok x) P Q h p = h x p
+if_ok_map (Err e) P Q h p = tt
 
 -- a place lies among the tokens
 pub place_within : (tokens : List Token) (i : ℕ) → IsPlace (symbols_of tokens) i → i ≤ length tokens
@@ -110,23 +140,29 @@ deep_no_place tokens k over nest i place = let low = nest k in let high = over.o
 
 -- ---- one more of the tokens that are tried
 
-pub adds_it : (before old now : List Token) (t : Token) (b : Bool) → (IsTrue b ↔ CanFollow before t) → b ≡ true → now ≡ old ++ t ∷ []
-    → Adds before t old now
-adds_it before old now t b test is same = subst (λ ts. Adds before t old ts) (sym same) (added (test.0 is))
+pub adds_it : (walk : Walk) (count : ℕ) (rest : List Symbol) (old now : List Token) (t : Token) (b : Bool) → TellsFollowing walk count rest (symbol_of t) b → b ≡ true
+    → now ≡ old ++ t ∷ [] → AddsBehind walk count rest t old now
+adds_it walk count rest old now t b tells is same before known =
+    let test = follows_as before t b (tells (symbols_of before) known) in
+    subst (λ ts. Adds before t old ts) (sym same) (added (test.0 is))
 
-pub adds_none : (before old now : List Token) (t : Token) (b : Bool) → (IsTrue b ↔ CanFollow before t) → b ≡ false → now ≡ old
-    → Adds before t old now
-adds_none before old now t b test is same =
+pub adds_none : (walk : Walk) (count : ℕ) (rest : List Symbol) (old now : List Token) (t : Token) (b : Bool) → TellsFollowing walk count rest (symbol_of t) b → b ≡ false
+    → now ≡ old → AddsBehind walk count rest t old now
+adds_none walk count rest old now t b tells is same before known =
+    let test = follows_as before t b (tells (symbols_of before) known) in
     subst (λ ts. Adds before t old ts) (sym same) (passed (λ h. let yes = test.1 h in let none : ⊥ = cc in none))
 
 more_by : (before all old : List Token) (t : Token) (now : List Token) → Lists before all old → Adds before t old now → Lists before (all ++ t ∷ []) now
 more_by before all old t now so (added follows) = can all old t so follows
 more_by before all old t now so (passed stops) = cannot all old t so stops
 
-pub one_more : (before tried old now : List Token) (i : ℕ) (d : Token) → i < length tried → Lists before (take i tried) old
-    → Adds before (get_or tried i d) old now → Lists before (take (i + 1) tried) now
-one_more before tried old now i d inside so adds =
-    subst (λ ts. Lists before ts now) (sym (take_more tried i d inside)) (more_by before (take i tried) old (get_or tried i d) now so adds)
+pub none_tried : (walk : Walk) (count : ℕ) (rest : List Symbol) (listed : List Token) → listed ≡ [] → ListsBehind walk count rest [] listed
+none_tried walk count rest listed e before known = subst (λ ts. Lists before [] ts) (sym e) none
 
-pub all_tried : (before tried listed : List Token) (i : ℕ) → length tried ≤ i → Lists before (take i tried) listed → Lists before tried listed
-all_tried before tried listed i past so = subst (λ ts. Lists before ts listed) (take_all i tried past) so
+pub one_more : (walk : Walk) (count : ℕ) (rest : List Symbol) (tried old now : List Token) (i : ℕ) (d : Token) → i < length tried → ListsBehind walk count rest (take i tried) old
+    → AddsBehind walk count rest (get_or tried i d) old now → ListsBehind walk count rest (take (i + 1) tried) now
+one_more walk count rest tried old now i d inside so adds before known =
+    subst (λ ts. Lists before ts now) (sym (take_more tried i d inside)) (more_by before (take i tried) old (get_or tried i d) now (so before known) (adds before known))
+
+pub all_tried : (walk : Walk) (count : ℕ) (rest : List Symbol) (tried listed : List Token) (i : ℕ) → length tried ≤ i → ListsBehind walk count rest (take i tried) listed → ListsBehind walk count rest tried listed
+all_tried walk count rest tried listed i past so = subst (λ ts. ListsBehind walk count rest ts listed) (take_all i tried past) so

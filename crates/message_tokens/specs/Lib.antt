@@ -1,3 +1,4 @@
 pub mod Following
+pub mod Behind
 pub mod Kinds
 pub mod Tries

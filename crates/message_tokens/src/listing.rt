@@ -1,18 +1,20 @@
 //! The tokens that can stand at a place of a unit.
 
-ghost use Rattle.std.specs.Prelude.{◌≡◌, ◌≤◌, ◌↔◌, ◌++◌, ◌∷◌, [], length, map, take, IfOk};
-ghost use Rattle.std.specs.Prelude.{IfNone, IfSome, IsTrue, OnOk};
+ghost use Rattle.std.specs.Prelude.{◌≡◌, ◌+◌, ◌≤◌, length, map, take, IfNone, IfOk, IfSome, OnOk};
 ghost use Rattle.std.specs.List.{AllByRecursion};
 ghost use Rattle.nwq_value.specs.Limits.{token_limit};
 ghost use Rattle.nss_lexer.specs.Lexemes.{IsToken};
-ghost use Rattle.nss_symbols.specs.Tokens.{symbols_of};
+ghost use Rattle.nss_symbols.specs.Cursor.{plain_symbol, AreSound};
+ghost use Rattle.nss_symbols.specs.Tokens.{symbol_of, symbols_of};
 ghost use Rattle.nss_parser.specs.Sentence.{IsPlace};
-ghost use Rattle.message_tokens.specs.Following.{Adds, CanFollow, HasNoPlace, Lists};
+ghost use Rattle.message_tokens.specs.Behind.{AddsBehind, ListsBehind, TellsFollowing};
+ghost use Rattle.message_tokens.specs.Following.{HasNoPlace, Lists};
 ghost use Rattle.message_tokens.specs.Kinds.{seen, HasEachKind};
 ghost use Rattle.message_tokens.specs.Tries.{spelled};
 
 use nss_lexer::{Token, TokenKind};
-use nss_parser::{ParseFault, parse};
+use nss_parser::{ParseFault, is_prefix, parse, whole_items};
+use nss_symbols::{NestWalk, Seen, nest_walk, seen_all, seen_of};
 use nwq_value::NoMemory;
 use std::alloc::Global;
 
@@ -352,67 +354,76 @@ pub fn candidates(alloc: Global) -> Result<Vec<Token<'static>>, NoMemory>
     tokens_tried(alloc, &TRIED)
 }
 
-/// Whether the token can follow the others.
-#[tactic(auto, using(crate::proofs::GoingOn::all_push, crate::proofs::GoingOn::tree_follows, crate::proofs::GoingOn::deep_follows, crate::proofs::GoingOn::place_follows))]
-fn can_follow<'a>(alloc: Global, before: &[Token<'a>], token: Token<'a>) -> Result<bool, NoMemory>
-    requires few { length before.now ≤ token_limit }
-    requires before { AllByRecursion IsToken before.now }
-    requires token { IsToken token }
-    ensures { IfOk result (λ can. (IsTrue can) ↔ CanFollow before.now token.entry) }
+/// Whether a token can follow others. Of these, the walk over their nest and those behind whole
+/// items are looked at alone.
+fn can_follow<'a>(
+    alloc: Global,
+    walk: &NestWalk,
+    count: u32,
+    rest: &[Seen<'a>],
+    token: &Token<'a>,
+) -> Result<bool, NoMemory>
+    requires few { count + length rest.now ≤ token_limit }
+    requires sound { AreSound rest.now }
+    requires token { IsToken token.now }
+    ensures { IfOk result
+        (TellsFollowing walk.now count (map plain_symbol rest.now) (symbol_of token.now)) }
 {
-    let mut all = Vec::from_slice(alloc, before)?;
-    all.push(token)?;
-    match parse(alloc, all.as_slice()) {
-        Ok(tree) => {
-            drop(tree);
-            Ok(true)
-        }
-        Err(ParseFault::Syntax(at)) => Ok(at as usize == all.len()),
-        Err(ParseFault::Nested(_)) => Ok(false),
-        Err(ParseFault::NoMemory) => Err(NoMemory),
+    let symbol = seen_of(token);
+    if !walk.stays_within(alloc, symbol)? {
+        return Ok(false);
     }
+    let mut all = Vec::from_slice(alloc, rest)?;
+    all.push(symbol)?;
+    is_prefix(alloc, count, all.as_slice())
 }
 
-/// Puts a token last where it can follow the others.
-#[tactic(auto, using(crate::proofs::GoingOn::adds_it, crate::proofs::GoingOn::adds_none))]
+/// Puts a token last where it can follow others.
 fn put_able<'a>(
     alloc: Global,
-    before: &[Token<'a>],
-    token: Token<'a>,
+    walk: &NestWalk,
+    count: u32,
+    rest: &[Seen<'a>],
+    token: &Token<'a>,
     listed: &mut Vec<Token<'a>>,
 ) -> Result<(), NoMemory>
-    requires few { length before.now ≤ token_limit }
-    requires before { AllByRecursion IsToken before.now }
-    requires token { IsToken token }
-    ensures { OnOk result (Adds before.now token.entry listed.old.items listed.new.items) }
+    requires few { count + length rest.now ≤ token_limit }
+    requires sound { AreSound rest.now }
+    requires token { IsToken token.now }
+    ensures { OnOk result
+        (AddsBehind walk.now count (map plain_symbol rest.now) token.now listed.old.items
+        listed.new.items) }
 {
-    if !can_follow(alloc, before, token)? {
+    if !can_follow(alloc, walk, count, rest, token)? {
         return Ok(());
     }
-    listed.push(token)?;
+    listed.push(*token)?;
     Ok(())
 }
 
-/// Those of some tokens that can follow these.
+/// Those of some tokens that can follow others.
 fn able_behind<'a>(
     alloc: Global,
-    before: &[Token<'a>],
+    walk: &NestWalk,
+    count: u32,
+    rest: &[Seen<'a>],
     tried: &[Token<'a>],
 ) -> Result<Vec<Token<'a>>, NoMemory>
-    requires few { length before.now ≤ token_limit }
-    requires before { AllByRecursion IsToken before.now }
+    requires few { count + length rest.now ≤ token_limit }
+    requires sound { AreSound rest.now }
     requires tried { AllByRecursion IsToken tried.now }
-    ensures lists { IfOk result (λ listed. Lists before.now tried.now listed.items) }
+    ensures lists { IfOk result (λ listed.
+        ListsBehind walk.now count (map plain_symbol rest.now) tried.now listed.items) }
 {
     let mut listed = Vec::new(alloc);
     for token in tried {
-        put_able(alloc, before, *token, &mut listed)?;
+        put_able(alloc, walk, count, rest, token, &mut listed)?;
     }
     Ok(listed)
 }
 
 /// Those of some tokens that can stand at this place of a unit: with which the tokens before it can
-/// be completed.
+/// be completed. Items that stand whole before the place are read once, not for each of the tokens.
 #[tactic(auto, using(crate::proofs::GoingOn::all_taken))]
 pub fn following<'a>(
     alloc: Global,
@@ -426,7 +437,14 @@ pub fn following<'a>(
     requires tried { AllByRecursion IsToken tried.now }
     ensures lists { IfOk result (λ listed. Lists (take at tokens.now) tried.now listed.items) }
 {
-    able_behind(alloc, &tokens[..at], tried)
+    let symbols = seen_all(alloc, &tokens[..at])?;
+    match nest_walk(alloc, symbols.as_slice())? {
+        None => Ok(Vec::new(alloc)),
+        Some(walk) => {
+            let count = whole_items(alloc, symbols.as_slice())?;
+            able_behind(alloc, &walk, count as u32, &symbols.as_slice()[count..], tried)
+        }
+    }
 }
 
 /// The place at which the grammar refuses the tokens of a unit. There is none where they have a

@@ -23,6 +23,7 @@ pub mod StatementComplete
 pub mod StatementRight
 pub mod Whole
 pub mod OneRefusal
+pub mod Behind
 pub mod ReaderLemmas
 pub mod Sits
 pub mod Weight

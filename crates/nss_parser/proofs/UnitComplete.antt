@@ -368,7 +368,7 @@ module _ (d safe : ℕ) (fits : safe ≤ d) (entries : Parser SourceStmts)
       (complete_parameter_list ps d c (bs ++ rest) (omega arith)) (complete_body h rest (omega arith))
 
   -- an item has tokens
-  some_item : {x : SourceItem} {xs : List Numbered} → Item x xs → (s : Numbered) × (r : List Numbered) × (xs ≡ s ∷ r)
+  pub some_item : {x : SourceItem} {xs : List Numbered} → Item x xs → (s : Numbered) × (r : List Numbered) × (xs ≡ s ∷ r)
   some_item (spelled.structure {xs = xs} a n b c e f h) = (
     fixed a terminal.Struct,
     at n (symbol.Name f) ∷ fixed b terminal.OpenBrace ∷

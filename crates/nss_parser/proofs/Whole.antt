@@ -8,8 +8,9 @@ use Rattle.nss_symbols.specs.declared.terminal.Terminal.TheVariants as terminal
 use Rattle.nss_symbols.specs.Symbols.{Symbol, Numbered, at, fixed, numbered_from}
 use Rattle.nss_symbols.specs.Outcome.{Outcome, Got, Stuck, Deep, next}
 use Rattle.nss_parser.specs.Grammar.{Entries}
-use Rattle.nss_parser.specs.Unit.{Items}
+use Rattle.nss_parser.specs.Unit.{Item, Items}
 use Rattle.nss_parser.specs.ReadStatement.{entries, statement}
+use Rattle.nss_parser.specs.ReadUnit.{item}
 use Rattle.nss_parser.specs.ReadWhole.{unit, ReadingGivesTree}
 use Rattle.nss_parser.specs.Sentence.{Parses, IsPrefix, IsDead, IsPlace, OneTree, TreeOrPlace}
 use Rattle.nss_parser.proofs.Local.{Local, Same}
@@ -21,15 +22,15 @@ use Rattle.nss_parser.proofs.StatementLocal.{local_statement, local_entries}
 use Rattle.nss_parser.proofs.StatementRight.{Braced, braced, right_statement, right_entries}
 use Rattle.nss_parser.proofs.UnitComplete.{complete_items}
 use Rattle.nss_parser.proofs.UnitLocal.{local_items}
-use Rattle.nss_parser.proofs.UnitRight.{right_items}
+use Rattle.nss_parser.proofs.UnitRight.{right_item, right_items}
 
-body_reads : (d : ℕ) (all : SourceStmts) (xs : List Numbered) → Entries false all xs → (k : ℕ) (rest : List Numbered)
+pub body_reads : (d : ℕ) (all : SourceStmts) (xs : List Numbered) → Entries false all xs → (k : ℕ) (rest : List Numbered)
     → length (xs ++ fixed k terminal.CloseBrace ∷ rest) < d - 1 → entries d (statement d) false (xs ++ fixed k terminal.CloseBrace ∷ rest) ≡ Got all rest
 unfolding entries
 body_reads d all xs h k rest lt = complete_entries h d d stmt.no_stmt k rest (omega arith) (omega arith)
 
 -- what a tree spells is read as that tree
-whole_reads : {x : SourceItems} {i : List Numbered} → Items x i → (d : ℕ) → suc (length i) < d → unit d i ≡ Got x []
+pub whole_reads : {x : SourceItems} {i : List Numbered} → Items x i → (d : ℕ) → suc (length i) < d → unit d i ≡ Got x []
 unfolding unit
 whole_reads {x} {i} h d lt = complete_items d (d - 1) (omega arith) (entries d (statement d) false) (body_reads d) h (omega arith)
 
@@ -40,17 +41,24 @@ local_unit d e le = local_items d e le (entries d (statement d) false) (entries 
 closed_of : {all : SourceStmts} {xs : List Numbered} → Braced false all xs → Closed (Entries false) terminal.CloseBrace all xs
 closed_of (braced {xs = xs} k es) = record { tokens = xs; number = k; is = refl; holds = es }
 
-right_unit : (d : ℕ) (i : List Numbered) → Right (λ x xs rest. Items x xs × (rest ≡ [])) (Viable Items) (d ≤ suc (length i)) i (unit d i)
-unfolding unit
-right_unit d i =
-    right_items d (entries d (statement d) false)
-    (λ j. right_as (right_entries d (statement d) (λ k. right_statement d k) false j)
+-- the rest of a body
+right_body : (d : ℕ) (j : List Numbered) → Right (λ all xs rest. Closed (Entries false) terminal.CloseBrace all xs) (Viable (Closed (Entries false) terminal.CloseBrace)) (d ≤ suc (length j)) j (entries d (statement d) false j)
+right_body d j =
+    right_as (right_entries d (statement d) (λ k. right_statement d k) false j)
     (λ all xs rest b. closed_of b)
     (λ xs v. viable_as (Braced false) (Closed (Entries false) terminal.CloseBrace) xs v (λ all ys b. (all, closed_of b)))
-    (λ deep. deep))
-    i
+    (λ deep. deep)
 
-numbered_length : (n : ℕ) (tokens : List Symbol) → length (numbered_from n tokens) ≡ length tokens
+-- one item
+pub one_right : (d : ℕ) (i : List Numbered) → Right (λ y ys rest. Item y ys) (Viable Item) (d ≤ suc (length i)) i (item d (entries d (statement d) false) i)
+one_right d i = right_item d (entries d (statement d) false) (right_body d) i
+
+pub right_unit : (d : ℕ) (i : List Numbered) → Right (λ x xs rest. Items x xs × (rest ≡ [])) (Viable Items) (d ≤ suc (length i)) i (unit d i)
+unfolding unit
+right_unit d i =
+    right_items d (entries d (statement d) false) (right_body d) i
+
+pub numbered_length : (n : ℕ) (tokens : List Symbol) → length (numbered_from n tokens) ≡ length tokens
 numbered_length n [] = refl
 numbered_length n (t ∷ ts) = ap suc (numbered_length (n + 1) ts)
 
@@ -69,7 +77,7 @@ pub one_tree : OneTree
 one_tree tokens x y p q = same_tree x y (one_list (numbered_from 0 tokens) x.items y.items p.items q.items) (p.count ∙ sym q.count)
 
 -- the first of a list of numbered tokens
-take_numbered : (n : ℕ) (tokens : List Symbol) (xs left : List Numbered) → numbered_from n tokens ≡ xs ++ left → numbered_from n (take (length xs) tokens) ≡ xs
+pub take_numbered : (n : ℕ) (tokens : List Symbol) (xs left : List Numbered) → numbered_from n tokens ≡ xs ++ left → numbered_from n (take (length xs) tokens) ≡ xs
 take_numbered n tokens [] left e = refl
 take_numbered n [] (x ∷ xs) left e = cc
 take_numbered n (t ∷ ts) (x ∷ xs) left e =
@@ -78,10 +86,10 @@ take_numbered n (t ∷ ts) (x ∷ xs) left e =
     let again = take_numbered (n + 1) ts xs left tail in
     cc
 
-outcome_right : (d : ℕ) (i : List Numbered) (o : Outcome SourceItems) → unit d i ≡ o → RightOf (λ x xs rest. Items x xs × (rest ≡ [])) (Viable Items) (d ≤ suc (length i)) i o
+pub outcome_right : (d : ℕ) (i : List Numbered) (o : Outcome SourceItems) → unit d i ≡ o → RightOf (λ x xs rest. Items x xs × (rest ≡ [])) (Viable Items) (d ≤ suc (length i)) i o
 outcome_right d i o e = subst (λ (z : Outcome SourceItems). RightOf (λ x xs rest. Items x xs × (rest ≡ [])) (Viable Items) (d ≤ suc (length i)) i z) e (right_unit d i).by
 
-outcome_local : (d e : ℕ) → d ≤ e → (i : List Numbered) (o : Outcome SourceItems) → unit d i ≡ o → Same i o (unit e)
+pub outcome_local : (d e : ℕ) → d ≤ e → (i : List Numbered) (o : Outcome SourceItems) → unit d i ≡ o → Same i o (unit e)
 outcome_local d e le i o is = subst (λ (z : Outcome SourceItems). Same i z (unit e)) is ((local_unit d e le).at i)
 
 -- what is read is the tree
@@ -95,7 +103,7 @@ whole_got tokens d x rest e =
 pub whole_deep : (tokens : List Symbol) (d : ℕ) → suc (length tokens) < d → unit d (numbered_from 0 tokens) ≡ Deep → ⊥
 whole_deep tokens d lt e = let h : d ≤ suc (length (numbered_from 0 tokens)) = outcome_right d (numbered_from 0 tokens) Deep e in let l = numbered_length 0 tokens in omega arith
 
-prefix_of : (tokens : List Symbol) (xs left : List Numbered) → numbered_from 0 tokens ≡ xs ++ left → Viable Items xs → IsPrefix (take (length xs) tokens)
+pub prefix_of : (tokens : List Symbol) (xs left : List Numbered) → numbered_from 0 tokens ≡ xs ++ left → Viable Items xs → IsPrefix (take (length xs) tokens)
 prefix_of tokens xs left e v =
     let first = take (length xs) tokens in
     let (more, x, p) = v (0 + length (take (length xs) tokens)) in

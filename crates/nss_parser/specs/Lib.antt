@@ -4,6 +4,7 @@ pub mod Operators
 pub mod Grammar
 pub mod Unit
 pub mod Sentence
+pub mod Front
 pub mod Weight
 pub mod Fault
 pub mod ReadExpression

@@ -272,7 +272,7 @@ fn typed_item(alloc: Global, tokens: &mut Cursor<'_>, depth: usize) -> Result<It
 
 /// One item of a unit.
 #[tactic(auto, unfolding(crate::specs::ReadUnit::item))]
-fn item(alloc: Global, tokens: &mut Cursor<'_>, depth: usize) -> Result<Item, Stop>
+pub fn item(alloc: Global, tokens: &mut Cursor<'_>, depth: usize) -> Result<Item, Stop>
     ensures { Reads plain_item (read.item depth (body_rest depth) tokens.old) result tokens.new }
 {
     if tokens.sees(Terminal::Struct) {

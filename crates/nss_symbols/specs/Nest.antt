@@ -1,7 +1,8 @@
 -- How deep the tokens nest, counted over the tokens alone. A list of numbers is carried over them,
 -- with a count of open `do`s beside each number; the nest of a token is the sum of the numbers
 -- after it.
-use Rattle.std.specs.Prelude.{ℕ, ◌+◌, ◌-◌, ◌<◌, ◌≤◌, ◌==◌, Bool, true, false, ◌&&◌, not, List, [], ◌∷◌, Option, None, Some, sum_by, slice_index, map, if◌then◌else◌}
+use Rattle.std.specs.Prelude.{ℕ, ◌+◌, ◌-◌, ◌<◌, ◌≤◌, ◌==◌, Bool, true, false, ◌&&◌, not, List, [], ◌∷◌, Option, None, Some, sum_by, slice_index, map, if◌then◌else◌, ◌↔◌, ◌++◌}
+use Rattle.std.specs.List.{AllByRecursion}
 use Rattle.nwq_value.specs.Limits.{nest_limit}
 use Rattle.nss_symbols.specs.declared.terminal.Terminal.{Terminal}
 use Rattle.nss_symbols.specs.declared.terminal.Terminal.TheVariants as terminal
@@ -194,3 +195,21 @@ IsWithinNest tokens = (k : ℕ) → slice_index (nests tokens) k ≤ nest_limit
 abbrev pub IsNestAnswer : List Symbol → Option ℕ → Type 0
 IsNestAnswer tokens None = IsWithinNest tokens
 IsNestAnswer tokens (Some i) = IsFirstOver tokens i
+
+-- A walk over tokens that is to go on: the last token waits for the one after it. The state is that
+-- before the last; where there is no token yet, none waits.
+pub record Walk : Type 0 where
+  pub state : State
+  pub before : Option Terminal
+  pub last : Option Terminal
+
+-- with these tokens behind it, no token from the last one on passes the limit
+abbrev pub StaysWithin : Walk → List Symbol → Type 0
+StaysWithin w more =
+    AllByRecursion (λ n. n ≤ nest_limit) (nests_from w.before w.state (w.last ∷ map terminal_in more))
+
+-- What the walk over tokens comes to: it goes on, or they nest too deep whatever follows.
+abbrev pub IsWalkOver : List Symbol → Option Walk → Type 0
+IsWalkOver tokens (Some w) =
+    (more : List Symbol) → IsWithinNest (tokens ++ more) ↔ StaysWithin w more
+IsWalkOver tokens None = (more : List Symbol) → IsWithinNest (tokens ++ more) → ⊥

@@ -1,4 +1,4 @@
-ghost use Rattle.std.specs.Prelude.{◌≡◌, ◌^◌, ◌<◌, ◌≤◌, length, drop, map, IfSome};
+ghost use Rattle.std.specs.Prelude.{◌≡◌, ◌+◌, ◌^◌, ◌<◌, ◌≤◌, length, drop, map, IfSome};
 ghost use Rattle.std.specs.Option.{option_map};
 ghost use Rattle.nss_symbols.specs.Symbols.{numbered_from};
 ghost use Rattle.nss_symbols.specs.Outcome as read;
@@ -82,6 +82,18 @@ impl<'a> Cursor<'a> {
         Cursor {
             ahead: symbols,
             number: 0,
+        }
+    }
+
+    /// Tokens the first of which has this number.
+    pub fn numbered(symbols: &'a [Seen<'a>], number: u32) -> Cursor<'a>
+        requires count { number + length symbols.now < 2 ^ 32 }
+        requires sound { AreSound symbols.now }
+        ensures all { result ≡ numbered_from number (map plain_symbol symbols.now) }
+    {
+        Cursor {
+            ahead: symbols,
+            number,
         }
     }
 

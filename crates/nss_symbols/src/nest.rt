@@ -1,8 +1,9 @@
 ghost use Rattle.std.specs.Prelude.{◌≡◌, drop, ◌+◌, ◌<◌, ◌≤◌, ◌^◌, length, map, IfOk, OnOk};
+ghost use Rattle.std.specs.Prelude.{[], ◌∷◌, ◌↔◌, IsTrue};
 ghost use Rattle.nss_symbols.specs.Nest as nest;
 ghost use Rattle.nss_symbols.specs.Nest.{IsNestAnswer, head_of, terminal_in, changed, closed};
 ghost use Rattle.nss_symbols.specs.Nest.{do_counted, headed, opened, reset, start, total};
-ghost use Rattle.nss_symbols.specs.Nest.{uncounted};
+ghost use Rattle.nss_symbols.specs.Nest.{uncounted, IsWalkOver, StaysWithin};
 ghost use Rattle.nss_symbols.specs.Cursor.{plain_symbol};
 
 use crate::symbol::Seen;
@@ -177,6 +178,16 @@ impl Nest {
         }
     }
 
+    fn copied(&self, alloc: Global) -> Result<Nest, NoMemory>
+        ensures { IfOk result (λ nest. nest ≡ self.now) }
+    {
+        Ok(Nest {
+            last: self.last,
+            below: Vec::from_slice(alloc, self.below.as_slice())?,
+            sum: self.sum,
+        })
+    }
+
     fn open(&mut self, terminal: Terminal) -> Result<(), NoMemory>
         requires { total self.old < 1000 }
         ensures state { OnOk result (self.new ≡ opened terminal self.old) }
@@ -308,4 +319,60 @@ pub fn first_over(alloc: Global, symbols: &[Seen<'_>]) -> Result<Option<u32>, No
         terminal = after;
     }
     Ok(None)
+}
+
+/// A walk over tokens that is to go on: the last of them waits for the one after it.
+#[derive(Drop)]
+pub struct NestWalk {
+    nest: Nest,
+    before: Option<Terminal>,
+    last: Option<Terminal>,
+}
+
+impl Model for NestWalk {
+    ghost use Rattle.std.specs.Prelude.{◌≤◌};
+    ghost use Rattle.nss_symbols.specs.Nest.{Walk, total};
+
+    ghost Value = { Walk };
+
+    ghost view = { λ w. record { state = w.nest; before = w.before; last = w.last } };
+
+    ghost invariant = { λ w. total w.nest ≤ 256 };
+}
+
+impl NestWalk {
+    /// Whether no token from the last one on nests too deep with this one behind it, at the end.
+    #[tactic(auto)]
+    pub fn stays_within(&self, alloc: Global, next: Seen<'_>) -> Result<bool, NoMemory>
+        ensures { IfOk result (λ stays.
+            (IsTrue stays) ↔ StaysWithin self.now (plain_symbol next.entry ∷ [])) }
+    {
+        let next = terminal_in(&next);
+        let mut nest = self.nest.copied(alloc)?;
+        nest.step(self.before, self.last, next)?;
+        if nest.total() > NEST {
+            return Ok(false);
+        }
+        nest.step(self.last, next, None)?;
+        Ok(nest.total() <= NEST)
+    }
+}
+
+/// The walk over tokens, or none where they nest too deep whatever follows.
+pub fn nest_walk(alloc: Global, symbols: &[Seen<'_>]) -> Result<Option<NestWalk>, NoMemory>
+    ensures { IfOk result (IsWalkOver (map plain_symbol symbols.now)) }
+{
+    let mut nest = Nest::new(alloc);
+    let mut before = None;
+    let mut last = None;
+    for symbol in symbols {
+        let next = terminal_in(symbol);
+        nest.step(before, last, next)?;
+        if nest.total() > NEST {
+            return Ok(None);
+        }
+        before = last;
+        last = next;
+    }
+    Ok(Some(NestWalk { nest, before, last }))
 }

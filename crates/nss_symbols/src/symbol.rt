@@ -74,7 +74,7 @@ fn string_seen<'a>(text: &'a [u8]) -> Seen<'a>
 }
 
 /// What the grammar sees of one token.
-fn seen_of<'a>(token: &Token<'a>) -> Seen<'a>
+pub fn seen_of<'a>(token: &Token<'a>) -> Seen<'a>
     requires { IsToken token.now }
     ensures same { plain_symbol result ≡ symbol_of token.now }
     ensures sound { IsSound result }

@@ -1,26 +1,29 @@
-use Rattle.std.proofs.Common.{◌++◌, ◌∷◌, [], ◌≡◌, ◌==◌, ◌↔◌, IsTrue, length, ap, sym, subst, ◌∙◌}
-use Rattle.nss_symbols.specs.Tokens.{symbols_of}
-use Rattle.nss_parser.specs.declared.fault.ParseFault.{ParseFault}
-use Rattle.nss_parser.specs.declared.fault.ParseFault.TheVariants.{Syntax}
-use Rattle.nss_parser.specs.Fault.{Refuses}
-use Rattle.nss_tree.specs.Reading.{plain_tree}
-use Rattle.message_tokens.specs.Following.{CanFollow}
-use Rattle.message_tokens.proofs.GoingOn.{tree_follows, refused_follows}
+use Rattle.std.proofs.Common.{◌≡◌, ◌∙◌, [], ◌∷◌, ◌++◌, false, map, ap, sym, subst}
+use Rattle.nss_symbols.specs.Cursor.{plain_symbol, AreSound}
+use Rattle.nss_symbols.specs.Tokens.{symbol_of}
+use Rattle.nss_parser.specs.Front.{TellsPrefix}
+use Rattle.message_tokens.specs.Behind.{TellsFollowing}
+use Rattle.message_tokens.proofs.GoingOn.{too_deep, grammar_tells, sound_push, if_ok_map}
 use Rattle.message_tokens.proofs.listing.can_follow.Goals as goal
 
-pub returns-in-Ok : goal.returns-in-Ok
-returns-in-Ok c =
-    tree_follows c.args.before.now c.as_slice.result.now c.args.token (plain_tree c.in-Ok.tree)
-    (c.as_slice.ensures.value ∙ c.in_ok-push.ensures.items ∙ ap (λ xs. xs ++ c.args.token ∷ []) c.in_ok-all.ensures.items)
-    c.in-Ok.ensures.tree c.in-Ok.ensures.nest
+pub returns-then-not-branch : goal.returns-then-not-branch
+returns-then-not-branch c =
+    subst (λ s. TellsFollowing c.args.walk.now c.args.count (map plain_symbol c.args.rest.now) s false) c.seen_of-symbol.ensures.same
+    (too_deep c.args.walk.now c.args.count (map plain_symbol c.args.rest.now) (plain_symbol c.seen_of-symbol.result) c.in_ok-stays_within.field-0 c.in_ok-stays_within.ensures c.if-not-branch.true)
 
-pub returns-in-Err-Syntax : goal.returns-in-Err-Syntax
-returns-in-Err-Syntax c =
-    let many : length c.as_slice.result.now ≡ c.len.result = c.as_slice.ensures.len ∙ sym c.len.ensures in
-    let fault : c.in-Err-Syntax.field-0 ≡ Syntax c.in-Err-Syntax.at = cc in
-    let refused : Refuses (symbols_of c.as_slice.result.now) (Syntax c.in-Err-Syntax.at) =
-    subst (λ (f : ParseFault). Refuses (symbols_of c.as_slice.result.now) f) fault c.in-Err-Syntax.ensures.refused in
-    subst (λ n. IsTrue (c.in-Err-Syntax.at == n) ↔ CanFollow c.args.before.now c.args.token) many
-    (refused_follows c.args.before.now c.as_slice.result.now c.args.token c.in-Err-Syntax.at
-    (c.as_slice.ensures.value ∙ c.in_ok-push.ensures.items ∙ ap (λ xs. xs ++ c.args.token ∷ []) c.in_ok-all.ensures.items)
-    refused)
+pub is_prefix-requires-clause-sound : goal.is_prefix-requires-clause-sound
+is_prefix-requires-clause-sound c =
+    let whole : c.as_slice.result.now ≡ c.args.rest.now ++ c.seen_of-symbol.result ∷ [] =
+    c.as_slice.ensures.value ∙ c.in_ok-push.ensures.items ∙ ap (λ xs. xs ++ c.seen_of-symbol.result ∷ []) c.in_ok-all.ensures.items in
+    subst AreSound (sym whole) (sound_push c.args.rest.now c.seen_of-symbol.result c.requires.sound c.seen_of-symbol.ensures.sound)
+
+pub returns : goal.returns
+returns c =
+    let whole : c.as_slice.result.now ≡ c.args.rest.now ++ c.seen_of-symbol.result ∷ [] =
+    c.as_slice.ensures.value ∙ c.in_ok-push.ensures.items ∙ ap (λ xs. xs ++ c.seen_of-symbol.result ∷ []) c.in_ok-all.ensures.items in
+    if_ok_map c.is_prefix.result (TellsPrefix c.args.count (map plain_symbol c.as_slice.result.now))
+    (TellsFollowing c.args.walk.now c.args.count (map plain_symbol c.args.rest.now) (symbol_of c.args.token.now))
+    (λ able tells. subst (λ s. TellsFollowing c.args.walk.now c.args.count (map plain_symbol c.args.rest.now) s able) c.seen_of-symbol.ensures.same
+    (grammar_tells c.args.walk.now c.args.count c.args.rest.now c.as_slice.result.now c.seen_of-symbol.result c.in_ok-stays_within.field-0 able
+    c.in_ok-stays_within.ensures c.if-not-branch.false whole tells))
+    c.is_prefix.ensures
