@@ -20,18 +20,22 @@ use message_sentences::{
 use message_stacks::put_why;
 use nwq_outside::{Files, Sink};
 use nwq_value::{NoMemory, Table, Text};
+use play_remarks::Remark;
 use real_files::Trouble;
 use std::alloc::Global;
 
 /// How the program ended: its number, the last line on standard output, the last name at which the
-/// system failed, whether a play that came to its end left no random numbers, and the first word
-/// that is no text, where the words weren't taken for that.
+/// system failed, and the first word that is no text, where the words weren't taken for that. Of a
+/// play: whether it came to its end and left no random numbers, where entries ended before their
+/// end, the first 16 and one more where there are more, and its scripts' names by number.
 #[derive(Clone, Copy)]
 pub struct End<'a> {
     pub number: u8,
     pub line: &'a [u8],
     pub trouble: Option<&'a Trouble>,
     pub random_used_up: bool,
+    pub remarks: &'a [Remark],
+    pub names: &'a [Text],
     pub no_text: Option<&'a [u8]>,
 }
 
