@@ -1,19 +1,17 @@
 //! The notes on where entries ended.
 
-ghost use Rattle.std.specs.Prelude.{◌≡◌, ◌≤◌, length, OnOk};
-ghost use Rattle.nwq_value.specs.Limits.{file_limit};
+ghost use Rattle.std.specs.Prelude.{◌≡◌};
 
-use crate::callers::{Caller, Tally, before, callers_of, function_of, most_called};
+use crate::callers::{Caller, Tally, before, callers_of, most_called};
 use crate::codes::{Code, Play, codes_of};
-use crate::offsets::{DEFERRING, FIRST, routine_around, routine_of};
-use crate::words::{
-    put_ending, put_function, put_kind, put_most, put_offset, put_spot, put_times, put_values,
-};
-use message_sentences::{put_name, put_note, put_note_at, put_words};
+use crate::offsets::{DEFERRING, FIRST, call_before, routine_around, routine_of};
+use crate::there::{Saying, put_there};
+use crate::words::{put_ending, put_kind, put_most, put_offset, put_times, put_values};
+use message_sentences::{put_name, put_note, put_plain, put_words};
 use nwq_outside::Files;
 use nwq_value::NoMemory;
 use play_remarks::{Ending, Remark, Spot};
-use run_places::{Compiled, spot_at};
+use run_places::Compiled;
 use std::alloc::Global;
 
 /// How many entries are noted at most.
@@ -53,32 +51,28 @@ fn most_of<'a>(alloc: Global, subject: Subject<'a>) -> Result<Option<Tally<'a>>,
     }
 }
 
-/// What is said of the place at which an entry ended.
-fn sentence_of(alloc: Global, subject: Subject<'_>) -> Result<Vec<u8>, NoMemory> {
-    let remark = subject.remark;
-    let in_action = is_deferred(remark) && remark.returns.as_slice().is_empty();
-    let mut text = Vec::new(alloc);
-    put_ending(&mut text, remark.ending, remark.time)?;
-    put_words(&mut text, " here, in ")?;
-    put_function(&mut text, function_of(subject.codes, remark.at), in_action)?;
-    put_most(&mut text, most_of(alloc, subject)?)?;
-    put_kind(&mut text, remark.ending)?;
-    Ok(text)
-}
-
-/// Appends the note on the place of a source at which an entry ended.
+/// Appends the note on the place of a source at which an entry ended. Whether the place is found.
 fn put_in_source(
     alloc: Global,
     out: &mut Vec<u8>,
     subject: Subject<'_>,
     script: &Compiled,
-) -> Result<(), NoMemory> {
-    let Some(spot) = spot_at(alloc, script, subject.remark.at.place)? else {
-        return put_by_offset(out, subject, None);
+) -> Result<bool, NoMemory> {
+    let remark = subject.remark;
+    let mut before = Vec::new(alloc);
+    put_ending(&mut before, remark.ending, remark.time)?;
+    put_words(&mut before, " here, in ")?;
+    let mut behind = Vec::new(alloc);
+    put_most(&mut behind, most_of(alloc, subject)?)?;
+    put_kind(&mut behind, remark.ending)?;
+    let saying = Saying {
+        at: remark.at.place,
+        before: before.as_slice(),
+        in_action: is_deferred(remark) && remark.returns.as_slice().is_empty(),
+        behind: behind.as_slice(),
+        shows_line: true,
     };
-    let text = sentence_of(alloc, subject)?;
-    let sentence = String::from_utf8_lossy(alloc, text.as_slice())?;
-    put_note_at(out, spot.name, spot.bytes, spot.at, sentence.as_str(), b"")
+    put_there(alloc, out, script, saying)
 }
 
 /// Appends the note on the offset at which an entry ended, in a binary with that of the routine.
@@ -88,12 +82,12 @@ fn put_by_offset(
     bytes: Option<&[u8]>,
 ) -> Result<(), NoMemory> {
     let remark = subject.remark;
-    let file = if bytes.is_some() {
+    let ending = if bytes.is_some() {
         ".ncs: note: "
     } else {
         ": note: "
     };
-    put_file(out, subject.play, remark.at.script, file)?;
+    put_file(out, subject.play, remark.at.script, ending)?;
     put_ending(out, remark.ending, remark.time)?;
     put_offset(out, " at offset ", remark.at.place)?;
     if let Some(bytes) = bytes {
@@ -110,7 +104,12 @@ fn put_by_offset(
 /// Appends the note on where an entry ended.
 fn put_ended(alloc: Global, out: &mut Vec<u8>, subject: Subject<'_>) -> Result<(), NoMemory> {
     match subject.codes.get(subject.remark.at.script as usize) {
-        Some(Code::Source(script)) => put_in_source(alloc, out, subject, script),
+        Some(Code::Source(script)) => {
+            if put_in_source(alloc, out, subject, script)? {
+                return Ok(());
+            }
+            put_by_offset(out, subject, None)
+        }
         Some(Code::Binary(bytes)) => put_by_offset(out, subject, Some(bytes.as_slice())),
         _ => put_by_offset(out, subject, None),
     }
@@ -124,19 +123,20 @@ fn put_caller_in_source(
     caller: Caller,
     script: &Compiled,
 ) -> Result<(), NoMemory> {
-    let call = before(caller.behind);
-    let Some(spot) = spot_at(alloc, script, call.place)? else {
-        return Ok(());
+    let mut behind = Vec::new(alloc);
+    put_times(&mut behind, caller.count)?;
+    let saying = Saying {
+        at: before(caller.behind).place,
+        before: b"called from ",
+        in_action: is_deferred(subject.remark) && caller.outer.is_none(),
+        behind: behind.as_slice(),
+        shows_line: false,
     };
-    let in_action = is_deferred(subject.remark) && caller.outer.is_none();
-    put_spot(out, spot)?;
-    put_words(out, ": note: called from ")?;
-    put_function(out, function_of(subject.codes, call), in_action)?;
-    put_times(out, caller.count)?;
-    put_words(out, "\n")
+    let _told = put_there(alloc, out, script, saying)?;
+    Ok(())
 }
 
-/// Appends behind which offset of a binary calls go on.
+/// Appends from which offset of a binary calls were made.
 fn put_caller_in_binary(
     out: &mut Vec<u8>,
     subject: Subject<'_>,
@@ -144,13 +144,12 @@ fn put_caller_in_binary(
     bytes: &[u8],
 ) -> Result<(), NoMemory> {
     let routine = routine_around(bytes, caller, subject.remark.begun);
-    put_file(
+    put_file(out, subject.play, caller.behind.script, ".ncs: note: ")?;
+    put_offset(
         out,
-        subject.play,
-        caller.behind.script,
-        ".ncs: note: called",
+        "called from offset ",
+        call_before(bytes, caller.behind.place),
     )?;
-    put_offset(out, " before offset ", caller.behind.place)?;
     put_offset(out, ", in the routine at offset ", routine)?;
     put_times(out, caller.count)?;
     put_words(out, "\n")
@@ -189,17 +188,18 @@ fn put_callers(alloc: Global, out: &mut Vec<u8>, subject: Subject<'_>) -> Result
 fn put_deferred_in_source(
     alloc: Global,
     out: &mut Vec<u8>,
-    subject: Subject<'_>,
     script: &Compiled,
-    at: Spot,
+    at: u32,
+    values: &[u8],
 ) -> Result<bool, NoMemory> {
-    let Some(spot) = spot_at(alloc, script, at.place)? else {
-        return Ok(false);
+    let saying = Saying {
+        at,
+        before: b"the action was deferred here, in ",
+        in_action: false,
+        behind: values,
+        shows_line: false,
     };
-    put_spot(out, spot)?;
-    put_words(out, ": note: the action was deferred here, in ")?;
-    put_function(out, function_of(subject.codes, at), false)?;
-    Ok(true)
+    put_there(alloc, out, script, saying)
 }
 
 /// Appends at which offset of a script an action was deferred.
@@ -208,31 +208,35 @@ fn put_deferred_by_offset(
     subject: Subject<'_>,
     at: Spot,
     ending: &str,
+    values: &[u8],
 ) -> Result<(), NoMemory> {
     put_file(out, subject.play, at.script, ending)?;
-    put_offset(out, "the action was deferred at offset ", at.place)
+    put_offset(out, "the action was deferred at offset ", at.place)?;
+    put_plain(out, values)?;
+    put_words(out, "\n")
 }
 
-/// Appends where a deferred action was deferred.
+/// Appends where an action was deferred, and what it captured.
 fn put_deferring(
     alloc: Global,
     out: &mut Vec<u8>,
     subject: Subject<'_>,
     at: Spot,
+    values: &[u8],
 ) -> Result<(), NoMemory> {
     match subject.codes.get(at.script as usize) {
         Some(Code::Source(script)) => {
-            if put_deferred_in_source(alloc, out, subject, script, at)? {
+            if put_deferred_in_source(alloc, out, script, at.place, values)? {
                 return Ok(());
             }
-            put_deferred_by_offset(out, subject, at, ": note: ")
+            put_deferred_by_offset(out, subject, at, ": note: ", values)
         }
-        Some(Code::Binary(_)) => put_deferred_by_offset(out, subject, at, ".ncs: note: "),
-        _ => put_deferred_by_offset(out, subject, at, ": note: "),
+        Some(Code::Binary(_)) => put_deferred_by_offset(out, subject, at, ".ncs: note: ", values),
+        _ => put_deferred_by_offset(out, subject, at, ": note: ", values),
     }
 }
 
-/// Appends where an entry that was deferred was deferred, and with which integers it began.
+/// Appends where an entry that was deferred was deferred, and what it captured.
 fn put_deferred(alloc: Global, out: &mut Vec<u8>, subject: Subject<'_>) -> Result<(), NoMemory> {
     let remark = subject.remark;
     if !is_deferred(remark) {
@@ -242,9 +246,9 @@ fn put_deferred(alloc: Global, out: &mut Vec<u8>, subject: Subject<'_>) -> Resul
         script: remark.begun.script,
         place: remark.begun.place.saturating_sub(DEFERRING),
     };
-    put_deferring(alloc, out, subject, at)?;
-    put_values(out, remark.values.as_slice())?;
-    put_words(out, "\n")
+    let mut values = Vec::new(alloc);
+    put_values(&mut values, remark.values.as_slice())?;
+    put_deferring(alloc, out, subject, at, values.as_slice())
 }
 
 /// Appends the notes on one entry.

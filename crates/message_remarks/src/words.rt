@@ -1,15 +1,14 @@
 //! What the notes say.
 
-ghost use Rattle.std.specs.Prelude.{◌≤◌, length};
-ghost use Rattle.nwq_value.specs.Limits.{file_limit};
+ghost use Rattle.std.specs.Prelude.{◌≡◌, ◌++◌, OnOk};
+ghost use Rattle.std.specs.Option.{option_map};
+ghost use Rattle.message_remarks.specs.There.{function_text};
 
 use crate::callers::Tally;
-use message_sentences::{put_name, put_sentence, put_words};
-use message_text::column;
-use nwq_text::{line_of, put_count, put_number};
+use message_sentences::{put_sentence, put_words};
+use nwq_text::{put_count, put_number};
 use nwq_value::NoMemory;
 use play_remarks::Ending;
-use run_places::Spot;
 
 /// Appends why an entry ended, and when.
 pub(crate) fn put_ending(out: &mut Vec<u8>, ending: Ending, time: u32) -> Result<(), NoMemory> {
@@ -33,15 +32,18 @@ pub(crate) fn put_function(
     out: &mut Vec<u8>,
     name: Option<&[u8]>,
     in_action: bool,
-) -> Result<(), NoMemory> {
+) -> Result<(), NoMemory>
+    ensures appends { OnOk result (out.new.items ≡ out.old.items
+        ++ function_text in_action (option_map (λ name. name.now) name.entry)) }
+{
     match name {
         None => put_words(out, "the first values of globals"),
         Some(name) => {
-            put_sentence(
-                out,
-                if in_action { "an action of `%`" } else { "`%`" },
-                name,
-            )
+            if in_action {
+                put_sentence(out, "an action of `%`", name)
+            } else {
+                put_sentence(out, "`%`", name)
+            }
         }
     }
 }
@@ -68,25 +70,13 @@ pub(crate) fn put_times(out: &mut Vec<u8>, count: u64) -> Result<(), NoMemory> {
     put_words(out, " times")
 }
 
-/// Appends the integers that a deferred action began with.
+/// Appends the integers that a deferred action captured.
 pub(crate) fn put_values(out: &mut Vec<u8>, values: &[i32]) -> Result<(), NoMemory> {
     for (i, value) in values.iter().enumerate() {
-        put_words(out, if i == 0 { "; it began with " } else { ", " })?;
+        put_words(out, if i == 0 { "; it captured " } else { ", " })?;
         put_number(out, i64::from(*value))?;
     }
     Ok(())
-}
-
-/// Appends a place of a source: its file, line and column.
-pub(crate) fn put_spot(out: &mut Vec<u8>, spot: Spot<'_>) -> Result<(), NoMemory>
-    requires size { length spot.bytes.now ≤ file_limit }
-    requires place { spot.at ≤ length spot.bytes.now }
-{
-    put_name(out, spot.name)?;
-    put_words(out, ":")?;
-    put_count(out, u64::from(line_of(spot.bytes, spot.at)))?;
-    put_words(out, ":")?;
-    put_count(out, column(spot.bytes, spot.at as usize))
 }
 
 /// Appends an offset in a file of bytecode.

@@ -17,7 +17,7 @@ const MOST_NAMED: usize = 6;
 
 /// A place of a source text.
 #[derive(Clone, Copy)]
-pub(crate) struct Spot<'a> {
+pub struct Spot<'a> {
     pub name: &'a [u8],
     pub bytes: &'a [u8],
     pub at: u32,
@@ -25,7 +25,7 @@ pub(crate) struct Spot<'a> {
 }
 
 /// The token that begins at a place.
-pub(crate) fn token_at(bytes: &[u8], at: u32) -> Option<Token<'_>>
+pub fn token_at(bytes: &[u8], at: u32) -> Option<Token<'_>>
     requires size { length bytes.now ≤ file_limit }
     requires place { at ≤ length bytes.now }
     ensures { IfSome result (λ token. token.end ≤ length bytes.now) }
@@ -116,7 +116,7 @@ fn put_token_sentence(out: &mut Vec<u8>, spot: Spot<'_>, token: Token<'_>) -> Re
 }
 
 /// Appends the sentence for a place, by its cause and the token that stands there.
-pub(crate) fn put_cause(out: &mut Vec<u8>, spot: Spot<'_>) -> Result<(), NoMemory>
+pub fn put_cause(out: &mut Vec<u8>, spot: Spot<'_>) -> Result<(), NoMemory>
     requires size { length spot.bytes.now ≤ file_limit }
     requires place { spot.at ≤ length spot.bytes.now }
 {

@@ -16,7 +16,7 @@ const MOST_FILES: usize = 1_024;
 
 /// A place that asks for a file, in the file of this name.
 #[derive(Drop)]
-pub(crate) struct Asking {
+pub struct Asking {
     pub name: String,
     pub bytes: Items<u8>,
     pub at: u32,
@@ -116,7 +116,7 @@ fn asking_in<F: Files>(
 }
 
 /// The first of the files of a script, in the order in which they are found, that asks for another.
-pub(crate) fn include_of<F: Files>(
+pub fn include_of<F: Files>(
     alloc: Global,
     script: &Text,
     wanted: &[u8],
@@ -157,7 +157,7 @@ fn lists(line: &[u8], wanted: &[u8]) -> bool {
 
 /// A text whose lines ask for files.
 #[derive(Clone, Copy)]
-pub(crate) enum Lister {
+pub enum Lister {
     Plan,
     Tables,
 }
@@ -183,7 +183,7 @@ fn line_for(text: &[u8], lister: Lister, wanted: &[u8]) -> Option<usize>
 }
 
 /// The line of the plan, or of the list of tables, of this name that asks for a file.
-pub(crate) fn line_of_file<F: Files>(
+pub fn line_of_file<F: Files>(
     alloc: Global,
     name: &str,
     lister: Lister,

@@ -1,5 +1,5 @@
 use Rattle.std.proofs.Common.{◌≡◌, length}
-use Rattle.command_messages.proofs.asked.line_for.Given as goal
+use Rattle.message_places.proofs.asked.line_for.Given as goal
 
 abbrev pub invariant-loop-line : goal.invariant-loop-line
 invariant-loop-line l = l.lines.text ≡ l.text

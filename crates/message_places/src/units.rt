@@ -1,11 +1,10 @@
-//! The files that a message is made of, as they were kept: headers, plans, units of scripts.
-//! Nothing is written.
+//! The files that a message is made of, as they were kept: headers and units of scripts. Nothing is
+//! written.
 
 ghost use Rattle.std.specs.Prelude.{◌≡◌, ◌≤◌, length, IfSome};
 ghost use Rattle.nwq_value.specs.Limits.{file_limit, token_limit};
 
 use crate::asked::include_of;
-use crate::inputs::Inputs;
 use crate::places::{Spot, put_following};
 use engine_table::{built_in, read_header};
 use message_sentences::same;
@@ -16,11 +15,10 @@ use nss_lexer::Token;
 use nwq_outside::{Files, Read};
 use nwq_text::read_text;
 use nwq_value::{Items, NoMemory, Table, Text};
-use plan_text::{Plan, read_plan};
 use std::alloc::Global;
 
 /// The content of a name, if it can be read.
-pub(crate) fn read_named<F: Files>(alloc: Global, name: &str, files: &mut F) -> Option<Items<u8>>
+pub fn read_named<F: Files>(alloc: Global, name: &str, files: &mut F) -> Option<Items<u8>>
     ensures same { F.contents files.new ≡ F.contents files.old }
     ensures size { IfSome result (λ bytes. length bytes ≤ file_limit) }
 {
@@ -31,7 +29,7 @@ pub(crate) fn read_named<F: Files>(alloc: Global, name: &str, files: &mut F) -> 
 }
 
 /// The name that an escaped text stands for, or the text where it stands for none.
-pub(crate) fn name_in(alloc: Global, escaped: &[u8]) -> Result<String, NoMemory> {
+pub fn name_in(alloc: Global, escaped: &[u8]) -> Result<String, NoMemory> {
     match read_text(alloc, escaped)? {
         None => Ok(String::from_utf8_lossy(alloc, escaped)?),
         Some(name) => Ok(String::from_utf8_lossy(alloc, name.bytes())?),
@@ -48,7 +46,7 @@ fn table_in(alloc: Global, bytes: &[u8]) -> Option<Table>
 }
 
 /// The table of a header, if it has one.
-pub(crate) fn table_of<F: Files>(alloc: Global, header: &str, files: &mut F) -> Option<Table>
+pub fn table_of<F: Files>(alloc: Global, header: &str, files: &mut F) -> Option<Table>
     ensures same { F.contents files.new ≡ F.contents files.old }
 {
     if header == "-" {
@@ -57,48 +55,6 @@ pub(crate) fn table_of<F: Files>(alloc: Global, header: &str, files: &mut F) -> 
     match read_named(alloc, header, files) {
         None => None,
         Some(bytes) => table_in(alloc, bytes.as_slice()),
-    }
-}
-
-/// The names of the scripts that a plan lists.
-fn names_of(alloc: Global, plan: &Plan) -> Result<Vec<Text>, NoMemory> {
-    let mut names = Vec::new(alloc);
-    for script in plan.scripts.as_slice() {
-        names.push(script.name.copy(alloc)?)?;
-    }
-    Ok(names)
-}
-
-fn names_in(alloc: Global, bytes: &[u8]) -> Result<Vec<Text>, NoMemory> {
-    match read_plan(alloc, bytes) {
-        Err(_) => Ok(Vec::new(alloc)),
-        Ok(plan) => names_of(alloc, &plan),
-    }
-}
-
-fn one_name(alloc: Global, name: &str) -> Result<Vec<Text>, NoMemory> {
-    let mut names = Vec::new(alloc);
-    names.push(Text::of(alloc, name.as_bytes())?)?;
-    Ok(names)
-}
-
-/// The names of the scripts that a command compiles, in order.
-pub(crate) fn scripts_of<F: Files>(
-    alloc: Global,
-    inputs: Inputs<'_>,
-    files: &mut F,
-) -> Result<Vec<Text>, NoMemory>
-    ensures same { F.contents files.new ≡ F.contents files.old }
-{
-    if let Some(script) = inputs.script {
-        return one_name(alloc, script);
-    }
-    let Some(plan) = inputs.plan else {
-        return Ok(Vec::new(alloc));
-    };
-    match read_named(alloc, plan, files) {
-        None => Ok(Vec::new(alloc)),
-        Some(bytes) => names_in(alloc, bytes.as_slice()),
     }
 }
 
@@ -147,7 +103,7 @@ fn put_why_in(
 
 /// What a message asks of the unit of a script.
 #[derive(Clone, Copy)]
-pub(crate) enum Ask<'a> {
+pub enum Ask<'a> {
     /// What could stand at the place.
     Following,
     /// Why the rules of types refuse the token of this text there.
@@ -214,7 +170,7 @@ fn is_source_of(name: &[u8], script: &[u8]) -> bool {
 
 /// Appends what the first of the scripts with the file of the place answers that does. Whether one
 /// did.
-pub(crate) fn put_of_scripts<F: Files>(
+pub fn put_of_scripts<F: Files>(
     alloc: Global,
     out: &mut Vec<u8>,
     scripts: &[Text],

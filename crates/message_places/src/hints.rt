@@ -64,11 +64,7 @@ fn put_open(out: &mut Vec<u8>, bytes: &[u8], at: usize) -> Result<(), NoMemory> 
 }
 
 /// Appends the sentence for a place of a text, and at its end which bracket isn't closed.
-pub(crate) fn put_cause_open(
-    alloc: Global,
-    out: &mut Vec<u8>,
-    spot: Spot<'_>,
-) -> Result<(), NoMemory>
+pub fn put_cause_open(alloc: Global, out: &mut Vec<u8>, spot: Spot<'_>) -> Result<(), NoMemory>
     requires size { length spot.bytes.now ≤ file_limit }
     requires place { spot.at ≤ length spot.bytes.now }
 {
@@ -144,7 +140,7 @@ fn sentence_by_header(
 }
 
 /// Appends the sentence for a place by the token there, or by what the header has under its name.
-pub(crate) fn put_by_token(
+pub fn put_by_token(
     alloc: Global,
     out: &mut Vec<u8>,
     spot: Spot<'_>,
