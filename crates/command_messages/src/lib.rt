@@ -8,10 +8,10 @@
 //! command did, and where the put fails nothing comes of it. What isn't among the files is told
 //! without its line.
 //!
-//! Here stands which message or note comes. What is found for it at a place of a source text is that
-//! of `message_places`; the sentences are those of `message_sentences`, types and arguments those of
-//! `message_types`, the notes on a plan and its area those of `message_notes`, those on entries that
-//! ended before their end those of `message_remarks`.
+//! Here stands which message or note comes. What is found for it at a place of a source text is
+//! that of `message_places`; the sentences are those of `message_sentences`, types and arguments
+//! those of `message_types`, the notes on a plan and its area those of `message_notes`, those on
+//! entries that ended before their end those of `message_remarks`.
 //! The page on messages is docs/MESSAGES.md.
 #![tactic(auto)]
 

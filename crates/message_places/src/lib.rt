@@ -2,8 +2,8 @@
 //!
 //! The token at a place, the bracket that isn't closed, what the header has under a name, the unit
 //! that is refused there with what could stand in place of its token or why the rules of types
-//! refuse it, and the line of an include, a plan or a list that asks for a file. All is found in the
-//! files that it is given, of which none is written. The sentences are those of
+//! refuse it, and the line of an include, a plan or a list that asks for a file. All is found in
+//! the files that it is given, of which none is written. The sentences are those of
 //! `message_sentences`. The page on messages is docs/MESSAGES.md.
 #![tactic(auto)]
 

@@ -1,13 +1,16 @@
 -- What the parts of a note show together.
 use Rattle.std.proofs.Common.{◌≡◌, ◌∙◌, ap, sym, refl, subst, ℕ, Bool, true, false, List, [], ◌++◌, codes, Option, Some, Result, Ok, Err, OnOk, append_assoc, append-nil}
+use Rattle.std.specs.Fmt.{decimal}
 use Rattle.std.specs.Option.{option_map}
+use Rattle.nwq_text.specs.Line.{line_number}
 use Rattle.nss_include.specs.View.{Gathered}
 use Rattle.nss_tree.specs.Source.{SourceTree}
 use Rattle.typing_rules.specs.Typed.{TypedUnit}
 use Rattle.run_places.specs.declared.spots.Spot.{Spot}
 use Rattle.run_places.specs.Spots.{function_named, plain_spot, spot_at}
 use Rattle.message_text.specs.Shown.{Appends, ShowsPlace}
-use Rattle.message_sentences.specs.Form.{ShowsSpot}
+use Rattle.message_text.specs.Place.{HasColumn}
+use Rattle.message_sentences.specs.Form.{ShowsName, ShowsSpot}
 use Rattle.message_remarks.specs.There.{ShowsLine, ShowsThere, function_text}
 
 pub line_shown : {T E : Type 0} (result : Result T E) (bytes : List ℕ) (at : ℕ) (b : Bool) (before after : List ℕ) → b ≡ true
@@ -22,6 +25,23 @@ no_line bytes at b items is =
 -- what is put behind a text that was appended
 onto : (before text more middle after : List ℕ) → middle ≡ before ++ text → after ≡ middle ++ more → after ≡ before ++ (text ++ more)
 onto before text more middle after one two = two ∙ ap (λ m. m ++ more) one ∙ append_assoc before text more
+
+pub spot_shown : {T E : Type 0} (result : Result T E) (name bytes : List ℕ) (at column : ℕ) (before a b c d after : List ℕ)
+    → Appends (ShowsName name) before a → b ≡ a ++ codes ":" → c ≡ b ++ decimal (line_number bytes at) → d ≡ c ++ codes ":"
+    → HasColumn bytes at column → OnOk result (after ≡ d ++ decimal column)
+    → OnOk result (Appends (ShowsSpot name bytes at) before after)
+spot_shown (Err e) name bytes at column before a b c d after named one two three counted put = tt
+spot_shown (Ok x) name bytes at column before a b c d after named one two three counted put =
+    let line = decimal (line_number bytes at) in
+    let end : List ℕ = codes ":" ++ (line ++ (codes ":" ++ decimal column)) in
+    let here : after ≡ a ++ end
+    = onto a (codes ":") (line ++ (codes ":" ++ decimal column)) b after one
+    (onto b line (codes ":" ++ decimal column) c after two (onto c (codes ":") (decimal column) d after three put)) in
+    record {
+      text = named.text ++ end;
+      is = record { file = named.text; named = named.is; column = column; counted = counted; is = refl };
+      appended = onto before named.text end a after named.appended here;
+    }
 
 pub there_shown : (unit : Gathered) (tree : SourceTree) (typed : TypedUnit) (at : ℕ) (spot : Spot) (b : Bool) (named : Option (List ℕ))
     (before behind : List ℕ) (shows : Bool) (s0 s1 s2 s3 s4 s5 s6 s7 : List ℕ)

@@ -96,7 +96,7 @@ fn add_tally<'a>(tallies: &mut Vec<Tally<'a>>, added: Tally<'a>) -> Result<(), N
 }
 
 /// Counts calls of the function that a place lies in.
-fn tally<'a>(
+fn count_calls<'a>(
     tallies: &mut Vec<Tally<'a>>,
     codes: &'a [Code],
     spot: Spot,
@@ -131,9 +131,9 @@ fn tallies_of<'a>(
     callers: &[Caller],
 ) -> Result<Vec<Tally<'a>>, NoMemory> {
     let mut tallies = Vec::new(alloc);
-    tally(&mut tallies, codes, at, 1)?;
+    count_calls(&mut tallies, codes, at, 1)?;
     for caller in callers {
-        tally(&mut tallies, codes, before(caller.behind), caller.count)?;
+        count_calls(&mut tallies, codes, before(caller.behind), caller.count)?;
     }
     Ok(tallies)
 }

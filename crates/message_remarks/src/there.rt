@@ -1,14 +1,19 @@
 //! A note on a place of a script's code, in its sources.
 
-ghost use Rattle.std.specs.Prelude.{◌≡◌, ◌≤◌, length, false, true, IfOk, OnOk};
+ghost use Rattle.std.specs.Prelude.{◌≡◌, ◌++◌, ◌≤◌, length, false, true, IfOk, OnOk};
+ghost use Rattle.std.specs.Fmt.{decimal};
+ghost use Rattle.nwq_text.specs.Line.{line_number};
+ghost use Rattle.nwq_value.specs.Limits.{file_limit};
 ghost use Rattle.nss_tree.specs.Reading.{plain_tree};
 ghost use Rattle.typing_rules.specs.UnitReading.{typed_unit};
 ghost use Rattle.message_text.specs.Shown.{Appends};
+ghost use Rattle.message_sentences.specs.Form.{ShowsSpot};
 ghost use Rattle.message_remarks.specs.There.{ShowsLine, ShowsThere};
 
 use crate::words::put_function;
-use message_sentences::{put_plain, put_spot, put_words};
-use message_text::put_place;
+use message_sentences::{put_name, put_plain, put_words};
+use message_text::{column, put_place};
+use nwq_text::{line_of, put_count};
 use nwq_value::NoMemory;
 use run_places::{Compiled, Spot, function_at, spot_at};
 use std::alloc::Global;
@@ -23,6 +28,29 @@ pub(crate) struct Saying<'a> {
     pub behind: &'a [u8],
     /// Whether the line follows, with the caret.
     pub shows_line: bool,
+}
+
+/// Appends the number of the line of a place.
+fn put_line_number(out: &mut Vec<u8>, bytes: &[u8], at: u32) -> Result<(), NoMemory>
+    requires size { length bytes.now ≤ file_limit }
+    requires place { at ≤ length bytes.now }
+    ensures { OnOk result (out.new.items ≡ out.old.items ++ decimal (line_number bytes.now at)) }
+{
+    put_count(out, u64::from(line_of(bytes, at)))
+}
+
+/// Appends the name of a file, and the line and column of a place of it.
+fn put_spot(out: &mut Vec<u8>, name: &[u8], bytes: &[u8], at: u32) -> Result<(), NoMemory>
+    requires size { length bytes.now ≤ file_limit }
+    requires place { at ≤ length bytes.now }
+    ensures shows { OnOk result (Appends (ShowsSpot name.now bytes.now at)
+        out.old.items out.new.items) }
+{
+    put_name(out, name)?;
+    put_words(out, ":")?;
+    put_line_number(out, bytes, at)?;
+    put_words(out, ":")?;
+    put_count(out, column(bytes, at as usize))
 }
 
 /// Appends the line of a place with the caret, or nothing.

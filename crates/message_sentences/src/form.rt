@@ -98,7 +98,7 @@ fn put_line_number(out: &mut Vec<u8>, bytes: &[u8], at: u32) -> Result<(), NoMem
 }
 
 /// Appends the name of a file, and the line and column of a place of it.
-pub fn put_spot(out: &mut Vec<u8>, name: &[u8], bytes: &[u8], at: u32) -> Result<(), NoMemory>
+fn put_spot(out: &mut Vec<u8>, name: &[u8], bytes: &[u8], at: u32) -> Result<(), NoMemory>
     requires size { length bytes.now ≤ file_limit }
     requires place { at ≤ length bytes.now }
     ensures shows { OnOk result (Appends (ShowsSpot name.now bytes.now at)

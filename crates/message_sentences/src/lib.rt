@@ -17,7 +17,7 @@ mod told;
 pub use flaws::{kind_of, line_in, place_of_line, put_flaw};
 pub use form::{
     put_end, put_head, put_kind, put_name, put_note, put_note_at, put_plain, put_sentence,
-    put_spot, put_whole, put_words,
+    put_whole, put_words,
 };
 pub use forms::{VERSION, put_no_text, put_usage};
 pub use sentences::{bad_sentence, end_sentence, sentence_of};

@@ -10,23 +10,25 @@ use std::alloc::Global;
 
 /// Globals, so that the start of its code calls twice. The division stands at 101.
 const GUARD: &[u8] = b"\
-    #include \"lib\"\nint g = 4;\n\nint Share(int nSum, int nCount) {\n    int n = nSum / nCount;\n    \
-    return n;\n}\n\nvoid main() {\n    PrintInteger(Share(7, 0));\n}\n";
+    #include \"lib\"\nint g = 4;\n\nint Share(int nSum, int nCount) {\n\
+    \x20   int n = nSum / nCount;\n    return n;\n}\n\nvoid main() {\n\
+    \x20   PrintInteger(Share(7, 0));\n}\n";
 
 const LIB: &[u8] = b"int Part(int n) {\n    return 100 % n;\n}\n";
 
 /// Three actions: one that is delayed, one that is assigned and one in a queue.
 const LATER: &[u8] = b"\
-    #include \"lib\"\nvoid Tell(int n) {\n    PrintInteger(Part(n));\n}\n\nvoid main() {\n    int nGold = \
-    3;\n    int nHeirs = 0;\n    DelayCommand(6, PrintInteger(nGold / nHeirs));\n    \
-    AssignCommand(OBJECT_SELF, Tell(nHeirs));\n    ActionDoCommand(ExecuteScript(\"guard\", \
-    OBJECT_SELF));\n}\n";
+    #include \"lib\"\nvoid Tell(int n) {\n    PrintInteger(Part(n));\n}\n\nvoid main() {\n\
+    \x20   int nGold = 3;\n    int nHeirs = 0;\n\
+    \x20   DelayCommand(6, PrintInteger(nGold / nHeirs));\n\
+    \x20   AssignCommand(OBJECT_SELF, Tell(nHeirs));\n\
+    \x20   ActionDoCommand(ExecuteScript(\"guard\", OBJECT_SELF));\n}\n";
 
 /// A recursion and a loop without end.
 const DEEP: &[u8] = b"\
-    int Deep(int n) {\n    return Deep(n + 1);\n}\n\nvoid Loop() {\n    while (TRUE) {\n        \
-    PrintInteger(1);\n    }\n}\n\nvoid main() {\n    if (GetLocalInt(OBJECT_SELF, \"loop\")) \
-    Loop();\n    PrintInteger(Deep(0));\n}\n";
+    int Deep(int n) {\n    return Deep(n + 1);\n}\n\nvoid Loop() {\n    while (TRUE) {\n\
+    \x20       PrintInteger(1);\n    }\n}\n\nvoid main() {\n\
+    \x20   if (GetLocalInt(OBJECT_SELF, \"loop\")) Loop();\n    PrintInteger(Deep(0));\n}\n";
 
 /// The start of a binary, which calls a routine behind it.
 const START: &[u8] = b"NCS V1.0B\0\0\0\x15\x1e\0\0\0\0\x08\x20\0";
@@ -59,13 +61,13 @@ const PLAY: &[&str] = &["nwq", "play", "-", "a.git", "a.plan", "b.git"];
 
 const NAMES: &[&str] = &["guard", "later"];
 
-/// What is remarked of an entry, and what is said of it.
+/// What is remarked of an entry, each place with the number of its script, and what is said of it.
 struct Row {
     ending: Ending,
     time: u32,
-    at: Spot,
-    returns: &'static [Spot],
-    begun: Spot,
+    at: (u32, u32),
+    returns: &'static [(u32, u32)],
+    begun: (u32, u32),
     values: &'static [i32],
     said: &'static str,
 }
@@ -78,13 +80,28 @@ struct Played {
     number: u8,
 }
 
+fn spot(place: (u32, u32)) -> Spot {
+    Spot {
+        script: place.0,
+        place: place.1,
+    }
+}
+
+fn spots_of(alloc: Global, places: &[(u32, u32)]) -> Result<Vec<Spot>, NoMemory> {
+    let mut spots = Vec::new(alloc);
+    for place in places {
+        spots.push(spot(*place))?;
+    }
+    Ok(spots)
+}
+
 fn remark_of(alloc: Global, row: &Row) -> Result<Remark, NoMemory> {
     Ok(Remark {
         ending: row.ending,
         time: row.time,
-        at: row.at,
-        returns: Vec::from_slice(alloc, row.returns)?,
-        begun: row.begun,
+        at: spot(row.at),
+        returns: spots_of(alloc, row.returns)?,
+        begun: spot(row.begun),
         values: Vec::from_slice(alloc, row.values)?,
     })
 }
@@ -147,64 +164,67 @@ fn are_said(alloc: Global, played: &Played, rows: &[Row]) -> bool {
         .all(|row| matches!(is_said(alloc, played, row), Ok(true)))
 }
 
-const fn spot(script: u32, place: u32) -> Spot {
-    Spot { script, place }
-}
-
 /// A division in a function, one in an include, in a delayed action, and one in a script that an
 /// action of a queue runs.
 const DIVISIONS: &[Row] = &[
     Row {
         ending: Ending::Divide,
         time: 6500,
-        at: spot(GUARDS, 101),
-        returns: &[spot(GUARDS, 161), spot(GUARDS, 35), spot(GUARDS, 19)],
-        begun: spot(GUARDS, 13),
+        at: (GUARDS, 101),
+        returns: &[(GUARDS, 161), (GUARDS, 35), (GUARDS, 19)],
+        begun: (GUARDS, 13),
         values: &[],
-        said: "guard.nss:5:18: note: a division by 0 ended the entry at 6500 here, in `Share` \
-            [divide]\n    int n = nSum / nCount;\n                 ^\nguard.nss:10:18: note: called \
-            from `main`\n",
+        said: "\
+            guard.nss:5:18: note: a division by 0 ended the entry at 6500 here, in `Share` \
+            [divide]\n\
+            \u{20}   int n = nSum / nCount;\n\
+            \u{20}                ^\n\
+            guard.nss:10:18: note: called from `main`\n",
     },
     Row {
         ending: Ending::Divide,
         time: 0,
-        at: spot(LATERS, 35),
-        returns: &[spot(LATERS, 77), spot(LATERS, 184)],
-        begun: spot(LATERS, 170),
+        at: (LATERS, 35),
+        returns: &[(LATERS, 77), (LATERS, 184)],
+        begun: (LATERS, 170),
         values: &[3, 0],
-        said: "lib.nss:2:16: note: a division by 0 ended the entry at 0 here, in `Part` \
-            [divide]\n    return 100 % n;\n               ^\nlater.nss:3:18: note: called from \
-            `Tell`\nlater.nss:10:32: note: called from an action of `main`\nlater.nss:10:5: note: \
-            the action was deferred here, in `main`; it captured 3, 0\n",
+        said: "\
+            lib.nss:2:16: note: a division by 0 ended the entry at 0 here, in `Part` [divide]\n\
+            \u{20}   return 100 % n;\n\
+            \u{20}              ^\n\
+            later.nss:3:18: note: called from `Tell`\n\
+            later.nss:10:32: note: called from an action of `main`\n\
+            later.nss:10:5: note: the action was deferred here, in `main`; it captured 3, 0\n",
     },
     Row {
         ending: Ending::Divide,
         time: 6000,
-        at: spot(LATERS, 134),
+        at: (LATERS, 134),
         returns: &[],
-        begun: spot(LATERS, 118),
+        begun: (LATERS, 118),
         values: &[3, 0],
-        said: "later.nss:9:40: note: a division by 0 ended the entry at 6000 here, in an action of \
-            `main` [divide]\n    DelayCommand(6, PrintInteger(nGold / nHeirs));\n                   \
-                                \u{20}   ^\nlater.nss:9:5: note: the action was deferred here, in \
-            `main`; it captured 3, 0\n",
+        said: "\
+            later.nss:9:40: note: a division by 0 ended the entry at 6000 here, in an action of \
+            `main` [divide]\n\
+            \u{20}   DelayCommand(6, PrintInteger(nGold / nHeirs));\n\
+            \u{20}                                      ^\n\
+            later.nss:9:5: note: the action was deferred here, in `main`; it captured 3, 0\n",
     },
     Row {
         ending: Ending::Divide,
         time: 7,
-        at: spot(GUARDS, 101),
-        returns: &[
-            spot(GUARDS, 161),
-            spot(GUARDS, 35),
-            spot(GUARDS, 19),
-            spot(LATERS, 233),
-        ],
-        begun: spot(LATERS, 213),
+        at: (GUARDS, 101),
+        returns: &[(GUARDS, 161), (GUARDS, 35), (GUARDS, 19), (LATERS, 233)],
+        begun: (LATERS, 213),
         values: &[],
-        said: "guard.nss:5:18: note: a division by 0 ended the entry at 7 here, in `Share` \
-            [divide]\n    int n = nSum / nCount;\n                 ^\nguard.nss:10:18: note: called \
-            from `main`\nlater.nss:11:21: note: called from an action of `main`\nlater.nss:11:5: \
-            note: the action was deferred here, in `main`\n",
+        said: "\
+            guard.nss:5:18: note: a division by 0 ended the entry at 7 here, in `Share` \
+            [divide]\n\
+            \u{20}   int n = nSum / nCount;\n\
+            \u{20}                ^\n\
+            guard.nss:10:18: note: called from `main`\n\
+            later.nss:11:21: note: called from an action of `main`\n\
+            later.nss:11:5: note: the action was deferred here, in `main`\n",
     },
 ];
 
@@ -224,30 +244,31 @@ const ENDLESS: &[Row] = &[
     Row {
         ending: Ending::Limit,
         time: 0,
-        at: spot(0, 75),
-        returns: &[spot(0, 131), spot(0, 19)],
-        begun: spot(0, 13),
+        at: (0, 75),
+        returns: &[(0, 131), (0, 19)],
+        begun: (0, 13),
         values: &[],
-        said: "deep.nss:6:5: note: the limit of instructions ended the entry at 0 here, in `Loop` \
-            [limit]\n    while (TRUE) {\n    ^\ndeep.nss:12:43: note: called from `main`\n",
+        said: "\
+            deep.nss:6:5: note: the limit of instructions ended the entry at 0 here, in `Loop` \
+            [limit]\n\
+            \u{20}   while (TRUE) {\n\
+            \u{20}   ^\n\
+            deep.nss:12:43: note: called from `main`\n",
     },
     Row {
         ending: Ending::Limit,
         time: 0,
-        at: spot(0, 31),
-        returns: &[
-            spot(0, 45),
-            spot(0, 45),
-            spot(0, 45),
-            spot(0, 145),
-            spot(0, 19),
-        ],
-        begun: spot(0, 13),
+        at: (0, 31),
+        returns: &[(0, 45), (0, 45), (0, 45), (0, 145), (0, 19)],
+        begun: (0, 13),
         values: &[],
-        said: "deep.nss:2:21: note: the limit of instructions ended the entry at 0 here, in \
-            `Deep`; 4 calls of `Deep` are under way [limit]\n    return Deep(n + 1);\n              \
-                  ^\ndeep.nss:2:12: note: called from `Deep`, 3 times\ndeep.nss:13:18: note: \
-            called from `main`\n",
+        said: "\
+            deep.nss:2:21: note: the limit of instructions ended the entry at 0 here, in \
+            `Deep`; 4 calls of `Deep` are under way [limit]\n\
+            \u{20}   return Deep(n + 1);\n\
+            \u{20}                   ^\n\
+            deep.nss:2:12: note: called from `Deep`, 3 times\n\
+            deep.nss:13:18: note: called from `main`\n",
     },
 ];
 
@@ -270,24 +291,26 @@ const OFFSETS: &[Row] = &[
     Row {
         ending: Ending::Divide,
         time: 0,
-        at: spot(0, 33),
-        returns: &[spot(0, 19)],
-        begun: spot(0, 13),
+        at: (0, 33),
+        returns: &[(0, 19)],
+        begun: (0, 13),
         values: &[],
-        said: "guard.ncs: note: a division by 0 ended the entry at 0 at offset 33, in the routine \
-            at offset 21 [divide]\nguard.ncs: note: called from offset 13, in the routine at offset \
-            13\n",
+        said: "\
+            guard.ncs: note: a division by 0 ended the entry at 0 at offset 33, in the routine \
+            at offset 21 [divide]\n\
+            guard.ncs: note: called from offset 13, in the routine at offset 13\n",
     },
     Row {
         ending: Ending::Divide,
         time: 0,
-        at: spot(0, 60),
+        at: (0, 60),
         returns: &[],
-        begun: spot(0, 50),
+        begun: (0, 50),
         values: &[-1],
-        said: "guard.ncs: note: a division by 0 ended the entry at 0 at offset 60, in the routine \
-            at offset 50 [divide]\nguard.ncs: note: the action was deferred at offset 34; it \
-            captured -1\n",
+        said: "\
+            guard.ncs: note: a division by 0 ended the entry at 0 at offset 60, in the routine \
+            at offset 50 [divide]\n\
+            guard.ncs: note: the action was deferred at offset 34; it captured -1\n",
     },
 ];
 
@@ -321,12 +344,13 @@ const RESUMED: Played = Played {
 const ALONE: Row = Row {
     ending: Ending::Divide,
     time: 12_000,
-    at: spot(LATERS, 35),
-    returns: &[spot(LATERS, 77), spot(LATERS, 184)],
-    begun: spot(LATERS, 170),
+    at: (LATERS, 35),
+    returns: &[(LATERS, 77), (LATERS, 184)],
+    begun: (LATERS, 170),
     values: &[3, 0],
-    said: "later: note: a division by 0 ended the entry at 12000 at offset 35 [divide]\nlater: note: \
-        the action was deferred at offset 154; it captured 3, 0\n",
+    said: "\
+            later: note: a division by 0 ended the entry at 12000 at offset 35 [divide]\n\
+            later: note: the action was deferred at offset 154; it captured 3, 0\n",
 };
 
 /// What ends the notes where there are more than sixteen.
