@@ -81,14 +81,14 @@ no_mark left j h = absurd (none (sym (ap node_found (sought_none (Ahead left))) 
     none : None ≡ Some j → ⊥
     none e = absurd cc
 
-first_of_two : {A : Type 0} {x y : A} {xs ys : List A} (d : A) → x ∷ xs ≡ y ∷ ys → x ≡ y
+pub first_of_two : {A : Type 0} {x y : A} {xs ys : List A} (d : A) → x ∷ xs ≡ y ∷ ys → x ≡ y
 first_of_two d e = ap (first d) e
   where
     first : {A : Type 0} → A → List A → A
     first d [] = d
     first d (x ∷ xs) = x
 
-others_of_two : {A : Type 0} {x y : A} {xs ys : List A} → x ∷ xs ≡ y ∷ ys → xs ≡ ys
+pub others_of_two : {A : Type 0} {x y : A} {xs ys : List A} → x ∷ xs ≡ y ∷ ys → xs ≡ ys
 others_of_two e = ap others e
   where
     others : {A : Type 0} → List A → List A

@@ -12,7 +12,7 @@ use Rattle.code_places.proofs.Owned.{Marked}
 use Rattle.code_places.proofs.Owners.{From, expr_marked, function_marked}
 
 -- so many nodes without code before these
-pad : ℕ → List Node → List Node
+pub pad : ℕ → List Node → List Node
 pad zero xs = xs
 pad (suc k) xs = Bare ∷ pad k xs
 
@@ -42,7 +42,7 @@ no_code l node code is (of_statement out n depth x same code-is) = absurd cc
 no_code l node code is (of_name n depth d same code-is) = absurd cc
 no_code l node code is (of_function n f m t x ps body same code-is) = absurd cc
 
-from_pad : (k : ℕ) (xs : List Node) → From (pad k (xs ++ [])) (Some k) (xs ++ [])
+pub from_pad : (k : ℕ) (xs : List Node) → From (pad k (xs ++ [])) (Some k) (xs ++ [])
 from_pad k xs = record { is = λ j e. subst (λ m. drop m (pad k (xs ++ [])) ≡ xs ++ []) (same_Some k j e) (pad_drop k (xs ++ [])) }
 
 in_range : (l : Layout) (k : ℕ) (xs : List Node) (lines : List Line) (ms : List Mark) → Marked (HasCode l (pad k (xs ++ []))) None lines ms

@@ -9,3 +9,4 @@ pub mod Found
 pub mod Examples
 pub mod Sources
 pub mod Inside
+pub mod Functions

@@ -1,5 +1,5 @@
 -- Going over instructions to the one that a byte of the code lies in.
-use Rattle.std.specs.Prelude.{ℕ, ◌-◌, nat_lt, List, [], ◌∷◌, Option, None, slice_get, if◌then◌else◌}
+use Rattle.std.specs.Prelude.{ℕ, ◌-◌, Bool, true, false, nat_lt, List, [], ◌∷◌, Option, None, slice_get, if◌then◌else◌}
 use Rattle.std.specs.Option.{option_and_then}
 use Rattle.nss_tree.specs.Places.{places}
 use Rattle.nss_tree.specs.Source.{SourceTree}
@@ -21,6 +21,10 @@ sought (m ∷ ms) seek = sought ms (passed m seek)
 abbrev pub node_found : Seek → Number
 node_found (Ahead left) = None
 node_found (Found node) = node
+
+abbrev pub is_found : Seek → Bool
+is_found (Ahead _) = false
+is_found (Found _) = true
 
 -- the number of the node whose code the byte at this place of the file lies in: None in the header,
 -- at the start, and behind the code

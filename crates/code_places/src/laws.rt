@@ -1,5 +1,6 @@
 //! What the marks of a unit tell of its code.
 
+ghost use Rattle.code_places.specs.Functions.{FunctionsHold};
 ghost use Rattle.code_places.specs.Laws.{NodesOwn, OwnersHold, PlacesHold, SizesAgree};
 ghost use Rattle.code_places.specs.Sources.{TokensAgree, TokensHold};
 
@@ -34,4 +35,10 @@ pub fn tokens_agree()
 /// of a node of that token.
 pub fn tokens_hold()
     ensures tokens { TokensHold }
+{}
+
+/// The byte at a place for which a function is told lies in an instruction that stands in that
+/// function's code.
+pub fn functions_hold()
+    ensures functions { FunctionsHold }
 {}

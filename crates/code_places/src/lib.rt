@@ -11,7 +11,8 @@
 //! byte at a place (`places_hold`), and in a typed unit the token of a node's number is the node's
 //! (`tokens_agree`): so the byte at a place for which a token is told lies in the code of a node of
 //! that token (`tokens_hold`). The marks of an expression and of a function name nodes in it alone
-//! (`nodes_own`). The page on it is docs/CODE.md.
+//! (`nodes_own`). [`function_at`] gives the function whose code the byte lies in
+//! (`functions_hold`). The page on it is docs/CODE.md.
 #![tactic(auto)]
 
 mod cells;
@@ -24,4 +25,4 @@ mod seek;
 mod statements;
 mod units;
 
-pub use units::{node_at, token_at};
+pub use units::{function_at, node_at, token_at};

@@ -2,7 +2,7 @@
 
 ghost use Rattle.std.specs.Prelude.{◌≡◌, ◌+◌, length};
 ghost use Rattle.code_places.specs.Marks.{constant_mark, mark, mark_if};
-ghost use Rattle.code_places.specs.Seeking.{node_found, passed, sought};
+ghost use Rattle.code_places.specs.Seeking.{is_found, node_found, passed, sought};
 
 use nwq_value::Const;
 
@@ -64,6 +64,16 @@ pub(crate) fn pass_constant(seek: Seek, constant: &Const, node: Option<u32>) -> 
         Const::Text(text) => pass_text(seek, text.bytes().len(), node),
         Const::SelfObject => pass(seek, 6, node),
         Const::InvalidObject => pass(seek, 6, node),
+    }
+}
+
+/// Whether the instruction was met.
+pub(crate) fn is_found(seek: Seek) -> bool
+    ensures { result ≡ is_found seek }
+{
+    match seek {
+        Seek::Ahead(_) => false,
+        Seek::Found(_) => true,
     }
 }
 

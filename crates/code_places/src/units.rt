@@ -7,12 +7,13 @@ ghost use Rattle.typing_rules.specs.UnitReading.{typed_unit};
 ghost use Rattle.emission_rules.specs.Layout.{layout_of};
 ghost use Rattle.emission_rules.specs.Units as code;
 ghost use Rattle.code_places.specs.Marks as marks;
+ghost use Rattle.code_places.specs.Functions.{function_among, function_at, function_behind};
 ghost use Rattle.code_places.specs.Seeking.{node_at, sought, token_at};
 
 use crate::cells::{all_declare, either, parameters_have_cells};
 use crate::frame::first_frame;
 use crate::numbers::{behind_item, behind_parameters, next};
-use crate::seek::{Seek, node_of, pass, pass_if};
+use crate::seek::{Seek, is_found, node_of, pass, pass_if};
 use crate::statements::{seek_names, seek_stmts};
 use nss_layout::Layout;
 use nss_tree::{Item, Tree};
@@ -180,4 +181,46 @@ pub fn token_at(tree: &Tree, unit: &Typed, layout: &Layout, place: u32) -> Optio
         None => None,
         Some(node) => tree.place(node),
     }
+}
+
+/// The number, among these items, of the function that the way ends in.
+fn function_among(layout: &Layout, items: &[TypedItem], mut seek: Seek) -> Option<usize>
+    ensures { result
+        ≡ function_among layout.now (Some 0) 0 (typed_items items.now) seek }
+{
+    let mut node = Some(0);
+    for (i, item) in items.iter().enumerate() {
+        seek = seek_item(layout, item, node, seek);
+        if is_found(seek) {
+            return Some(i);
+        }
+        node = behind_item(node, item);
+    }
+    None
+}
+
+/// The same, unless the way ended at the start.
+fn function_behind(layout: &Layout, items: &[TypedItem], seek: Seek) -> Option<usize>
+    ensures { result ≡ function_behind layout.now (typed_items items.now) seek }
+{
+    if is_found(seek) {
+        None
+    } else {
+        function_among(layout, items, seek)
+    }
+}
+
+/// The number, among the unit's items, of the function whose code the byte at this place of the
+/// unit's file lies in: None in the header, at the start with its first values, and behind the
+/// code.
+pub fn function_at(unit: &Typed, layout: &Layout, place: u32) -> Option<usize>
+    requires laid { layout.now ≡ layout_of (typed_unit unit.now) }
+    ensures function { result ≡ function_at (typed_unit unit.now) place }
+{
+    if place < 13 {
+        return None;
+    }
+    let items = unit.items.as_slice();
+    let seek = seek_start(layout, items, unit.entry, Seek::Ahead(place - 13));
+    function_behind(layout, items, seek)
 }

@@ -1,2 +1,1 @@
-pub mod UnitTokens
 mod KeptLemmas

@@ -8,21 +8,19 @@
 //! command did, and where the put fails nothing comes of it. What isn't among the files is told
 //! without its line.
 //!
-//! Here stands what is found for a message: the token at a place, the unit that is refused there,
-//! the line that asks for a file. The sentences are those of `message_sentences`, types and
-//! arguments those of `message_types`, the notes on a plan and its area those of `message_notes`.
+//! Here stands which message or note comes. What is found for it at a place of a source text is
+//! that of `message_places`; the sentences are those of `message_sentences`, types and arguments
+//! those of `message_types`, the notes on a plan and its area those of `message_notes`, those on
+//! entries that ended before their end those of `message_remarks`.
 //! The page on messages is docs/MESSAGES.md.
 #![tactic(auto)]
 
-mod asked;
-mod hints;
 mod inputs;
 mod kept;
 mod notes;
 mod overwritten;
-mod places;
+mod scripts;
 mod tell;
-mod units;
 
 pub use kept::LastLine;
 pub use message_sentences::VERSION;

@@ -5,10 +5,12 @@ ghost use Rattle.nwq_value.specs.Limits.{file_limit};
 
 use crate::inputs::{Inputs, inputs_of};
 use crate::overwritten::put_overwritten;
+use crate::scripts::{binaries_of, names_of, scripts_of};
 use crate::tell::End;
-use crate::units::{names_of, read_named, scripts_of, table_of};
 use command_words::Command;
 use message_notes::{Input, put_play_notes};
+use message_places::{read_named, table_of};
+use message_remarks::{Play, put_remarks};
 use message_sentences::{put_note, same};
 use nss_include::{Unit, gather};
 use nss_lexer::Token;
@@ -293,6 +295,48 @@ fn put_played<F: Files>(
     }
 }
 
+/// The table of a command's header, if it has one.
+fn table_in<F: Files>(alloc: Global, inputs: Inputs<'_>, files: &mut F) -> Option<Table>
+    ensures same { F.contents files.new ≡ F.contents files.old }
+{
+    table_of(alloc, inputs.header?, files)
+}
+
+/// The word that names what a command plays.
+fn played_by<'a>(inputs: Inputs<'a>) -> &'a [u8] {
+    match (inputs.plan, inputs.state, inputs.script) {
+        (Some(plan), _, _) => plan.as_bytes(),
+        (None, Some(state), _) => state.as_bytes(),
+        (None, None, Some(script)) => script.as_bytes(),
+        (None, None, None) => b"",
+    }
+}
+
+/// Appends the notes on entries that ended before their end.
+fn put_ended<F: Files>(
+    alloc: Global,
+    out: &mut Vec<u8>,
+    inputs: Inputs<'_>,
+    end: End<'_>,
+    files: &mut F,
+) -> Result<(), NoMemory>
+    ensures same { F.contents files.new ≡ F.contents files.old }
+{
+    if end.remarks.is_empty() {
+        return Ok(());
+    }
+    let table = table_in(alloc, inputs, files);
+    let binaries = binaries_of(alloc, inputs, files)?;
+    let play = Play {
+        name: played_by(inputs),
+        table: table.as_ref(),
+        names: end.names,
+        binaries: binaries.as_slice(),
+        remarks: end.remarks,
+    };
+    put_remarks(alloc, out, play, files)
+}
+
 /// The notes on a command that did its work, for standard error.
 pub(crate) fn notes_on<F: Files>(
     alloc: Global,
@@ -305,6 +349,7 @@ pub(crate) fn notes_on<F: Files>(
     let mut out = Vec::new(alloc);
     let inputs = inputs_of(command);
     if inputs.plays {
+        put_ended(alloc, &mut out, inputs, end, files)?;
         put_played(alloc, &mut out, inputs, end, files)?;
     }
     if end.number == 0 {

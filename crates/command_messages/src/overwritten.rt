@@ -2,8 +2,8 @@
 
 ghost use Rattle.std.specs.Prelude.{◌≡◌};
 
-use crate::units::read_named;
 use command_words::Command;
+use message_places::read_named;
 use message_sentences::put_note;
 use nwq_outside::Files;
 use nwq_value::NoMemory;

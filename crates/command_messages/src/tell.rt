@@ -3,15 +3,16 @@
 ghost use Rattle.std.specs.Prelude.{◌≡◌, ◌≤◌, bytes_eq, length, false, IfNone, IfSome};
 ghost use Rattle.nwq_value.specs.Limits.{file_limit};
 
-use crate::asked::{Asking, Lister, include_of, line_of_file};
-use crate::hints::{put_by_token, put_cause_open};
 use crate::inputs::{Inputs, inputs_of};
 use crate::notes::notes_on;
-use crate::places::{Spot, put_cause, token_at};
-use crate::units::{Ask, name_in, put_of_scripts, read_named, scripts_of, table_of};
+use crate::scripts::scripts_of;
 use command_words::command_of;
 use command_work::Status;
 use message_lines::{LineFault, code_fault, list_fault, plan_fault, put_line_fault, table_fault};
+use message_places::{
+    Ask, Asking, Lister, Spot, include_of, line_of_file, name_in, put_by_token, put_cause,
+    put_cause_open, put_of_scripts, read_named, table_of, token_at,
+};
 use message_sentences::{
     Told, kind_of, line_in, place_of_line, put_end, put_fault, put_flaw, put_head, put_kind,
     put_memory, put_name, put_no_text, put_sentence, put_usage, put_whole, put_words, same,
@@ -20,18 +21,22 @@ use message_sentences::{
 use message_stacks::put_why;
 use nwq_outside::{Files, Sink};
 use nwq_value::{NoMemory, Table, Text};
+use play_remarks::Remark;
 use real_files::Trouble;
 use std::alloc::Global;
 
 /// How the program ended: its number, the last line on standard output, the last name at which the
-/// system failed, whether a play that came to its end left no random numbers, and the first word
-/// that is no text, where the words weren't taken for that.
+/// system failed, and the first word that is no text, where the words weren't taken for that. Of a
+/// play: whether it came to its end and left no random numbers, where entries ended before their
+/// end, the first 16 and one more where there are more, and its scripts' names by number.
 #[derive(Clone, Copy)]
 pub struct End<'a> {
     pub number: u8,
     pub line: &'a [u8],
     pub trouble: Option<&'a Trouble>,
     pub random_used_up: bool,
+    pub remarks: &'a [Remark],
+    pub names: &'a [Text],
     pub no_text: Option<&'a [u8]>,
 }
 

@@ -31,6 +31,8 @@ fn said(
         line: b"",
         trouble,
         random_used_up: false,
+        remarks: &[],
+        names: &[],
         no_text: None,
     };
     tell_end(alloc, all.as_slice(), end, &mut files, &mut err);
@@ -75,6 +77,8 @@ fn fails_quietly(alloc: Global) -> Result<bool, NoMemory> {
         line: b"",
         trouble: None,
         random_used_up: false,
+        remarks: &[],
+        names: &[],
         no_text: None,
     };
     tell_end(alloc, all.as_slice(), end, &mut files, &mut err);
@@ -153,6 +157,8 @@ fn tells_no_text(alloc: Global) -> Result<bool, NoMemory> {
         line: b"refused words\n",
         trouble: None,
         random_used_up: false,
+        remarks: &[],
+        names: &[],
         no_text: Some(b"caf\xe9"),
     };
     tell_end(alloc, &[], end, &mut files, &mut err);

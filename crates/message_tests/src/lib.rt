@@ -17,4 +17,6 @@ mod messages;
 #[cfg(test)]
 mod notes;
 #[cfg(test)]
+mod remarks;
+#[cfg(test)]
 mod rows;

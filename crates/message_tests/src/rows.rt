@@ -45,6 +45,8 @@ fn is_said(alloc: Global, row: &Row, random_used_up: bool) -> Result<bool, NoMem
         line: row.line,
         trouble: None,
         random_used_up,
+        remarks: &[],
+        names: &[],
         no_text: None,
     };
     tell_end(alloc, words.as_slice(), end, &mut files, &mut err);
@@ -86,6 +88,8 @@ fn is_told(
         line: row.line,
         trouble: None,
         random_used_up: false,
+        remarks: &[],
+        names: &[],
         no_text: None,
     };
     tell_end(alloc, all.as_slice(), end, &mut files, &mut err);
