@@ -1,3 +1,4 @@
+use Rattle.stack_check.proofs.Handing.{hands_none}
 use Rattle.stack_check.proofs.Following.{adds_calls_none}
 use Rattle.std.proofs.Common.{refl}
 use Rattle.std.proofs.lemmas.Bool.{iff_false}
@@ -11,6 +12,7 @@ returns-then-same c = record {
       c.requires.saved c.requires.pending;
   waits = refl;
   few = adds_calls_none c.args.todo.now 3;
+  hands = hands_none c.args.facts.now c.args.todo.now;
   again = tt;
 }
 
@@ -21,5 +23,6 @@ returns-else-same c = record {
       (iff_false c.same.ensures c.if-same.false);
   waits = tt;
   few = adds_calls_none c.args.todo.now 3;
+  hands = hands_none c.args.facts.now c.args.todo.now;
   again = tt;
 }

@@ -1,3 +1,4 @@
+use Rattle.stack_check.proofs.Handing.{hands_seen}
 use Rattle.std.proofs.Common.{◌∙◌, subst, sym}
 use Rattle.stack_lists.specs.Held.{shape_of}
 use Rattle.stack_check.specs.Inference.{UnseenOwed}
@@ -40,3 +41,12 @@ pub returns-clause-few : goal.returns-clause-few
 returns-clause-few c =
     sees_few c.args.todo.now c.note_growth.new.todo c.look_again.new.todo c.add.new.self c.in-Some.trial.now.entry _ c.in_ok-note_growth-in-Some.ensures.waits
     c.in_ok-note_growth-in-Some.ensures.calls c.in_ok-look_again-in-Some.ensures c.in_ok-add-in-Some.ensures.added c.in_ok-add-in-Some.ensures.calls
+
+pub returns-clause-hands : goal.returns-clause-hands
+returns-clause-hands c =
+    hands_seen c.args.facts.now c.narrow.new.facts c.args.todo.now c.note_growth.new.todo c.look_again.new.todo c.add.new.self c.args.from.trial
+    c.in-Some.trial.now _ c.narrow.ensures.set (sym c.in-Some.ensures.item) c.in_ok-note_growth-in-Some.ensures.waits c.in_ok-note_growth-in-Some.ensures.calls
+    c.in_ok-look_again-in-Some.ensures
+    (calls_wait c.args.todo.now c.note_growth.new.todo c.look_again.new.todo c.add.new.self c.args.facts.now c.args.from.trial c.in-Some.trial.now _
+    (sym c.in-Some.ensures.item) c.in_ok-note_growth-in-Some.ensures.calls c.in_ok-look_again-in-Some.ensures c.in_ok-add-in-Some.ensures.added).by
+    c.in_ok-add-in-Some.ensures.added c.in_ok-add-in-Some.ensures.calls
