@@ -1,4 +1,4 @@
-use Rattle.stack_check.proofs.Handing.{hands_none}
+use Rattle.stack_check.proofs.Handing.{hands_given, hands_none}
 use Rattle.stack_check.proofs.Following.{adds_calls_none}
 use Rattle.std.proofs.Common.{refl}
 use Rattle.std.proofs.lemmas.Bool.{iff_false}
@@ -26,3 +26,9 @@ returns-else-same c = record {
   hands = hands_none c.args.facts.now c.args.todo.now;
   again = tt;
 }
+
+pub returns-in_ok-add_callers-in-None-clause-hands :
+    goal.returns-in_ok-add_callers-in-None-clause-hands
+returns-in_ok-add_callers-in-None-clause-hands c =
+    hands_given c.args.facts.now c.give.new.facts c.args.todo.now c.add_callers.new.self c.args.from.trial c.args.target c.args.trial
+    c.in_ok-give-in-None.ensures.set c.requires.trial c.requires.entry c.in_ok-add_callers-in-None.ensures.added
