@@ -209,7 +209,7 @@ get_end (z ∷ xs) x y (suc k) h = elim (get_end xs x y k h) [
   | inr b ↦ inr (ap (λ n. suc n) b.0, b.1)
 ]
 
-get_kept : {A : Type 0} (xs : List A) (x y : A) (k : ℕ) → slice_get xs k ≡ Some y → slice_get (xs ++ x ∷ []) k ≡ Some y
+pub get_kept : {A : Type 0} (xs : List A) (x y : A) (k : ℕ) → slice_get xs k ≡ Some y → slice_get (xs ++ x ∷ []) k ≡ Some y
 get_kept [] x y k h = absurd cc
 get_kept (z ∷ xs) x y zero h = h
 get_kept (z ∷ xs) x y (suc k) h = get_kept xs x y k h
@@ -365,12 +365,12 @@ set_cases (z ∷ xs) (suc n) x (suc k) y h = elim (set_cases xs n x k y h) [
   | inr b ↦ inr (ap (λ n. suc n) b.0, b.1, omega (arith, b.2))
 ]
 
-set_here : {A : Type 0} (xs : List A) (n : ℕ) (x : A) → n < length xs → slice_get (slice_set xs n x) n ≡ Some x
+pub set_here : {A : Type 0} (xs : List A) (n : ℕ) (x : A) → n < length xs → slice_get (slice_set xs n x) n ≡ Some x
 set_here [] n x h = absurd (omega (arith, h))
 set_here (z ∷ xs) zero x h = refl
 set_here (z ∷ xs) (suc n) x h = set_here xs n x (omega (arith, h))
 
-set_other : {A : Type 0} (xs : List A) (n : ℕ) (x : A) (k : ℕ) → k ≢ n → slice_get (slice_set xs n x) k ≡ slice_get xs k
+pub set_other : {A : Type 0} (xs : List A) (n : ℕ) (x : A) (k : ℕ) → k ≢ n → slice_get (slice_set xs n x) k ≡ slice_get xs k
 set_other [] n x k ne = refl
 set_other (z ∷ xs) zero x zero ne = absurd (ne refl)
 set_other (z ∷ xs) zero x (suc k) ne = refl

@@ -5,6 +5,7 @@ pub mod Tables
 pub mod Reaching
 pub mod Steps
 pub mod Following
+pub mod Handing
 pub mod Adding
 pub mod Seeing
 pub mod Calling

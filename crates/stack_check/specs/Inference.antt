@@ -469,6 +469,43 @@ pub record CallsOfWait (before after : Worklist) (facts : Facts) (number : ℕ) 
   pub has : slice_get facts.trials number ≡ Some trial
   pub by : CallsWait before after trial.entry
 
+-- ---- what is found is handed in
+
+-- What waited waits still, and calls that were kept are kept.
+pub record Stays (before after : Worklist) : Type 0 where
+  pub spots : (spot : Spot) → Contains (waiting before) spot → Contains (waiting after) spot
+  pub calls : (target : ℕ) (call : KeptCall) → Contains (calls_of before target) call
+      → Contains (calls_of after target) call
+
+-- One trial may be another one of its entry, and the others are as before.
+pub record TrialIs (before after : Facts) (changed number : ℕ) (trial : Trial) : Type 0 where
+  pub now : Trial
+  pub has : slice_get after.trials number ≡ Some now
+  pub entry : now.entry ≡ trial.entry
+  pub known : (now ≡ trial) ⊎ (number ≡ changed)
+
+pub record TrialSet (before after : Facts) (changed : ℕ) : Type 0 where
+  pub rows : after.rows ≡ before.rows
+  pub by : (number : ℕ) (trial : Trial) → slice_get before.trials number ≡ Some trial
+      → TrialIs before after changed number trial
+
+-- Of a trial the same is known as before, or each call that was kept of its routine waits.
+pub record TrialStays (after : Facts) (w w' : Worklist) (number : ℕ) (trial : Trial) : Type 0 where
+  pub now : Trial
+  pub has : slice_get after.trials number ≡ Some now
+  pub entry : now.entry ≡ trial.entry
+  pub known : (now ≡ trial) ⊎ CallsWait w w' trial.entry
+
+-- Whatever was found waits: each row that is new, and the calls of each routine of which more is
+-- known, what it gives or how deep it looks.
+pub record HandsIn (before after : Facts) (w w' : Worklist) : Type 0 where
+  pub rows : (trial place : ℕ) (held : Held) → row_in after.rows trial place ≡ Some held
+      → (row_in before.rows trial place ≡ Some held)
+      ⊎ Contains (waiting w') (record { trial = trial; place = place })
+  pub trials : (number : ℕ) (trial : Trial) → slice_get before.trials number ≡ Some trial
+      → TrialStays after w w' number trial
+  pub stays : Stays w w'
+
 -- ---- stored states
 
 -- every table has this shape where a state resumes that is stored at this place

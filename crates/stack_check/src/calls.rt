@@ -8,6 +8,7 @@ ghost use Rattle.stack_check.specs.Facts.{FindsMore};
 ghost use Rattle.stack_check.specs.Inference.{AllIn, BeginsAlike, Calls, IsCall, Keeps, NothingNew};
 ghost use Rattle.stack_check.specs.Inference.{IsKept, RowIs, Sees, TrialIn, Within, window};
 ghost use Rattle.stack_check.specs.Inference.{Adds, AddsCalls};
+ghost use Rattle.stack_check.specs.Inference.{HandsIn};
 ghost use Rattle.stack_rules.specs.Rules.{WellStacked};
 
 use crate::facts::{Facts, Trial, Unseen, begin};
@@ -30,7 +31,7 @@ pub struct FoundCall {
 }
 
 /// A call of a routine that has no trial yet.
-#[tactic(auto, using(crate::proofs::CallSteps::first, crate::proofs::Following::adding))]
+#[tactic(auto, using(crate::proofs::CallSteps::first, crate::proofs::Following::adding, crate::proofs::Handing::handing))]
 fn call_first(
     judged: &Judged<'_>,
     heap: &Heap,
@@ -46,6 +47,7 @@ fn call_first(
         facts.new) }
     ensures takes { IfOk result (λ _. FindsMore facts.old facts.new) }
     ensures few { OnOk result (Adds todo.old todo.new 1) }
+    ensures hands { OnOk result (HandsIn facts.old facts.new todo.old todo.new) }
 {
     let unseen = Unseen {
         cells: heap.slots.depth(from.held.cells),
@@ -144,7 +146,7 @@ fn is_found(
 }
 
 /// A call of a routine of which it is known what it gives.
-#[tactic(auto, using(crate::proofs::Following::handing))]
+#[tactic(auto, using(crate::proofs::Following::handing, crate::proofs::Handing::handing))]
 fn call_given(
     alloc: Global,
     judged: &Judged<'_>,
@@ -168,6 +170,7 @@ fn call_given(
         heap.new facts.old facts.new at.from.trial at.from.place at.from.held seen) }
     ensures waits { IfOk result (λ seen. NothingNew todo.old todo.new seen) }
     ensures few { IfOk result (λ _. AddsCalls todo.old todo.new 3) }
+    ensures hands { IfOk result (λ _. HandsIn facts.old facts.new todo.old todo.new) }
 {
     let count = (heap.slots.depth(given) - callee.unseen.cells) as usize;
     let rest = heap
@@ -210,7 +213,7 @@ fn grows(judged: &Judged<'_>, heap: &Heap, facts: &Facts, todo: &mut Todo, trial
 }
 
 /// A call of a routine whose trial is this one.
-#[tactic(auto, using(crate::proofs::Following::handing, crate::proofs::RingLemmas::growing))]
+#[tactic(auto, using(crate::proofs::Following::handing, crate::proofs::Handing::handing, crate::proofs::RingLemmas::growing))]
 fn call_known(
     alloc: Global,
     judged: &Judged<'_>,
@@ -229,6 +232,7 @@ fn call_known(
         heap.new facts.old facts.new at.from.trial at.from.place at.from.held seen) }
     ensures waits { IfOk result (λ seen. NothingNew todo.old todo.new seen) }
     ensures few { IfOk result (λ _. AddsCalls todo.old todo.new 3) }
+    ensures hands { IfOk result (λ _. HandsIn facts.old facts.new todo.old todo.new) }
 {
     if !begins(heap, at.from.held, callee)? {
         return Ok(Seen::Bad);
@@ -257,7 +261,7 @@ fn call_known(
 }
 
 /// JSR, which isn't kept yet.
-#[tactic(auto, using(crate::proofs::Following::handing))]
+#[tactic(auto, using(crate::proofs::Following::handing, crate::proofs::Handing::handing))]
 fn call_routine(
     alloc: Global,
     judged: &Judged<'_>,
@@ -274,6 +278,7 @@ fn call_routine(
         heap.new facts.old facts.new at.from.trial at.from.place at.from.held seen) }
     ensures waits { IfOk result (λ seen. NothingNew todo.old todo.new seen) }
     ensures few { IfOk result (λ _. AddsCalls todo.old todo.new 3) }
+    ensures hands { IfOk result (λ _. HandsIn facts.old facts.new todo.old todo.new) }
 {
     match counting(facts, at.target) {
         None => {
@@ -285,7 +290,7 @@ fn call_routine(
 }
 
 /// JSR. The call is kept, and looked at again when more is known of the routine.
-#[tactic(auto, using(crate::proofs::Following::keeping))]
+#[tactic(auto, using(crate::proofs::Following::keeping, crate::proofs::Handing::keeping))]
 pub fn call(
     alloc: Global,
     judged: &Judged<'_>,
@@ -302,6 +307,7 @@ pub fn call(
         heap.new facts.old facts.new at.from.trial at.from.place at.from.held seen) }
     ensures waits { IfOk result (λ seen. NothingNew todo.old todo.new seen) }
     ensures few { IfOk result (λ _. AddsCalls todo.old todo.new 3) }
+    ensures hands { IfOk result (λ _. HandsIn facts.old facts.new todo.old todo.new) }
     ensures kept { IfOk result (λ _. IsKept todo.new at.target
         (record { trial = at.from.trial; place = at.from.place })) }
 {

@@ -7,6 +7,7 @@ ghost use Rattle.stack_check.specs.Inference.{TrialBegins, Formed, GivenOwed, Ke
 ghost use Rattle.stack_check.specs.Inference.{TrialAdded, TrialIn, UnseenOwed};
 ghost use Rattle.stack_check.specs.Inference.{CurrentSet};
 ghost use Rattle.stack_check.specs.Inference.{Adds};
+ghost use Rattle.stack_check.specs.Inference.{HandsIn, TrialSet};
 
 use crate::judged::Judged;
 use nwq_value::{Items, NoMemory};
@@ -123,6 +124,7 @@ pub fn begin(
     ensures handed { OnOk result (waiting todo.new ≡ waiting todo.old
         ++ record { trial = length facts.old.trials; place = first_place trial.entry } ∷ []) }
     ensures few { OnOk result (Adds todo.old todo.new 1) }
+    ensures hands { OnOk result (HandsIn facts.old facts.new todo.old todo.new) }
 {
     let _ = judged;
     let _ = heap;
@@ -150,6 +152,7 @@ pub fn give(
     ensures keeps { IfOk result (λ _. Keeps judged.now.table.now judged.now.code.now heap.now
         facts.new) }
     ensures takes { IfOk result (λ _. FindsMore facts.old facts.new) }
+    ensures set { IfOk result (λ _. TrialSet facts.old facts.new number) }
 {
     let _ = judged;
     let _ = heap;
@@ -187,6 +190,7 @@ pub fn narrow(
         trial unseen }
     ensures keeps { Keeps judged.now.table.now judged.now.code.now heap.now facts.new }
     ensures takes { FindsMore facts.old facts.new }
+    ensures set { TrialSet facts.old facts.new number }
 {
     let _ = judged;
     let _ = heap;

@@ -9,6 +9,7 @@ ghost use Rattle.stack_check.specs.Facts.{found, left};
 ghost use Rattle.stack_check.specs.Inference.{IsFound, Keeps, NothingNew, SeesAll, SeesDrained};
 ghost use Rattle.stack_check.specs.Inference.{SeesRow, SeesTurn, WhereQuiet};
 ghost use Rattle.stack_check.specs.Inference.{AddsCalls};
+ghost use Rattle.stack_check.specs.Inference.{HandsIn};
 
 use crate::facts::{Facts, Trial, Unseen};
 use crate::judged::Judged;
@@ -24,7 +25,7 @@ use stack_shape::Entry;
 use std::alloc::Global;
 
 /// Looks at the shape of a trial at a place, if it has one.
-#[tactic(auto, using(crate::proofs::Passing::looking, crate::proofs::Following::adding))]
+#[tactic(auto, using(crate::proofs::Passing::looking, crate::proofs::Following::adding, crate::proofs::Handing::handing))]
 fn look(
     alloc: Global,
     judged: &Judged<'_>,
@@ -39,6 +40,7 @@ fn look(
         heap.new facts.old facts.new trial place seen) }
     ensures waits { IfOk result (λ seen. NothingNew todo.old todo.new seen) }
     ensures few { IfOk result (λ _. AddsCalls todo.old todo.new 3) }
+    ensures hands { IfOk result (λ _. HandsIn facts.old facts.new todo.old todo.new) }
 {
     match facts.rows.find(trial, place) {
         None => Ok(Seen::Quiet),
@@ -96,6 +98,7 @@ fn look_row(
         heap.new facts.old facts.new row.trial row.place seen) }
     ensures waits { IfOk result (λ seen. NothingNew todo.old todo.new seen) }
     ensures few { IfOk result (λ _. AddsCalls todo.old todo.new 3) }
+    ensures hands { IfOk result (λ _. HandsIn facts.old facts.new todo.old todo.new) }
 {
     let from = Found {
         trial: row.trial,

@@ -6,6 +6,7 @@ ghost use Rattle.stack_check.specs.Inference.{HandedIn, Reached};
 ghost use Rattle.stack_check.specs.Inference.{RowIs, RowsKept, Takes};
 ghost use Rattle.stack_check.specs.Inference.{Visited, WhereQuiet, after_change, leads_of};
 ghost use Rattle.stack_check.specs.Inference.{Adds};
+ghost use Rattle.stack_check.specs.Inference.{HandsIn, Stays};
 ghost use Rattle.machine_rules.specs.Act.{next_place};
 
 use crate::facts::Facts;
@@ -44,10 +45,11 @@ fn reach(
 }
 
 /// Has a place looked at where its shape is new.
-#[tactic(auto, using(crate::proofs::Following::handing))]
+#[tactic(auto, using(crate::proofs::Following::handing, crate::proofs::Handing::noting))]
 fn note(todo: &mut Todo, seen: Seen, spot: Spot) -> Result<(), NoMemory>
     ensures waits { NothingNew todo.old todo.new seen }
     ensures few { OnOk result (Adds todo.old todo.new 1) }
+    ensures stays { OnOk result (Stays todo.old todo.new) }
     ensures handed { OnOk result (HandedIn todo.old todo.new spot seen) }
 {
     match seen {
@@ -79,6 +81,7 @@ pub fn follow(
         × RowIs heap.now facts.old spot.trial spot.place (shape_of heap.now held))) }
     ensures waits { IfOk result (λ seen. NothingNew todo.old todo.new seen) }
     ensures few { IfOk result (λ _. Adds todo.old todo.new 1) }
+    ensures hands { IfOk result (λ _. HandsIn facts.old facts.new todo.old todo.new) }
     ensures handed { IfOk result (λ seen. HandedIn todo.old todo.new spot seen) }
 {
     let _ = judged;
@@ -138,6 +141,7 @@ fn lead_to(
         × RowIs heap.now facts.old at.now.from.trial place (shape_of heap.now after))) }
     ensures waits { IfOk result (λ seen. NothingNew todo.old todo.new seen) }
     ensures few { IfOk result (λ _. Adds todo.old todo.new 1) }
+    ensures hands { IfOk result (λ _. HandsIn facts.old facts.new todo.old todo.new) }
 {
     rules_look_from_the_top();
     let _ = lead;
@@ -146,7 +150,7 @@ fn lead_to(
 }
 
 /// Reaches the shape after an instruction wherever it leads.
-#[tactic(auto, using(crate::proofs::Following::leading, crate::proofs::Following::handing))]
+#[tactic(auto, using(crate::proofs::Following::leading, crate::proofs::Following::handing, crate::proofs::Handing::handing))]
 pub fn lead(
     judged: &Judged<'_>,
     heap: &Heap,
@@ -169,6 +173,7 @@ pub fn lead(
         × AllLed heap.now facts.old at.now.from.trial lead (shape_of heap.now after))) }
     ensures waits { IfOk result (λ seen. NothingNew todo.old todo.new seen) }
     ensures few { IfOk result (λ _. Adds todo.old todo.new 2) }
+    ensures hands { IfOk result (λ _. HandsIn facts.old facts.new todo.old todo.new) }
 {
     match lead {
         Lead::One(place) => lead_to(judged, heap, facts, todo, at, after, lead, place),

@@ -7,6 +7,7 @@ ghost use Rattle.stack_lists.specs.Rows.{row_in};
 ghost use Rattle.stack_lists.specs.Worklist.{CallersAdded};
 ghost use Rattle.stack_check.specs.Inference.{Keeps, NothingNew, Sees, WhereChanged};
 ghost use Rattle.stack_check.specs.Inference.{AddsCalls};
+ghost use Rattle.stack_check.specs.Inference.{HandsIn};
 
 use crate::facts::{Facts, Trial, give};
 use crate::judged::Judged;
@@ -17,7 +18,7 @@ use stack_lists::{Heap, Todo, same};
 use stack_shape::Entry;
 
 /// RETN of a called routine, with nothing saved or pending.
-#[tactic(auto, using(crate::proofs::ReturnSteps::giving, crate::proofs::Following::adding))]
+#[tactic(auto, using(crate::proofs::ReturnSteps::giving, crate::proofs::Following::adding, crate::proofs::Handing::giving))]
 fn return_cells(
     judged: &Judged<'_>,
     heap: &Heap,
@@ -38,6 +39,7 @@ fn return_cells(
         heap.now facts.old facts.new from.trial from.place from.held seen) }
     ensures waits { IfOk result (λ seen. NothingNew todo.old todo.new seen) }
     ensures few { IfOk result (λ _. AddsCalls todo.old todo.new 3) }
+    ensures hands { IfOk result (λ _. HandsIn facts.old facts.new todo.old todo.new) }
     // Once it is known what the routine gives, its calls are looked at again.
     ensures again { IfOk result (λ seen. WhereChanged seen (CallersAdded todo.old todo.new
         target)) }
@@ -78,6 +80,7 @@ fn return_called(
         heap.now facts.old facts.new from.trial from.place from.held seen) }
     ensures waits { IfOk result (λ seen. NothingNew todo.old todo.new seen) }
     ensures few { IfOk result (λ _. AddsCalls todo.old todo.new 3) }
+    ensures hands { IfOk result (λ _. HandsIn facts.old facts.new todo.old todo.new) }
 {
     if from.held.pending != 0 {
         return Ok(Seen::Bad);
@@ -106,6 +109,7 @@ pub fn returned(
         heap.now facts.old facts.new from.trial from.place from.held seen) }
     ensures waits { IfOk result (λ seen. NothingNew todo.old todo.new seen) }
     ensures few { IfOk result (λ _. AddsCalls todo.old todo.new 3) }
+    ensures hands { IfOk result (λ _. HandsIn facts.old facts.new todo.old todo.new) }
 {
     match trial.entry {
         Entry::Start => Ok(Seen::Quiet),

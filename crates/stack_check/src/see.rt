@@ -6,6 +6,7 @@ ghost use Rattle.stack_lists.specs.Held.{shape_of};
 ghost use Rattle.stack_check.specs.Inference.{CallsAgain, CallsOfWait, IsNext, IsThere, Keeps};
 ghost use Rattle.stack_check.specs.Inference.{LooksOwed, Within, narrowed, unseen_after};
 ghost use Rattle.stack_check.specs.Inference.{AddsCalls};
+ghost use Rattle.stack_check.specs.Inference.{HandsIn};
 
 use crate::facts::{Facts, Trial, Unseen, narrow};
 use crate::judged::Judged;
@@ -98,7 +99,7 @@ fn has_seen_all(trial: Trial) -> bool
 /// Looks so deep into a shape that was found. True where some of these slots lie in what the
 /// trial's routine took from its first caller, and no instruction had looked at them. `call` is
 /// the place of the call that looks, 0 where no call does.
-#[tactic(auto, using(crate::proofs::Seeing::seeing, crate::proofs::Following::nexting, crate::proofs::Following::adding))]
+#[tactic(auto, using(crate::proofs::Seeing::seeing, crate::proofs::Following::nexting, crate::proofs::Following::adding, crate::proofs::Handing::handing))]
 pub fn see(
     judged: &Judged<'_>,
     heap: &Heap,
@@ -122,6 +123,7 @@ pub fn see(
     ensures handed { IfOk result (λ more. more ≡ true → IsNext todo.new
         (record { trial = from.trial; place = from.place })) }
     ensures few { IfOk result (λ _. AddsCalls todo.old todo.new 1) }
+    ensures hands { IfOk result (λ _. HandsIn facts.old facts.new todo.old todo.new) }
     // Once its window has grown, the routine's calls are looked at again.
     ensures again { IfOk result (λ more. more ≡ true → CallsOfWait todo.old todo.new facts.old
         from.trial) }

@@ -13,6 +13,7 @@ ghost use Rattle.stack_check.specs.Inference.{IsPlain, IsStored, Keeps, NothingN
 ghost use Rattle.stack_check.specs.Inference.{SeesStep, StoresAs, Takes, Visited, WhereQuiet};
 ghost use Rattle.stack_check.specs.Inference.{leads_of};
 ghost use Rattle.stack_check.specs.Inference.{Adds, AddsCalls};
+ghost use Rattle.stack_check.specs.Inference.{HandsIn};
 
 use crate::calls::{FoundCall, call};
 use crate::facts::{Facts, Trial, Unseen, begin};
@@ -30,7 +31,7 @@ use stack_shape::{Entry, reach_of, rules_look_from_the_top, rules_look_no_deeper
 use std::alloc::Global;
 
 /// An instruction with a rule of one shape, but for what it stores.
-#[tactic(auto, using(crate::proofs::Visits::steps, crate::proofs::Following::handing))]
+#[tactic(auto, using(crate::proofs::Visits::steps, crate::proofs::Following::handing, crate::proofs::Handing::handing))]
 fn visit_step(
     alloc: Global,
     judged: &Judged<'_>,
@@ -51,6 +52,7 @@ fn visit_step(
         at.now.op.now) seen) }
     ensures waits { IfOk result (λ seen. NothingNew todo.old todo.new seen) }
     ensures few { IfOk result (λ _. AddsCalls todo.old todo.new 2) }
+    ensures hands { IfOk result (λ _. HandsIn facts.old facts.new todo.old todo.new) }
 {
     rules_look_from_the_top();
     rules_look_no_deeper();
@@ -78,7 +80,7 @@ fn stored_trial(facts: &Facts, site: u32) -> Option<u32>
 }
 
 /// Reaches the shape with which the state resumes that is stored at a place.
-#[tactic(auto, using(crate::proofs::Storing::resuming, crate::proofs::Following::adding))]
+#[tactic(auto, using(crate::proofs::Storing::resuming, crate::proofs::Following::adding, crate::proofs::Handing::handing))]
 fn resume(
     judged: &Judged<'_>,
     heap: &Heap,
@@ -99,6 +101,7 @@ fn resume(
         × IsStored heap.now facts.old site (shape_of heap.now held))) }
     ensures waits { IfOk result (λ seen. NothingNew todo.old todo.new seen) }
     ensures few { IfOk result (λ _. Adds todo.old todo.new 1) }
+    ensures hands { IfOk result (λ _. HandsIn facts.old facts.new todo.old todo.new) }
 {
     match stored_trial(facts, site) {
         None => {
@@ -125,7 +128,7 @@ fn resume(
 }
 
 /// STORE_STATE, of a state that resumes with this shape.
-#[tactic(auto, using(crate::proofs::Storing::storing, crate::proofs::Following::handing))]
+#[tactic(auto, using(crate::proofs::Storing::storing, crate::proofs::Following::handing, crate::proofs::Handing::handing))]
 fn visit_store(
     alloc: Global,
     judged: &Judged<'_>,
@@ -149,6 +152,7 @@ fn visit_store(
         heap.new facts.old facts.new at.now.from.trial at.now.from.place at.now.from.held seen) }
     ensures waits { IfOk result (λ seen. NothingNew todo.old todo.new seen) }
     ensures few { IfOk result (λ _. AddsCalls todo.old todo.new 3) }
+    ensures hands { IfOk result (λ _. HandsIn facts.old facts.new todo.old todo.new) }
 {
     rules_look_from_the_top();
     let first = visit_step(alloc, judged, heap, facts, todo, at)?;
@@ -187,6 +191,7 @@ fn visit_plain(
         heap.new facts.old facts.new at.now.from.trial at.now.from.place at.now.from.held seen) }
     ensures waits { IfOk result (λ seen. NothingNew todo.old todo.new seen) }
     ensures few { IfOk result (λ _. AddsCalls todo.old todo.new 3) }
+    ensures hands { IfOk result (λ _. HandsIn facts.old facts.new todo.old todo.new) }
 {
     let seen = visit_step(alloc, judged, heap, facts, todo, at)?;
     Ok(seen)
@@ -214,6 +219,7 @@ fn visit_stored(
         heap.new facts.old facts.new at.now.from.trial at.now.from.place at.now.from.held seen) }
     ensures waits { IfOk result (λ seen. NothingNew todo.old todo.new seen) }
     ensures few { IfOk result (λ _. AddsCalls todo.old todo.new 3) }
+    ensures hands { IfOk result (λ _. HandsIn facts.old facts.new todo.old todo.new) }
 {
     rules_look_from_the_top();
     match resumed(alloc, globals, locals, heap, at.from.held)? {
@@ -254,6 +260,7 @@ fn visit_return(
         heap.now facts.old facts.new from.trial from.place from.held seen) }
     ensures waits { IfOk result (λ seen. NothingNew todo.old todo.new seen) }
     ensures few { IfOk result (λ _. AddsCalls todo.old todo.new 3) }
+    ensures hands { IfOk result (λ _. HandsIn facts.old facts.new todo.old todo.new) }
 {
     match facts.trials.get(from.trial as usize) {
         None => unreachable!(),
@@ -284,6 +291,7 @@ fn visit_op(
         heap.new facts.old facts.new from.trial from.place from.held seen) }
     ensures waits { IfOk result (λ seen. NothingNew todo.old todo.new seen) }
     ensures few { IfOk result (λ _. AddsCalls todo.old todo.new 3) }
+    ensures hands { IfOk result (λ _. HandsIn facts.old facts.new todo.old todo.new) }
 {
     let next = end_of(judged.code, op, from.place, size);
     let at = FoundOp { from, op, next };
@@ -317,6 +325,7 @@ pub fn visit(
         heap.new facts.old facts.new from.trial from.place from.held seen) }
     ensures waits { IfOk result (λ seen. NothingNew todo.old todo.new seen) }
     ensures few { IfOk result (λ _. AddsCalls todo.old todo.new 3) }
+    ensures hands { IfOk result (λ _. HandsIn facts.old facts.new todo.old todo.new) }
 {
     match judged.code.op_at(from.place) {
         None => Ok(Seen::Bad),

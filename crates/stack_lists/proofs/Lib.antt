@@ -4,6 +4,7 @@ pub mod Heaps
 pub mod Numbers
 pub mod RowLemmas
 pub mod Links
+pub mod Noting
 mod Worklists
 mod Waits
 pub mod RowListLemmas

@@ -4,7 +4,8 @@ use Rattle.std.specs.Prelude.{Result, Ok, Err, OnOk, OnErr}
 use Rattle.std.specs.Ordering.{nat_cmp, is_eq}
 use Rattle.std.specs.BTreeMap.{BTreeMap, Updates, get, is_at}
 use Rattle.std.specs.Map.{lookup}
-use Rattle.std.proofs.lemmas.Bool.{cases_eq}
+use Rattle.std.specs.Prelude.{if◌then◌else◌}
+use Rattle.std.proofs.lemmas.Bool.{cases_eq, eq-eqb, ne_eqb}
 use Rattle.std.proofs.lemmas.Bool.Decides.{nat_tests}
 use Rattle.std.proofs.lemmas.List.{append_assoc, append_cancel_left, drop_all, length-append, length-map}
 use Rattle.std.proofs.Math.Seq.{drop-append_seam}
@@ -17,7 +18,7 @@ use Rattle.stack_lists.specs.declared.stacks.Link.{Link}
 use Rattle.stack_lists.specs.declared.stacks.Agreed.{Agreed}
 use Rattle.stack_lists.specs.declared.stacks.Join.{Join}
 use Rattle.stack_lists.specs.Shared.{with_node, read_within, read, Grows}
-use Rattle.stack_lists.specs.Stacks.{AreTyped, from_base, node_of, nodes_of, LiesOn, IsLink, IsNew, IsTop, IsJoin, AreLinked, Agrees, AllAgree, AllJoin}
+use Rattle.stack_lists.specs.Stacks.{AreTyped, from_base, jump_depth, jump_within, leap, node_of, nodes_of, LiesOn, IsLink, IsNew, IsTop, IsJoin, AreLinked, Agrees, AllAgree, AllJoin}
 use Rattle.stack_lists.proofs.SharedLists.{grows_one, older_one, pop_inside, pop_older, pop_none, pop_top, pushed_reads, read_zero}
 use Rattle.stack_lists.specs.Growth.{read_empty}
 
@@ -38,7 +39,7 @@ nodes_more : (links : List Link) (l : Link) → nodes_of (links ++ l ∷ []) ≡
 nodes_more [] l = refl
 nodes_more (m ∷ links) l = ap (λ rest. node_of m ∷ rest) (nodes_more links l)
 
-get_node : (links : List Link) (k : ℕ) (l : Link) → slice_get links k ≡ Some l → slice_get (nodes_of links) k ≡ Some (node_of l)
+pub get_node : (links : List Link) (k : ℕ) (l : Link) → slice_get links k ≡ Some l → slice_get (nodes_of links) k ≡ Some (node_of l)
 get_node [] k l h = absurd cc
 get_node (m ∷ links) zero l h = ap (λ l. Some (node_of l)) (some_is m l h)
 get_node (m ∷ links) (suc k) l h = get_node links k l h
@@ -49,7 +50,7 @@ no_node [] (suc k) h = refl
 no_node (m ∷ links) zero h = absurd cc
 no_node (m ∷ links) (suc k) h = no_node links k h
 
-link_fits : (links : List Link) (k : ℕ) (l : Link) → slice_get links k ≡ Some l → k < length links
+pub link_fits : (links : List Link) (k : ℕ) (l : Link) → slice_get links k ≡ Some l → k < length links
 link_fits [] k l h = absurd cc
 link_fits (m ∷ links) zero l h = omega arith
 link_fits (m ∷ links) (suc k) l h = omega (arith, link_fits links k l h)
@@ -160,7 +161,98 @@ jump_far nodes number l m t u = lies_then nodes number l.jump m.jump t.link.on u
 pub jump_older : (nodes : List (Node Slot)) (number : ℕ) (l m : Link) → IsTop nodes number l → IsTop nodes l.jump m → m.jump ≤ number
 jump_older nodes number l m t u = omega (arith, t.link.older, u.link.older)
 
-pub ruleset jumping = (lies_same, jump_far, jump_older)
+leap_far : (below near far : ℕ) → below + far ≡ near + near → leap below near far ≡ far
+leap_far below near far e = ap (λ b. if b then far else below) (eq-eqb (below + far) (near + near) e)
+
+leap_near : (below near far : ℕ) → below + far ≢ near + near → leap below near far ≡ below
+leap_near below near far ne = ap (λ b. if b then far else below) (ne_eqb (below + far) (near + near) ne)
+
+leap_less : (below near far : ℕ) → far ≤ below → leap below near far ≤ below
+leap_less below near far h = elim (cases_eq (below + far) (near + near)) [
+  | inl e ↦ subst (λ n. n ≤ below) (sym (leap_far below near far e)) h
+  | inr ne ↦ subst (λ n. n ≤ below) (sym (leap_near below near far ne)) (omega arith)
+]
+
+within_less : (a d : ℕ) → jump_within a d ≤ d
+within_less zero d = omega arith
+within_less (suc a) zero = omega arith
+within_less (suc a) (suc d) =
+    let n = within_less a d in
+    let f = within_less a (jump_within a d) in
+    let l = leap_less d (jump_within a d) (jump_within a (jump_within a d)) (omega (arith, n, f)) in
+    omega (arith, l)
+
+within_enough : (a b d : ℕ) → d ≤ a → d ≤ b → jump_within a d ≡ jump_within b d
+within_enough zero zero d h i = refl
+within_enough zero (suc b) zero h i = refl
+within_enough zero (suc b) (suc d) h i = absurd (omega (arith, h))
+within_enough (suc a) zero zero h i = refl
+within_enough (suc a) zero (suc d) h i = absurd (omega (arith, i))
+within_enough (suc a) (suc b) zero h i = refl
+within_enough (suc a) (suc b) (suc d) h i =
+    let e = within_enough a b d (omega (arith, h)) (omega (arith, i)) in
+    let l = within_less a d in
+    ap (λ n. leap d n (jump_within a (jump_within a d))) e
+    ∙ ap (λ n. leap d (jump_within b d) n) (ap (jump_within a) e ∙ within_enough a b (jump_within b d) (omega (arith, h, l, e)) (omega (arith, i, l, e)))
+
+depth_less : (d : ℕ) → jump_depth d ≤ d
+unfolding jump_depth
+depth_less d = within_less d d
+
+-- the jump of a list on one of so many slots
+jump_on : (d : ℕ) → jump_depth (suc d) ≡ leap d (jump_depth d) (jump_depth (jump_depth d))
+unfolding jump_depth
+jump_on d = ap (λ n. leap d (jump_within d d) n) (within_enough d (jump_within d d) (jump_within d d) (within_less d d) (omega arith))
+
+-- where the list beneath has no slots, and where its jump leads to the empty list
+pub jump_first : (nodes : List (Node Slot)) (below : ℕ) → read nodes below ≡ [] → length (read nodes below) ≡ jump_depth (length (read nodes below) + 1)
+jump_first nodes below e = ap (λ (z : List Slot). length z) e ∙ sym (ap (λ (z : List Slot). jump_depth (length z + 1)) e ∙ first)
+  where
+    first : jump_depth (0 + 1) ≡ 0
+    first = ap jump_depth (let e : 0 + 1 ≡ 1 = omega arith in e) ∙ jump_on 0
+        ∙ (let n = depth_less 0 in let f = depth_less (jump_depth 0) in let l = leap_less 0 (jump_depth 0) (jump_depth (jump_depth 0)) (omega (arith, n, f)) in omega (arith, l))
+
+jump_plus : (d : ℕ) → jump_depth (d + 1) ≡ leap d (jump_depth d) (jump_depth (jump_depth d))
+jump_plus d = ap jump_depth (let e : d + 1 ≡ suc d = omega arith in e) ∙ jump_on d
+
+jump_zero : jump_depth 0 ≡ 0
+jump_zero = let l = depth_less 0 in omega (arith, l)
+
+pub jump_second : (nodes : List (Node Slot)) (below : ℕ) (l : Link) → IsTop nodes below l → read nodes l.jump ≡ []
+    → length (read nodes below) ≡ jump_depth (length (read nodes below) + 1)
+jump_second nodes below l t e = sym (jump_plus (length (read nodes below)) ∙ leap_near (length (read nodes below)) _ _ (λ eq. far (ap jump_depth zero) eq))
+  where
+    zero : jump_depth (length (read nodes below)) ≡ 0
+    zero = ap jump_depth (sym t.link.depth) ∙ sym t.link.far ∙ ap (λ (z : List Slot). length z) e
+
+    far : jump_depth (jump_depth (length (read nodes below))) ≡ jump_depth 0
+        → length (read nodes below) + jump_depth (jump_depth (length (read nodes below))) ≡ jump_depth (length (read nodes below)) + jump_depth (length (read nodes below)) → ⊥
+    far f eq =
+        let top = ap (λ (z : List Slot). length z) t.top in
+        omega (arith, f, eq, zero, top)
+
+jump_near_is : (nodes : List (Node Slot)) (below : ℕ) (l : Link) → IsTop nodes below l → jump_depth (length (read nodes below)) ≡ length (read nodes l.jump)
+jump_near_is nodes below l t = ap jump_depth (sym t.link.depth) ∙ sym t.link.far
+
+jump_far_is : (nodes : List (Node Slot)) (below : ℕ) (l m : Link) → IsTop nodes below l → IsTop nodes l.jump m
+    → jump_depth (jump_depth (length (read nodes below))) ≡ length (read nodes m.jump)
+jump_far_is nodes below l m t u = ap jump_depth (jump_near_is nodes below l t) ∙ jump_near_is nodes l.jump m u
+
+-- two jumps of one length, and two of different ones
+pub jump_twice : (nodes : List (Node Slot)) (below near far : ℕ) (l m : Link) → IsTop nodes below l → IsTop nodes l.jump m
+    → near ≡ length (read nodes l.jump) → far ≡ length (read nodes m.jump) → l.depth + far ≡ near + near
+    → length (read nodes m.jump) ≡ jump_depth (length (read nodes below) + 1)
+jump_twice nodes below near far l m t u n f e = sym (jump_plus (length (read nodes below))
+    ∙ leap_far _ _ _ (let a = jump_near_is nodes below l t in let b = jump_far_is nodes below l m t u in let d = t.link.depth in omega (arith, a, b, d, n, f, e))
+    ∙ jump_far_is nodes below l m t u)
+
+pub jump_once : (nodes : List (Node Slot)) (below near far : ℕ) (l m : Link) → IsTop nodes below l → IsTop nodes l.jump m
+    → near ≡ length (read nodes l.jump) → far ≡ length (read nodes m.jump) → (l.depth + far ≡ near + near → ⊥)
+    → length (read nodes below) ≡ jump_depth (length (read nodes below) + 1)
+jump_once nodes below near far l m t u n f ne = sym (jump_plus (length (read nodes below))
+    ∙ leap_near _ _ _ (λ e. ne (let a = jump_near_is nodes below l t in let b = jump_far_is nodes below l m t u in let d = t.link.depth in omega (arith, a, b, d, n, f, e))))
+
+pub ruleset jumping = (lies_same, jump_far, jump_older, jump_first, jump_second)
 
 pub near_none : (nodes : List (Node Slot)) (number depth : ℕ) → depth < length (read nodes number) → read nodes number ≡ [] → ⊥
 near_none nodes number depth h e = let l = ap (λ (l : List Slot). length l) e in omega (arith, h, l)
@@ -208,10 +300,11 @@ link_still before after number l g h i = record {
   depth = i.depth ∙ ap (λ (z : List Slot). length z) (sym (g.same number h));
   older = i.older;
   on = reads_still before after number l.jump g h (omega (arith, i.older, h)) i.on;
+  far = ap (λ (z : List Slot). length z) (g.same l.jump (omega (arith, i.older, h))) ∙ i.far;
   based = i.based ∙ ap from_base (sym (g.same number h));
 }
 
-get_end : (xs : List Link) (x y : Link) (k : ℕ) → slice_get (xs ++ x ∷ []) k ≡ Some y → (slice_get xs k ≡ Some y) ⊎ ((k ≡ length xs) × (y ≡ x))
+pub get_end : (xs : List Link) (x y : Link) (k : ℕ) → slice_get (xs ++ x ∷ []) k ≡ Some y → (slice_get xs k ≡ Some y) ⊎ ((k ≡ length xs) × (y ≡ x))
 get_end [] x y zero h = inr (refl, some_is y x (sym h))
 get_end [] x y (suc k) h = absurd cc
 get_end (z ∷ xs) x y zero h = inl h
@@ -237,8 +330,9 @@ added_inside links after l number e n =
 
 new_link : (links after : List Link) (l : Link) → AreLinked links → after ≡ links ++ l ∷ [] → l.below ≤ length (nodes_of links)
     → l.depth ≡ length (read (nodes_of links) l.below) + 1 → LiesOn (nodes_of links) l.below l.jump → l.jump ≤ l.below
+    → length (read (nodes_of links) l.jump) ≡ jump_depth l.depth
     → l.based ≡ from_base (l.slot ∷ read (nodes_of links) l.below) → IsLink (nodes_of after) (suc (length links)) l
-new_link links after l all e h d on older based =
+new_link links after l all e h d on older far based =
     let g = added_grows links after l all e in
     let r = added_reads links after l (suc (length links)) all e h (omega arith) in
     record {
@@ -248,6 +342,7 @@ new_link links after l all e h d on older based =
         front = l.slot ∷ on.front;
         is = r ∙ ap (λ z. l.slot ∷ z) (on.is ∙ ap (λ z. on.front ++ z) (sym (g.same l.jump (omega (arith, older, h)))));
       };
+      far = ap (λ (z : List Slot). length z) (g.same l.jump (omega (arith, older, h))) ∙ far;
       based = based ∙ ap from_base (sym r);
     }
 
@@ -255,14 +350,15 @@ pub ruleset adding = (added_grows, added_reads, added_inside)
 
 pub added_linked : (links after : List Link) (l : Link) → AreLinked links → after ≡ links ++ l ∷ [] → l.below ≤ length (nodes_of links)
     → l.depth ≡ length (read (nodes_of links) l.below) + 1 → LiesOn (nodes_of links) l.below l.jump → l.jump ≤ l.below
+    → length (read (nodes_of links) l.jump) ≡ jump_depth l.depth
     → l.based ≡ from_base (l.slot ∷ read (nodes_of links) l.below) → length links < 33554432 → AreLinked after
-added_linked links after l all e h d on older based room = record {
+added_linked links after l all e h d on older far based room = record {
   older = older_one (nodes_of links) (nodes_of after) (node_of l) all.older (ap nodes_of e ∙ nodes_more links l) h;
   each = λ k m f. elim (get_end links l m k (ap (λ xs. slice_get xs k) (sym e) ∙ f)) [
     | inl old ↦ link_still (nodes_of links) (nodes_of after) (suc k) m (added_grows links after l all e)
         (let i = link_fits links k m old in let n = nodes_length links in omega (arith, i, n)) (all.each k m old)
     | inr is ↦ subst (λ (m : Link). IsLink (nodes_of after) (suc k) m) (sym is.1)
-        (subst (λ k. IsLink (nodes_of after) (suc k) l) (sym is.0) (new_link links after l all e h d on older based))
+        (subst (λ k. IsLink (nodes_of after) (suc k) l) (sym is.0) (new_link links after l all e h d on older far based))
   ];
   few = let a = ap (λ (z : List Link). length z) e ∙ length-append links (l ∷ []) in omega (arith, a, room);
 }
@@ -418,23 +514,23 @@ pub added_all : (links after : List Link) (l : Link) (agreed : BTreeMap ℕ Agre
     → AreLinked links × AllAgree (nodes_of links) agreed × AllJoin (nodes_of links) joins → after ≡ links ++ l ∷ []
     → IsNew (nodes_of links) l → length links < 33554432 → AreLinked after × AllAgree (nodes_of after) agreed × AllJoin (nodes_of after) joins
 added_all links after l agreed joins all e n room = (
-  added_linked links after l all.0 e n.below n.depth n.on n.older n.based room,
+  added_linked links after l all.0 e n.below n.depth n.on n.older n.far n.based room,
   agree_still (nodes_of links) (nodes_of after) agreed (added_grows links after l all.0 e) all.1,
   joins_still (nodes_of links) (nodes_of after) joins (added_grows links after l all.0 e) all.2,
 )
 
-pub agree_after : {E O : Type 0} (links : List Link) (before after : BTreeMap ℕ Agreed) (joins : BTreeMap ℕ Join) (key : ℕ) (a : Agreed) (r : Result O E)
-    → AreLinked links × AllAgree (nodes_of links) before × AllJoin (nodes_of links) joins
+pub agree_after : {E O M N : Type 0} (links : List Link) (before after : BTreeMap ℕ Agreed) (joins : BTreeMap ℕ Join) (key : ℕ) (a : Agreed) (r : Result O E)
+    → AreLinked links × AllAgree (nodes_of links) before × AllJoin (nodes_of links) joins × M × N
     → (a.first ≤ length (nodes_of links)) × (a.second ≤ length (nodes_of links))
     → take a.count (read (nodes_of links) a.first) ≡ take a.count (read (nodes_of links) a.second)
     → OnOk r (Updates nat_cmp before after key (Some a)) → OnErr r (after.entries ≡ before.entries)
-    → AreLinked links × AllAgree (nodes_of links) after × AllJoin (nodes_of links) joins
-agree_after links before after joins key a (Ok o) all i same u e = (all.0, agree_kept (nodes_of links) before after key a all.1 i.0 i.1 same u, all.2)
-agree_after links before after joins key a (Err x) all i same u e = (all.0, agree_unchanged (nodes_of links) before after e all.1, all.2)
+    → AreLinked links × AllAgree (nodes_of links) after × AllJoin (nodes_of links) joins × M × N
+agree_after links before after joins key a (Ok o) all i same u e = (all.0, agree_kept (nodes_of links) before after key a all.1 i.0 i.1 same u, all.2, all.3, all.4)
+agree_after links before after joins key a (Err x) all i same u e = (all.0, agree_unchanged (nodes_of links) before after e all.1, all.2, all.3, all.4)
 
-pub join_after : {E O : Type 0} (links : List Link) (agreed : BTreeMap ℕ Agreed) (before after : BTreeMap ℕ Join) (key : ℕ) (j : Join) (r : Result O E)
-    → AreLinked links × AllAgree (nodes_of links) agreed × AllJoin (nodes_of links) before → IsJoin (nodes_of links) j
+pub join_after : {E O M N : Type 0} (links : List Link) (agreed : BTreeMap ℕ Agreed) (before after : BTreeMap ℕ Join) (key : ℕ) (j : Join) (r : Result O E)
+    → AreLinked links × AllAgree (nodes_of links) agreed × AllJoin (nodes_of links) before × M × N → IsJoin (nodes_of links) j
     → OnOk r (Updates nat_cmp before after key (Some j)) → OnErr r (after.entries ≡ before.entries)
-    → AreLinked links × AllAgree (nodes_of links) agreed × AllJoin (nodes_of links) after
-join_after links agreed before after key j (Ok o) all is u e = (all.0, all.1, joins_kept (nodes_of links) before after key j all.2 is u)
-join_after links agreed before after key j (Err x) all is u e = (all.0, all.1, joins_unchanged (nodes_of links) before after e all.2)
+    → AreLinked links × AllAgree (nodes_of links) agreed × AllJoin (nodes_of links) after × M × N
+join_after links agreed before after key j (Ok o) all is u e = (all.0, all.1, joins_kept (nodes_of links) before after key j all.2 is u, all.3, all.4)
+join_after links agreed before after key j (Err x) all is u e = (all.0, all.1, joins_unchanged (nodes_of links) before after e all.2, all.3, all.4)

@@ -35,13 +35,24 @@ put_set before more after place number same in_ e = record {
   others = λ k ne. ap (λ xs. get_or xs k 0) e ∙ set_other more place number k ne ∙ same.by k;
 }
 
-pub ruleset putting = (put_set)
-
 past_end : (a : List ℕ) (place : ℕ) → (place < length a → ⊥) → get_or a place 0 ≡ 0
 past_end [] zero h = refl
 past_end [] (suc place) h = refl
 past_end (x ∷ a) zero h = absurd (h (omega arith))
 past_end (x ∷ a) (suc place) h = past_end a place (λ l. h (omega (arith, l)))
+
+pub set_there : (before after : List ℕ) (place number : ℕ) → place < length before → after ≡ slice_set before place number → PutAt before after place number
+set_there before after place number in_ e = put_set before before after place number (same_begin before) in_ e
+
+set_length : (a : List ℕ) (place number : ℕ) → length (slice_set a place number) ≡ length a
+set_length [] place number = refl
+set_length (x ∷ a) zero number = refl
+set_length (x ∷ a) (suc place) number = ap (λ n. suc n) (set_length a place number)
+
+pub put_there : (more after : List ℕ) (place number : ℕ) → place < length more → after ≡ slice_set more place number → place < length after
+put_there more after place number in_ e = let s = set_length more place number in let l = ap (λ (z : List ℕ). length z) e in omega (arith, in_, s, l)
+
+pub ruleset putting = (put_set, put_there)
 
 pub clear_set : (before after : List ℕ) (place : ℕ) → place < length before → after ≡ slice_set before place 0 → PutAt before after place 0
 clear_set before after place in_ e = put_set before before after place 0 (same_begin before) in_ e
@@ -49,7 +60,7 @@ clear_set before after place in_ e = put_set before before after place 0 (same_b
 pub clear_none : (before : List ℕ) (place : ℕ) → (place < length before → ⊥) → PutAt before before place 0
 clear_none before place h = record { here = past_end before place h; others = λ k ne. refl }
 
-pub ruleset clearing = (clear_set, clear_none)
+pub ruleset clearing = (set_there, clear_set, clear_none)
 
 pub got_some : (xs : List ℕ) (k x : ℕ) → Some x ≡ slice_get xs k → x ≡ get_or xs k 0
 got_some [] k x h = absurd cc

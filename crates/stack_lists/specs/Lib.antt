@@ -3,6 +3,7 @@ pub mod Shared
 pub mod Held
 pub mod Growth
 pub mod Stacks
+pub mod Notes
 pub mod Rows
 pub mod RowLists
 pub mod Worklist

@@ -1,6 +1,6 @@
 -- Lists of slots that share their lower parts, with their depths and lists that lie far down in
 -- them.
-use Rattle.std.specs.Prelude.{◌≡◌, ◌≤◌, ◌<◌, ◌+◌, ◌^◌, ℕ, suc, List, [], ◌∷◌, ◌++◌, length, map, take, Some, slice_get}
+use Rattle.std.specs.Prelude.{◌≡◌, ◌≤◌, ◌<◌, ◌+◌, ◌^◌, ℕ, zero, suc, ◌==◌, if◌then◌else◌, List, [], ◌∷◌, ◌++◌, length, map, take, Some, slice_get}
 use Rattle.std.specs.Ordering.{nat_cmp}
 use Rattle.std.specs.BTreeMap.{BTreeMap, get}
 use Rattle.nwq_value.specs.declared.value.Ty.{Ty}
@@ -34,10 +34,26 @@ pub record LiesOn (nodes : List (Node Slot)) (upper lower : ℕ) : Type 0 where
   pub front : List Slot
   pub is : read nodes upper ≡ front ++ read nodes lower
 
+-- One list is made on another: past two jumps that are equally long, else to that list. All three
+-- are told by their depths.
+abbrev pub leap : ℕ → ℕ → ℕ → ℕ
+leap below near far = if (below + far) == (near + near) then far else below
+
+abbrev pub jump_within : ℕ → ℕ → ℕ
+jump_within zero depth = 0
+jump_within (suc limit) zero = 0
+jump_within (suc limit) (suc below) = leap below (jump_within limit below)
+    (jump_within limit (jump_within limit below))
+
+-- how deep the list is to which one of so many slots leads
+unfoldable pub jump_depth : ℕ → ℕ
+jump_depth depth = jump_within depth depth
+
 pub record IsLink (nodes : List (Node Slot)) (number : ℕ) (l : Link) : Type 0 where
   pub depth : l.depth ≡ length (read nodes number)
   pub older : l.jump < number
   pub on : LiesOn nodes number l.jump
+  pub far : length (read nodes l.jump) ≡ jump_depth l.depth
   pub based : l.based ≡ from_base (read nodes number)
 
 -- the link is the list's top
@@ -54,6 +70,7 @@ pub record IsNew (nodes : List (Node Slot)) (l : Link) : Type 0 where
   pub depth : l.depth ≡ length (read nodes l.below) + 1
   pub on : LiesOn nodes l.below l.jump
   pub older : l.jump ≤ l.below
+  pub far : length (read nodes l.jump) ≡ jump_depth l.depth
   pub based : l.based ≡ from_base (l.slot ∷ read nodes l.below)
 
 pub record AreLinked (links : List Link) : Type 0 where

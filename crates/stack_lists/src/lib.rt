@@ -12,6 +12,7 @@ mod budget;
 mod held;
 mod laws;
 mod lists;
+mod notes;
 mod places;
 mod row_list;
 mod rows;

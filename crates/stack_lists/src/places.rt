@@ -49,11 +49,21 @@ impl Places {
     #[tactic(auto, using(crate::proofs::Numbers::putting))]
     pub fn put(&mut self, place: u32, number: u32) -> Result<(), NoMemory>
         ensures put { OnOk result (PutAt self.old self.new place number) }
+        ensures there { OnOk result (place < length self.new) }
         ensures err { OnErr result (SameNumbers self.old self.new) }
     {
         extend(&mut self.numbers, place as usize)?;
         self.numbers.set(place as usize, number);
         Ok(())
+    }
+
+    /// Puts a number at a place where there was one, which takes no memory.
+    #[tactic(auto, using(crate::proofs::Numbers::clearing))]
+    pub fn set(&mut self, place: u32, number: u32)
+        requires there { place < length self.old }
+        ensures put { PutAt self.old self.new place number }
+    {
+        self.numbers.set(place as usize, number);
     }
 
     /// Puts 0 at a place.

@@ -1,13 +1,15 @@
-ghost use Rattle.std.specs.Prelude.{◌≡◌, ◌≤◌, ◌<◌, ◌↔◌, ◌^◌, [], ◌∷◌, length, take, drop, map};
+ghost use Rattle.std.specs.Prelude.{◌≡◌, ◌≤◌, ◌<◌, ◌+◌, ◌↔◌, ◌^◌, [], ◌∷◌, length, take, drop, map};
 ghost use Rattle.std.specs.Prelude.{IfOk, IfSome, IsTrue, MatchOption, None, true, false};
 ghost use Rattle.stack_shape.specs.TopFirst.{types_on};
 ghost use Rattle.stack_shape.specs.declared.shape.Slot.{Slot};
 ghost use Rattle.stack_lists.specs.declared.lists.Node.{Node};
 ghost use Rattle.stack_lists.specs.Shared.{Grows, read};
 ghost use Rattle.stack_lists.specs.Stacks.{AreTyped, IsJoin, IsNew, IsTop, LiesOn, from_base};
+ghost use Rattle.stack_lists.specs.Stacks.{jump_depth};
+ghost use Rattle.stack_lists.specs.Notes.{AreOne, IsFresh};
 
-use crate::budget::room;
 use crate::lists::Node;
+use crate::notes::{add_noted, find};
 use crate::places::Places;
 use nwq_value::{Items, NoMemory};
 use stack_shape::Slot;
@@ -65,13 +67,15 @@ impl Model for Stacks {
     ghost use Rattle.stack_shape.specs.declared.shape.Slot.{Slot};
     ghost use Rattle.stack_lists.specs.declared.lists.Node.{Node};
     ghost use Rattle.stack_lists.specs.Stacks.{AllAgree, AllJoin, AreLinked, nodes_of};
+    ghost use Rattle.stack_lists.specs.Notes.{AreNoted, AreOne};
 
     ghost Value = { List (Node Slot) };
 
     ghost view = { λ s. nodes_of s.links };
 
     ghost invariant = { λ s. AreLinked s.links × AllAgree (nodes_of s.links) s.agreed
-        × AllJoin (nodes_of s.links) s.joins };
+        × AllJoin (nodes_of s.links) s.joins × AreNoted s.links s.newest s.older
+        × AreOne (nodes_of s.links) };
 }
 
 impl Drop for Stacks {
@@ -104,6 +108,7 @@ pub fn alike(s: Slot, t: Slot) -> bool
 }
 
 impl Stacks {
+    #[tactic(auto, using(crate::proofs::Noting::beginning))]
     pub fn new(alloc: Global) -> Self
         ensures empty { result ≡ [] }
     {
@@ -202,84 +207,40 @@ impl Stacks {
     }
 
     /// The list of a slot on top of a list.
+    #[tactic(auto, using(crate::proofs::Noting::finding))]
     pub fn push(&mut self, below: u32, slot: Slot) -> Result<u32, NoMemory>
         requires inside { below ≤ length self.old }
         ensures reads { IfOk result (λ number. read self.new number ≡ slot ∷ read self.old below) }
         ensures inside { IfOk result (λ number. number ≤ length self.new) }
         ensures grows { IfOk result (λ _. Grows self.old self.new) }
+        // A list that was made before has the number that it had.
+        ensures one { AreOne self.new }
     {
-        match self.find(below, slot) {
+        match find(&self.links, &self.newest, &self.older, below, slot) {
             Some(number) => Ok(number),
             None => self.add(below, slot),
         }
     }
 
-    /// The list of a slot on a list, where it was made before.
-    fn find(&self, below: u32, slot: Slot) -> Option<u32>
-        ensures reads { IfSome result (λ number.
-            read self.now number ≡ slot ∷ read self.now below) }
-        ensures inside { IfSome result (λ number. number ≤ length self.now) }
-    {
-        let next = below.saturating_add(1);
-        if self.is_on(next, below, slot) {
-            return Some(next);
-        }
-        self.search(below, slot)
-    }
-
-    /// The same, among those that are noted.
-    fn search(&self, below: u32, slot: Slot) -> Option<u32>
-        ensures reads { IfSome result (λ number.
-            read self.now number ≡ slot ∷ read self.now below) }
-        ensures inside { IfSome result (λ number. number ≤ length self.now) }
-    {
-        let mut at = self.newest.get(below);
-        while at > 0 {
-            if self.is_on(at, below, slot) {
-                return Some(at);
-            }
-            let next = self.older.get(at);
-            if next >= at {
-                return None;
-            }
-            at = next;
-        }
-        None
-    }
-
-    /// Whether a list with this number is there, and is the one of a slot on a list.
-    fn is_on(&self, number: u32, below: u32, slot: Slot) -> bool
-        ensures reads { result ≡ true → read self.now number ≡ slot ∷ read self.now below }
-        ensures inside { result ≡ true → number ≤ length self.now }
-    {
-        if number as usize > self.links.len() {
-            return false;
-        }
-        match self.pop(number) {
-            None => false,
-            Some((top, rest)) => rest == below && alike(top, slot),
-        }
-    }
-
-    /// Adds the list of a slot on a list.
+    /// Adds the list of a slot on a list, which was not made before.
     fn add(&mut self, below: u32, slot: Slot) -> Result<u32, NoMemory>
         requires inside { below ≤ length self.old }
+        requires fresh { IsFresh self.old below slot }
         ensures reads { IfOk result (λ number. read self.new number ≡ slot ∷ read self.old below) }
         ensures inside { IfOk result (λ number. number ≤ length self.new) }
         ensures grows { IfOk result (λ _. Grows self.old self.new) }
+        ensures one { AreOne self.new }
     {
         let depth = self.depth(below) + 1;
         let jump = self.jump_from(below);
         let based = self.based_on(below, slot);
-        let number = self.add_link(Link {
+        self.add_link(Link {
             slot,
             below,
             depth,
             jump,
             based,
-        })?;
-        self.note(below, number)?;
-        Ok(number)
+        })
     }
 
     /// How many slots the list of a slot on a list has from its topmost base on.
@@ -296,31 +257,14 @@ impl Stacks {
     #[tactic(auto, using(crate::proofs::Links::adding))]
     fn add_link(&mut self, link: Link) -> Result<u32, NoMemory>
         requires new { IsNew self.old link }
+        requires fresh { IsFresh self.old link.below link.slot }
         ensures reads { IfOk result (λ number.
             read self.new number ≡ link.slot ∷ read self.old link.below) }
         ensures inside { IfOk result (λ number. number ≤ length self.new) }
         ensures grows { IfOk result (λ _. Grows self.old self.new) }
+        ensures one { AreOne self.new }
     {
-        let count = self.links.len();
-        room(count)?;
-        self.links.push(link)?;
-        Ok(count as u32 + 1)
-    }
-
-    /// Has a list found that was added on another one. The one with the next number is found
-    /// without a note.
-    fn note(&mut self, below: u32, number: u32) -> Result<(), NoMemory>
-        ensures same { self.new ≡ self.old }
-    {
-        let _ = &self.links;
-        if number.saturating_sub(1) == below {
-            return Ok(());
-        }
-        let older = self.newest.get(below);
-        if older > 0 {
-            self.older.put(number, older)?;
-        }
-        self.newest.put(below, number)
+        add_noted(&mut self.links, &mut self.newest, &mut self.older, link)
     }
 
     /// The list to which one leads that lies on this one: twice as far down as this one's, where
@@ -330,6 +274,8 @@ impl Stacks {
         requires inside { below ≤ length self.now }
         ensures on { LiesOn self.now below result }
         ensures inside { result ≤ below }
+        ensures far { length (read self.now result) ≡
+            jump_depth (length (read self.now below) + 1) }
     {
         match self.link(below) {
             None => below,

@@ -1,3 +1,4 @@
+use Rattle.stack_check.proofs.Handing.{hands_none}
 use Rattle.stack_check.proofs.Following.{adds_calls_none, spots_first}
 use Rattle.std.proofs.Common.{arith, rules, ◌≤◌, ◌-◌, ◌∙◌, drop, length, refl, subst, sym, take, ap, ◌++◌}
 use Rattle.stack_shape.specs.declared.reach.Reach.{Reach}
@@ -38,6 +39,7 @@ returns-then-branch c = record {
       (c.lower-rest.ensures.reads ∙ ap (λ (r : Reach). drop r.cells (read c.args.heap.now.slots c.args.at.from.held.cells)) c.window.ensures) refl));
   waits = refl;
   few = adds_calls_none c.args.todo.now 3;
+  hands = hands_none c.args.facts.now c.args.todo.now;
 }
 
 pub with_cells-requires-clause-upper : goal.with_cells-requires-clause-upper
@@ -77,4 +79,5 @@ returns c = record {
       c.in_ok-seen.ensures.keeps c.in_ok-seen.ensures.quiet c.in_ok-seen.ensures.takes;
   waits = c.in_ok-seen.ensures.waits;
   few = spots_first c.args.todo.now c.follow.new.todo c.in_ok-seen.ensures.few;
+  hands = c.in_ok-seen.ensures.hands;
 }

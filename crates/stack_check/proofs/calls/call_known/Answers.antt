@@ -1,3 +1,4 @@
+use Rattle.stack_check.proofs.Handing.{hands_none, hands_same}
 use Rattle.stack_check.proofs.Following.{adds_calls_none, adds_calls_same}
 use Rattle.std.proofs.Common.{ap}
 use Rattle.stack_lists.specs.Worklist.{Worklist, waiting}
@@ -25,6 +26,7 @@ returns-then-not-branch c = record {
       c.requires.row c.requires.op.stands (subst (λ t. Calls c.args.facts.now t c.args.callee) (sym c.requires.op.leads) c.requires.calls) (iff_false c.in_ok-begins.ensures.begins (search rules)));
   waits = tt;
   few = adds_calls_none c.args.todo.now 3;
+  hands = hands_none c.args.facts.now c.args.todo.now;
 }
 
 pub window-requires : goal.window-requires
@@ -57,4 +59,5 @@ returns-in-None c =
           (subst (λ r. Within c.begins.new.heap c.args.facts.now c.args.at.from.trial (shape_of c.begins.new.heap c.args.at.from.held) r) c.window.ensures w.1))));
       waits = ap (λ (w : Worklist). waiting w) (c.in_ok-see.ensures.same (search rules));
       few = adds_calls_same c.args.todo.now c.see.new.todo c.see.new.todo 3 (c.in_ok-see.ensures.same (search rules)) (adds_calls_none c.see.new.todo 3);
+      hands = hands_same c.args.facts.now c.see.new.facts c.args.todo.now c.see.new.todo w.0 (c.in_ok-see.ensures.same (search rules));
     }

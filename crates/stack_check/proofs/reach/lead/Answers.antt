@@ -1,8 +1,9 @@
+use Rattle.stack_check.proofs.Handing.{hands_then}
 use Rattle.std.proofs.Common.{arith, ◌≡◌, subst, sym}
 use Rattle.std.specs.Prelude.{IfOk}
 use Rattle.std.proofs.lemmas.Result.{IfOk-weaker}
 use Rattle.stack_lists.specs.Held.{shape_of}
-use Rattle.stack_check.specs.Inference.{Adds, AllLed, RowIs, RowsKept, Takes, WhereQuiet}
+use Rattle.stack_check.specs.Inference.{Adds, AllLed, HandsIn, RowIs, RowsKept, Takes, WhereQuiet}
 use Rattle.stack_check.proofs.Following.{adds_two, adds_up, changed_keeps, changed_quiet, kept_then, one_led, takes_both, takes_next, two_quiet}
 use Rattle.stack_check.proofs.Steps.{step_kept}
 use Rattle.stack_check.proofs.reach.lead.Goals as goal
@@ -75,3 +76,14 @@ returns-in-Quiet-clause-few c =
 pub returns-in_ok-seen-in-Changed-clause-few : goal.returns-in_ok-seen-in-Changed-clause-few
 returns-in_ok-seen-in-Changed-clause-few c =
     adds_two c.args.todo.now c.lead_to-in-Two.new.todo c.lead_to-in-Changed.new.todo c.in_ok-seen-in-Two.ensures.few c.in_ok-seen-in-Changed.ensures.few
+
+pub returns-in-Quiet-clause-hands : goal.returns-in-Quiet-clause-hands
+returns-in-Quiet-clause-hands c =
+    IfOk-weaker c.lead_to-in-Quiet.result _ (λ seen. HandsIn c.args.facts.now c.lead_to-in-Quiet.new.facts c.args.todo.now c.lead_to-in-Quiet.new.todo)
+    (λ seen k. hands_then c.args.facts.now c.lead_to-in-Two.new.facts c.lead_to-in-Quiet.new.facts c.args.todo.now c.lead_to-in-Two.new.todo
+    c.lead_to-in-Quiet.new.todo c.in_ok-seen-in-Two.ensures.hands k) c.lead_to-in-Quiet.ensures.hands
+
+pub returns-in_ok-seen-in-Changed-clause-hands : goal.returns-in_ok-seen-in-Changed-clause-hands
+returns-in_ok-seen-in-Changed-clause-hands c =
+    hands_then c.args.facts.now c.lead_to-in-Two.new.facts c.lead_to-in-Changed.new.facts c.args.todo.now c.lead_to-in-Two.new.todo c.lead_to-in-Changed.new.todo
+    c.in_ok-seen-in-Two.ensures.hands c.in_ok-seen-in-Changed.ensures.hands

@@ -1,3 +1,4 @@
+use Rattle.stack_check.proofs.Handing.{hands_given, hands_none}
 use Rattle.stack_check.proofs.Following.{adds_calls_none}
 use Rattle.std.proofs.Common.{refl}
 use Rattle.std.proofs.lemmas.Bool.{iff_false}
@@ -11,6 +12,7 @@ returns-then-same c = record {
       c.requires.saved c.requires.pending;
   waits = refl;
   few = adds_calls_none c.args.todo.now 3;
+  hands = hands_none c.args.facts.now c.args.todo.now;
   again = tt;
 }
 
@@ -21,5 +23,12 @@ returns-else-same c = record {
       (iff_false c.same.ensures c.if-same.false);
   waits = tt;
   few = adds_calls_none c.args.todo.now 3;
+  hands = hands_none c.args.facts.now c.args.todo.now;
   again = tt;
 }
+
+pub returns-in_ok-add_callers-in-None-clause-hands :
+    goal.returns-in_ok-add_callers-in-None-clause-hands
+returns-in_ok-add_callers-in-None-clause-hands c =
+    hands_given c.args.facts.now c.give.new.facts c.args.todo.now c.add_callers.new.self c.args.from.trial c.args.target c.args.trial
+    c.in_ok-give-in-None.ensures.set c.requires.trial c.requires.entry c.in_ok-add_callers-in-None.ensures.added

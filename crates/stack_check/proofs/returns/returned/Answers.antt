@@ -1,3 +1,4 @@
+use Rattle.stack_check.proofs.Handing.{hands_none}
 use Rattle.stack_check.proofs.Following.{adds_calls_none}
 use Rattle.std.proofs.Common.{refl}
 use Rattle.stack_check.proofs.ReturnSteps.{start_quiet, stored_quiet}
@@ -9,6 +10,7 @@ returns-in-Start c = record {
       c.requires.keeps c.requires.op c.requires.trial c.in-Start.is;
   waits = refl;
   few = adds_calls_none c.args.todo.now 3;
+  hands = hands_none c.args.facts.now c.args.todo.now;
 }
 
 pub returns-in-Stored : goal.returns-in-Stored
@@ -17,4 +19,5 @@ returns-in-Stored c = record {
       c.args.trial c.requires.keeps c.requires.op c.requires.trial c.in-Stored.is;
   waits = refl;
   few = adds_calls_none c.args.todo.now 3;
+  hands = hands_none c.args.facts.now c.args.todo.now;
 }

@@ -1,6 +1,10 @@
-use Rattle.std.proofs.Common.{◌∙◌, subst, sym}
+use Rattle.stack_check.proofs.Handing.{hands_seen}
+use Rattle.std.proofs.Common.{◌≡◌, ℕ, Some, slice_get, ◌∙◌, subst, sym}
+use Rattle.stack_lists.specs.Worklist.{Worklist}
+use Rattle.stack_check.specs.declared.facts.Facts.{Facts}
+use Rattle.stack_check.specs.declared.facts.Trial.{Trial}
 use Rattle.stack_lists.specs.Held.{shape_of}
-use Rattle.stack_check.specs.Inference.{UnseenOwed}
+use Rattle.stack_check.specs.Inference.{CallsOfWait, CallsWait, UnseenOwed}
 use Rattle.stack_check.proofs.Following.{calls_wait, sees_few}
 use Rattle.stack_check.proofs.Seeing.{see_owed, see_within}
 use Rattle.stack_check.proofs.Windows.{whole_same}
@@ -40,3 +44,20 @@ pub returns-clause-few : goal.returns-clause-few
 returns-clause-few c =
     sees_few c.args.todo.now c.note_growth.new.todo c.look_again.new.todo c.add.new.self c.in-Some.trial.now.entry _ c.in_ok-note_growth-in-Some.ensures.waits
     c.in_ok-note_growth-in-Some.ensures.calls c.in_ok-look_again-in-Some.ensures c.in_ok-add-in-Some.ensures.added c.in_ok-add-in-Some.ensures.calls
+
+some_is : {A : Type 0} (a b : A) → Some a ≡ Some b → a ≡ b
+some_is a b h = cc
+
+wait_of : (a b : Worklist) (facts : Facts) (number : ℕ) (trial : Trial) → slice_get facts.trials number ≡ Some trial → CallsOfWait a b facts number
+    → CallsWait a b trial.entry
+wait_of a b facts number trial h k = subst (λ (t : Trial). CallsWait a b t.entry) (some_is k.trial trial (sym k.has ∙ h)) k.by
+
+pub returns-clause-hands : goal.returns-clause-hands
+returns-clause-hands c =
+    hands_seen c.args.facts.now c.narrow.new.facts c.args.todo.now c.note_growth.new.todo c.look_again.new.todo c.add.new.self c.args.from.trial
+    c.in-Some.trial.now _ c.narrow.ensures.set (sym c.in-Some.ensures.item) c.in_ok-note_growth-in-Some.ensures.waits c.in_ok-note_growth-in-Some.ensures.calls
+    c.in_ok-look_again-in-Some.ensures
+    (wait_of c.args.todo.now c.add.new.self c.args.facts.now c.args.from.trial c.in-Some.trial.now (sym c.in-Some.ensures.item)
+    (calls_wait c.args.todo.now c.note_growth.new.todo c.look_again.new.todo c.add.new.self c.args.facts.now c.args.from.trial c.in-Some.trial.now _
+    (sym c.in-Some.ensures.item) c.in_ok-note_growth-in-Some.ensures.calls c.in_ok-look_again-in-Some.ensures c.in_ok-add-in-Some.ensures.added))
+    c.in_ok-add-in-Some.ensures.added c.in_ok-add-in-Some.ensures.calls

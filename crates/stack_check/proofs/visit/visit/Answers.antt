@@ -1,3 +1,4 @@
+use Rattle.stack_check.proofs.Handing.{hands_none}
 use Rattle.stack_check.proofs.Following.{adds_calls_none}
 use Rattle.stack_check.proofs.Storing.{no_op_bad}
 use Rattle.stack_check.proofs.visit.visit.Goals as goal
@@ -8,4 +9,5 @@ returns-in-None c = record {
       c.requires.row c.in-None.ensures.op;
   waits = tt;
   few = adds_calls_none c.args.todo.now 3;
+  hands = hands_none c.args.facts.now c.args.todo.now;
 }

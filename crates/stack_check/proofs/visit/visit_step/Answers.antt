@@ -1,3 +1,4 @@
+use Rattle.stack_check.proofs.Handing.{hands_from, hands_none}
 use Rattle.stack_check.proofs.Following.{adds_calls_from, adds_calls_none, waits_from}
 use Rattle.std.proofs.Common.{arith, rules, ◌≡◌, ap, subst, sym, ◌∙◌}
 use Rattle.ncs_code.specs.Plain.{plain}
@@ -20,6 +21,7 @@ returns-in-None c = record {
       c.in-None.is c.in_ok-step.ensures.after);
   waits = tt;
   few = adds_calls_none c.args.todo.now 2;
+  hands = hands_none c.args.facts.now c.args.todo.now;
 }
 
 pub see-requires-clause-keeps : goal.see-requires-clause-keeps
@@ -69,4 +71,6 @@ returns-in_ok-seen-in-Some c =
       waits = waits_from c.args.todo.now c.see.new.todo c.lead.new.todo c.in_ok-seen-in-Some.seen (c.in_ok-see-in-Some.ensures.same (search rules)) c.in_ok-seen-in-Some.ensures.waits;
       few = adds_calls_from c.args.todo.now c.see.new.todo c.lead.new.todo 2 2 (c.in_ok-see-in-Some.ensures.same (search rules)) c.in_ok-seen-in-Some.ensures.few
           (omega arith);
+      hands = hands_from c.args.facts.now c.see.new.facts c.lead.new.facts c.args.todo.now c.see.new.todo c.lead.new.todo w.0
+          (c.in_ok-see-in-Some.ensures.same (search rules)) c.in_ok-seen-in-Some.ensures.hands;
     }

@@ -1,3 +1,4 @@
+use Rattle.stack_check.proofs.Handing.{hands_then}
 use Rattle.stack_check.proofs.Following.{adds_calls_then, adds_calls_up, waits_changed, waits_then}
 use Rattle.std.proofs.Common.{arith, subst}
 use Rattle.ncs_code.specs.Plain.{plain}
@@ -39,6 +40,7 @@ returns-in-Bad c = record {
       c.args.at.now.from.trial c.args.at.now.from.place c.args.at.now.from.held (plain c.args.at.now.op.now) s) c.in-Bad.is c.in_ok-first.ensures.sees);
   waits = tt;
   few = adds_calls_up c.args.todo.now c.visit_step.new.todo 2 3 c.in_ok-first.ensures.few (omega arith);
+  hands = c.in_ok-first.ensures.hands;
 }
 
 pub returns-in_ok-seen-in-Quiet : goal.returns-in_ok-seen-in-Quiet
@@ -51,6 +53,8 @@ returns-in_ok-seen-in-Quiet c = record {
       c.in_ok-seen-in-Quiet.ensures.keeps c.in_ok-seen-in-Quiet.ensures.quiet c.in_ok-seen-in-Quiet.ensures.takes;
   waits = waits_then c.args.todo.now c.visit_step.new.todo c.resume.new.todo c.in_ok-first.first c.in_ok-seen-in-Quiet.seen c.in_ok-first.ensures.waits c.in-Quiet.is c.in_ok-seen-in-Quiet.ensures.waits;
   few = adds_calls_then c.args.todo.now c.visit_step.new.todo c.resume.new.todo 2 1 c.in_ok-first.ensures.few c.in_ok-seen-in-Quiet.ensures.few;
+  hands = hands_then c.args.facts.now c.visit_step.new.facts c.resume.new.facts c.args.todo.now c.visit_step.new.todo c.resume.new.todo
+      c.in_ok-first.ensures.hands c.in_ok-seen-in-Quiet.ensures.hands;
 }
 
 pub returns-in_ok-seen-in-Changed : goal.returns-in_ok-seen-in-Changed
@@ -63,4 +67,6 @@ returns-in_ok-seen-in-Changed c = record {
       c.after_change.ensures;
   waits = waits_changed c.args.todo.now c.resume-in-Changed.new.todo c.in_ok-seen-in-Changed.seen c.after_change.result c.after_change.ensures;
   few = adds_calls_then c.args.todo.now c.visit_step.new.todo c.resume-in-Changed.new.todo 2 1 c.in_ok-first.ensures.few c.in_ok-seen-in-Changed.ensures.few;
+  hands = hands_then c.args.facts.now c.visit_step.new.facts c.resume-in-Changed.new.facts c.args.todo.now c.visit_step.new.todo
+      c.resume-in-Changed.new.todo c.in_ok-first.ensures.hands c.in_ok-seen-in-Changed.ensures.hands;
 }

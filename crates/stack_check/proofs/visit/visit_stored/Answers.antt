@@ -1,3 +1,4 @@
+use Rattle.stack_check.proofs.Handing.{hands_none}
 use Rattle.stack_check.proofs.Following.{adds_calls_none}
 use Rattle.std.proofs.Common.{◌≡◌, IfSome, subst}
 use Rattle.std.specs.Option.{option_map}
@@ -21,6 +22,7 @@ returns-in-None c = record {
       (shape_of c.args.heap.now c.args.at.now.from.held)))) c.in-None.is c.in_ok-resumed.ensures.after);
   waits = tt;
   few = adds_calls_none c.args.todo.now 3;
+  hands = hands_none c.args.facts.now c.args.todo.now;
 }
 
 pub visit_store-requires-clause-keeps : goal.visit_store-requires-clause-keeps
@@ -52,4 +54,5 @@ returns-in_ok-seen-in-Some c = record {
       (shape_of c.args.heap.now c.args.at.now.from.held)))) c.in-Some.is c.in_ok-resumed.ensures.after).0 c.in_ok-seen-in-Some.ensures.sees;
   waits = c.in_ok-seen-in-Some.ensures.waits;
   few = c.in_ok-seen-in-Some.ensures.few;
+  hands = c.in_ok-seen-in-Some.ensures.hands;
 }

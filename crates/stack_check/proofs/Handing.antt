@@ -1,0 +1,258 @@
+-- What is found is handed in.
+use Rattle.std.proofs.Common.{arith, ◌≡◌, ◌<◌, ◌+◌, ℕ, zero, suc, List, [], ◌∷◌, ◌++◌, length, map, Some, slice_get, slice_set, inl, inr, ◌⊎◌, sym, subst, ◌∙◌, ap, refl}
+use Rattle.std.specs.Prelude.{Contains}
+use Rattle.std.proofs.lemmas.Bool.{cases_eq}
+use Rattle.std.proofs.lemmas.List.Elements.{Contains-append_cases, Contains-append_left, Contains-append_right, Contains-push}
+use Rattle.stack_lists.specs.declared.held.Held.{Held}
+use Rattle.stack_lists.specs.declared.held.Heap.{Heap}
+use Rattle.stack_lists.specs.declared.todo.Again.{Again}
+use Rattle.stack_lists.specs.declared.todo.Call.{Call}
+use Rattle.stack_lists.specs.declared.todo.Spot.{Spot}
+use Rattle.stack_lists.specs.Rows.{row_in}
+use Rattle.stack_lists.specs.Worklist.{CallKept, CallersAdded, SameCalls, Worklist, calls_of, spot_of, waiting}
+use Rattle.stack_shape.specs.declared.shape.Entry.{Entry}
+use Rattle.stack_shape.specs.declared.shape.Entry.TheVariants.{Start, Called, Stored}
+use Rattle.stack_check.specs.declared.facts.Facts.{Facts}
+use Rattle.stack_check.specs.declared.facts.Trial.{Trial}
+use Rattle.stack_check.specs.declared.seen.Seen.{Seen}
+use Rattle.stack_check.specs.declared.seen.Seen.TheVariants.{Quiet, Changed, Bad}
+use Rattle.stack_check.specs.Facts.{first_place}
+use Rattle.stack_check.specs.Inference.{CallsAgain, CallsWait, HandedIn, HandsIn, IsNext, Reached, Stays, TrialAdded, TrialSet, TrialStays}
+use Rattle.stack_check.proofs.Keeping.{get_kept, set_here, set_other}
+
+-- ---- what waited waits still
+
+pub stays_none : (w : Worklist) → Stays w w
+stays_none w = record { spots = λ spot i. i; calls = λ target call i. i }
+
+pub stays_then : (a b c : Worklist) → Stays a b → Stays b c → Stays a c
+stays_then a b c h k = record {
+  spots = λ spot i. k.spots spot (h.spots spot i);
+  calls = λ target call i. k.calls target call (h.calls target call i);
+}
+
+same_kept : (a b : Worklist) → SameCalls a b → (target : ℕ) (call : Call) → Contains (calls_of a target) call → Contains (calls_of b target) call
+same_kept a b s target call i = subst (λ z. Contains z call) (sym (s.by target)) i
+
+pub stays_spot : (a b : Worklist) (spot : Spot) → waiting b ≡ waiting a ++ spot ∷ [] → SameCalls a b → Stays a b
+stays_spot a b spot w s = record {
+  spots = λ other i. subst (λ z. Contains z other) (sym w) (Contains-append_left (waiting a) (spot ∷ []) other i);
+  calls = same_kept a b s;
+}
+
+pub stays_same : (a b : Worklist) → waiting b ≡ waiting a → SameCalls a b → Stays a b
+stays_same a b w s = record { spots = λ spot i. subst (λ z. Contains z spot) (sym w) i; calls = same_kept a b s }
+
+spots_then : (xs ys : List Again) → map spot_of (xs ++ ys) ≡ map spot_of xs ++ map spot_of ys
+spots_then [] ys = refl
+spots_then (x ∷ xs) ys = ap (λ rest. spot_of x ∷ rest) (spots_then xs ys)
+
+more_between : (a x b c : List Spot) (spot : Spot) → Contains ((a ++ b) ++ c) spot → Contains (((a ++ x) ++ b) ++ c) spot
+more_between a x b c spot i = elim (Contains-append_cases (a ++ b) c spot i) [
+  | inl j ↦ Contains-append_left ((a ++ x) ++ b) c spot (elim (Contains-append_cases a b spot j) [
+    | inl k ↦ Contains-append_left (a ++ x) b spot (Contains-append_left a x spot k)
+    | inr k ↦ Contains-append_right (a ++ x) b spot k
+  ])
+  | inr j ↦ Contains-append_right ((a ++ x) ++ b) c spot j
+]
+
+pub stays_callers : (a b : Worklist) (target : ℕ) → CallersAdded a b target → Stays a b
+stays_callers a b target k = record {
+  spots = λ spot i.
+      subst (λ z. Contains z spot)
+      (ap (λ xs. (xs ++ map spot_of a.soon) ++ a.first) (sym (spots_then a.later k.added)) ∙ ap (λ xs. xs ++ a.first) (sym (spots_then (a.later ++ k.added) a.soon))
+      ∙ ap (λ xs. map spot_of (xs ++ a.soon) ++ a.first) (sym k.later) ∙ ap (λ xs. map spot_of (b.later ++ xs) ++ a.first) (sym k.soon)
+      ∙ ap (λ xs. map spot_of (b.later ++ b.soon) ++ xs) (sym k.first))
+      (more_between (map spot_of a.later) (map spot_of k.added) (map spot_of a.soon) a.first spot
+      (subst (λ z. Contains (z ++ a.first) spot) (spots_then a.later a.soon) i));
+  calls = same_kept a b k.calls;
+}
+
+pub stays_again : (a b : Worklist) (entry : Entry) → CallsAgain a b entry → Stays a b
+stays_again a b Start e = subst (λ w. Stays a w) (sym e) (stays_none a)
+stays_again a b (Called target) k = stays_callers a b target k
+stays_again a b (Stored site) e = subst (λ w. Stays a w) (sym e) (stays_none a)
+
+pub stays_kept : (a b : Worklist) (row : ℕ) (call : Call) → waiting b ≡ waiting a → CallKept a b row call → Stays a b
+stays_kept a b row call w k = record {
+  spots = λ spot i. subst (λ z. Contains z spot) (sym w) i;
+  calls = λ target other i. elim (cases_eq target call.target) [
+    | inl e ↦ subst (λ t. Contains (calls_of b t) other) (sym e) (own other k.added (subst (λ t. Contains (calls_of a t) other) e i))
+    | inr ne ↦ subst (λ z. Contains z other) (sym (k.others target ne)) i
+  ];
+}
+  where
+    own : (other : Call) → (calls_of b call.target ≡ calls_of a call.target) ⊎ (calls_of b call.target ≡ call ∷ calls_of a call.target)
+        → Contains (calls_of a call.target) other → Contains (calls_of b call.target) other
+    own other (inl e) i = subst (λ z. Contains z other) (sym e) i
+    own other (inr e) i = subst (λ z. Contains z other) (sym e) (Contains-append_right (call ∷ []) (calls_of a call.target) other i)
+
+-- ---- facts and a worklist
+
+stays_of : (before : Facts) (w v : Worklist) (number : ℕ) (trial : Trial) → slice_get before.trials number ≡ Some trial → TrialStays before w v number trial
+stays_of before w v number trial h = record { now = trial; has = h; entry = refl; known = inl refl }
+
+pub hands_stays : (facts : Facts) (w v : Worklist) → Stays w v → HandsIn facts facts w v
+hands_stays facts w v s = record { rows = λ t p h e. inl e; trials = stays_of facts w v; stays = s }
+
+pub hands_none : (facts : Facts) (w : Worklist) → HandsIn facts facts w w
+hands_none facts w = hands_stays facts w w (stays_none w)
+
+wait_then : (a b c : Worklist) (entry : Entry) → CallsWait a b entry → Stays b c → CallsWait a c entry
+wait_then a b c Start k s = tt
+wait_then a b c (Called target) k s = λ call i. s.spots call.spot (k call i)
+wait_then a b c (Stored site) k s = tt
+
+wait_from : (a b c : Worklist) (entry : Entry) → Stays a b → CallsWait b c entry → CallsWait a c entry
+wait_from a b c Start s k = tt
+wait_from a b c (Called target) s k = λ call i. k call (s.calls target call i)
+wait_from a b c (Stored site) s k = tt
+
+pub hands_then : (a b c : Facts) (u v w : Worklist) → HandsIn a b u v → HandsIn b c v w → HandsIn a c u w
+hands_then a b c u v w h k = record {
+  rows = λ t p held e. elim (k.rows t p held e) [
+    | inl old ↦ elim (h.rows t p held old) [
+      | inl older ↦ inl older
+      | inr i ↦ inr (k.stays.spots _ i)
+    ]
+    | inr i ↦ inr i
+  ];
+  trials = λ n trial has.
+      let x = h.trials n trial has in
+      let y = k.trials n x.now x.has in
+      record { now = y.now; has = y.has; entry = y.entry ∙ x.entry; known = both trial x.now y.now x.entry x.known y.known };
+  stays = stays_then u v w h.stays k.stays;
+}
+  where
+    both : (trial mid now : Trial) → mid.entry ≡ trial.entry → (mid ≡ trial) ⊎ CallsWait u v trial.entry → (now ≡ mid) ⊎ CallsWait v w mid.entry
+        → (now ≡ trial) ⊎ CallsWait u w trial.entry
+    both trial mid now e (inl x) (inl y) = inl (y ∙ x)
+    both trial mid now e (inl x) (inr y) = inr (wait_from u v w trial.entry h.stays (subst (λ e. CallsWait v w e) e y))
+    both trial mid now e (inr x) y = inr (wait_then u v w trial.entry x k.stays)
+
+pub hands_from : (a b c : Facts) (u v w : Worklist) → b ≡ a → v ≡ u → HandsIn b c v w → HandsIn a c u w
+hands_from a b c u v w e f h = subst (λ a. HandsIn a c u w) e (subst (λ u. HandsIn b c u w) f h)
+
+pub hands_after : (a b : Facts) (u v w : Worklist) → HandsIn a b u v → w ≡ v → HandsIn a b u w
+hands_after a b u v w h e = subst (λ w. HandsIn a b u w) (sym e) h
+
+pub hands_same : (a b : Facts) (u v : Worklist) → b ≡ a → v ≡ u → HandsIn a b u v
+hands_same a b u v e f = subst (λ b. HandsIn a b u v) (sym e) (subst (λ v. HandsIn a a u v) (sym f) (hands_none a u))
+
+pub hands_kept : (a b : Facts) (u v w : Worklist) (row : ℕ) (call : Call) → HandsIn a b u v → waiting w ≡ waiting v → CallKept v w row call → HandsIn a b u w
+hands_kept a b u v w row call h e k = hands_then a b b u v w h (hands_stays b v w (stays_kept v w row call e k))
+
+-- ---- a row, a trial, and what is known of one
+
+pub hands_row : (heap : Heap) (before after : Facts) (w v : Worklist) (spot : Spot) (held : Held) (seen : Seen)
+    → Reached heap before after spot.trial spot.place held seen → HandedIn w v spot seen → Stays w v → HandsIn before after w v
+hands_row heap before after w v spot held Quiet r i s = subst (λ f. HandsIn before f w v) (sym r.0) (hands_stays before w v s)
+hands_row heap before after w v spot held Bad r i s = subst (λ f. HandsIn before f w v) (sym r.2) (hands_stays before w v s)
+hands_row heap before after w v spot held Changed r i s = record {
+  rows = λ t p h e. elim (r.0.only t p h e) [
+    | inl old ↦ inl old
+    | inr new ↦ inr (subst (λ z. Contains z (record { trial = t; place = p })) (sym i)
+        (subst (λ t. Contains (waiting w ++ spot ∷ []) (record { trial = t; place = p })) (sym new.0)
+        (subst (λ p. Contains (waiting w ++ spot ∷ []) (record { trial = spot.trial; place = p })) (sym new.1) (Contains-push (waiting w) spot))))
+  ];
+  trials = λ n trial h. record { now = trial; has = ap (λ (f : Facts). slice_get f.trials n) r.1 ∙ h; entry = refl; known = inl refl };
+  stays = s;
+}
+
+pub hands_trial : (before after : Facts) (w v : Worklist) (trial : Trial) → TrialAdded before after trial
+    → waiting v ≡ waiting w ++ record { trial = length before.trials; place = first_place trial.entry } ∷ [] → SameCalls w v → HandsIn before after w v
+hands_trial before after w v trial k i s = record {
+  rows = λ t p h e. elim (k.only t p h e) [
+    | inl old ↦ inl old
+    | inr new ↦ inr (subst (λ z. Contains z (record { trial = t; place = p })) (sym i)
+        (subst (λ t. Contains (waiting w ++ first ∷ []) (record { trial = t; place = p })) (sym new.0)
+        (subst (λ p. Contains (waiting w ++ first ∷ []) (record { trial = length before.trials; place = p })) (sym new.1) (Contains-push (waiting w) first))))
+  ];
+  trials = λ n old h. record {
+    now = old;
+    has = ap (λ xs. slice_get xs n) k.trials ∙ get_kept before.trials trial old n h;
+    entry = refl;
+    known = inl refl;
+  };
+  stays = stays_spot w v first i s;
+}
+  where
+    first : Spot
+    first = record { trial = length before.trials; place = first_place trial.entry }
+
+pub hands_begun : (before after : Facts) (w v : Worklist) (trial : Trial) (number place : ℕ) → TrialAdded before after trial → number ≡ length before.trials
+    → place ≡ first_place trial.entry → waiting v ≡ waiting w ++ record { trial = number; place = place } ∷ [] → SameCalls w v → HandsIn before after w v
+hands_begun before after w v trial number place k n p i s =
+    hands_trial before after w v trial k
+    (subst (λ place. waiting v ≡ waiting w ++ record { trial = length before.trials; place = place } ∷ []) p
+    (subst (λ number. waiting v ≡ waiting w ++ record { trial = number; place = place } ∷ []) n i)) s
+
+some_is : {A : Type 0} (a b : A) → Some a ≡ Some b → a ≡ b
+some_is a b h = cc
+
+fits : {A : Type 0} (xs : List A) (n : ℕ) (x : A) → slice_get xs n ≡ Some x → n < length xs
+fits [] n x h = absurd cc
+fits (y ∷ xs) zero x h = omega arith
+fits (y ∷ xs) (suc n) x h = omega (arith, fits xs n x h)
+
+-- one trial is another one of its entry
+pub trial_set : (before after : Facts) (number : ℕ) (trial now : Trial) → slice_get before.trials number ≡ Some trial
+    → after ≡ record before { trials = slice_set before.trials number now } → now.entry ≡ trial.entry → TrialSet before after number
+trial_set before after number trial now h e same = record {
+  rows = ap (λ (f : Facts). f.rows) e;
+  by = λ k old has. elim (cases_eq k number) [
+    | inl i ↦ record {
+      now = now;
+      has = ap (λ (f : Facts). slice_get f.trials k) e ∙ ap (slice_get (slice_set before.trials number now)) i
+          ∙ set_here before.trials number now (fits before.trials number trial h);
+      entry = same ∙ ap (λ (t : Trial). t.entry) (some_is trial old (sym h ∙ ap (slice_get before.trials) (sym i) ∙ has));
+      known = inr i;
+    }
+    | inr ne ↦ record {
+      now = old;
+      has = ap (λ (f : Facts). slice_get f.trials k) e ∙ set_other before.trials number now k ne ∙ has;
+      entry = refl;
+      known = inl refl;
+    }
+  ];
+}
+
+pub hands_set : (before after : Facts) (w v : Worklist) (number : ℕ) (trial : Trial) → TrialSet before after number → slice_get before.trials number ≡ Some trial
+    → CallsWait w v trial.entry → Stays w v → HandsIn before after w v
+hands_set before after w v number trial set h wait s = record {
+  rows = λ t p held e. inl (ap (λ rows. row_in rows t p) (sym set.rows) ∙ e);
+  trials = λ n old has.
+      let x = set.by n old has in
+      record {
+        now = x.now;
+        has = x.has;
+        entry = x.entry;
+        known = elim x.known [
+          | inl same ↦ inl same
+          | inr i ↦ inr (subst (λ (t : Trial). CallsWait w v t.entry) (some_is trial old (sym h ∙ ap (slice_get before.trials) (sym i) ∙ has)) wait)
+        ];
+      };
+  stays = s;
+}
+
+-- what a routine gives is known
+pub hands_given : (before after : Facts) (w v : Worklist) (number target : ℕ) (trial : Trial) → TrialSet before after number
+    → slice_get before.trials number ≡ Some trial → trial.entry ≡ Called target → CallersAdded w v target → HandsIn before after w v
+hands_given before after w v number target trial set h e k =
+    hands_set before after w v number trial set h (subst (λ e. CallsWait w v e) (sym e) (λ call i. k.all call i)) (stays_callers w v target k)
+
+-- more was looked at
+pub hands_seen : (before after : Facts) (a mid b c : Worklist) (number : ℕ) (trial : Trial) (spot : Spot) → TrialSet before after number
+    → slice_get before.trials number ≡ Some trial → waiting mid ≡ waiting a → SameCalls a mid → CallsAgain mid b trial.entry
+    → CallsWait a c trial.entry → waiting c ≡ waiting b ++ spot ∷ [] → SameCalls b c → HandsIn before after a c
+hands_seen before after a mid b c number trial spot set h w s again wait i t =
+    hands_set before after a c number trial set h wait
+    (stays_then a mid c (stays_same a mid w s) (stays_then mid b c (stays_again mid b trial.entry again) (stays_spot b c spot i t)))
+
+pub ruleset noting = (stays_none, stays_spot)
+
+pub ruleset handing = (hands_none, hands_after, hands_from)
+
+pub ruleset keeping = (hands_kept)
+
+pub ruleset giving = (hands_given)

@@ -1,7 +1,0 @@
-use Rattle.stack_lists.proofs.stacks.Stacks.search.Given as goal
-
-abbrev pub invariant-loop-at : goal.invariant-loop-at
-invariant-loop-at l = Unit {0}
-
-abbrev pub decreases-loop-at : goal.decreases-loop-at
-decreases-loop-at l = l.at
