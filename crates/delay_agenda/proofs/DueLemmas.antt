@@ -113,6 +113,10 @@ one_filled es one is = omega (arith, one, ap length is)
 
 pub ruleset only_facts = (only_of, none_only, one_filled)
 
+pub count_is : {X : Type 0} (n due : ℕ) (kinds : List (ℕ × Kind X)) (es : List (Entry X)) → n ≡ length kinds → entries_of due kinds ≡ es → n ≡ 1
+    → length es ≡ 1
+count_is n due kinds es is view one = ap length (sym view) ∙ sym (long_of due kinds) ∙ sym is ∙ one
+
 pub empty_test : {X : Type 0} (n : ℕ) (es : List (Entry X)) → n ≡ length es → MatchBool (nat_eq n 0) (es ≡ []) (es ≢ [])
 empty_test n [] is = let test : nat_eq n 0 ≡ true = eq-eqb n 0 is in rw test refl
 empty_test n (x ∷ es) is = let test : nat_eq n 0 ≡ false = not_eq n 0 (λ none. omega (arith, is, none)) in rw test (λ same. cc)

@@ -14,7 +14,7 @@ use Rattle.std.proofs.lemmas.Bool.Decides.{nat_tests}
 use Rattle.std.proofs.lemmas.List.{append-nil}
 use Rattle.delay_agenda.specs.declared.entry.Entry.{Entry}
 use Rattle.delay_agenda.specs.Order.{is_before, put_entry, first_due, HasNone}
-use Rattle.delay_agenda.specs.Queues.{QueuesByTime, in_row, queue_at, row_without, numbered, without_number, NoneBefore, AreSorted, AreDue, IsQueue, AreLater, AreQueues, IsFirst, IsHead}
+use Rattle.delay_agenda.specs.Queues.{QueuesByTime, in_row, queue_at, row_without, numbered, without_number, NoneBefore, AreSorted, AreDue, IsQueue, AreLater, AreQueues, IsFirst, IsHead, StartsAlone}
 use Rattle.delay_agenda.proofs.Placing.{put_stops, put_joined, put_behind, sorted_put, none_stops, AllBefore}
 use Rattle.delay_agenda.proofs.DueLemmas.{head_numbered}
 
@@ -593,3 +593,26 @@ first_key (p ∷ ps) (Some k) queues key =
 
 -- what the first queue gives
 pub ruleset first_facts = (first_there, first_head, first_left)
+
+-- ---- a first queue of one entry
+
+pub alone_is : {X : Type 0} (due : ℕ) (q : List (Entry X)) (qs : QueuesByTime X) → slice_get qs 0 ≡ Some (due, q) → length q ≡ 1 → StartsAlone qs
+alone_is due q [] is one = absurd (none_held (due, q) (sym is))
+alone_is due q (p ∷ ps) is one = subst (λ t. length t.1 ≡ 1) (sym (held p (due, q) is)) one
+
+pub alone_length : {X : Type 0} (due : ℕ) (q : List (Entry X)) (qs rest : QueuesByTime X) → qs ≡ (due, q) ∷ rest → StartsAlone qs → length q ≡ 1
+alone_length due q qs rest is one = subst StartsAlone is one
+
+pub alone_first : {X : Type 0} (due : ℕ) (q : List (Entry X)) (e : Entry X) (qs rest : QueuesByTime X) → qs ≡ (due, q) ∷ rest → q ≡ e ∷ []
+    → Some e ≡ slice_get (in_row qs) 0
+alone_first due q e qs rest is only = sym (ap (λ r. slice_get (in_row r) 0) is ∙ ap (λ es. slice_get (es ++ in_row rest) 0) only)
+
+pub alone_left : {X : Type 0} (due : ℕ) (q : List (Entry X)) (e : Entry X) (qs rest : QueuesByTime X) → qs ≡ (due, q) ∷ rest → q ≡ e ∷ []
+    → in_row rest ≡ drop 1 (in_row qs)
+alone_left due q e qs rest is only = sym (ap (λ r. drop 1 (in_row r)) is ∙ ap (λ es. drop 1 (es ++ in_row rest)) only)
+
+pub alone_queues : {X : Type 0} (due : ℕ) (q : List (Entry X)) (qs rest : QueuesByTime X) → qs ≡ (due, q) ∷ rest → AreQueues qs → AreQueues rest
+alone_queues due q qs rest is queues = (subst AreQueues is queues).2
+
+-- what it gives
+pub ruleset alone_facts = (alone_length, alone_first, alone_left, alone_queues)

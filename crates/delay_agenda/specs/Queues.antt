@@ -96,6 +96,11 @@ abbrev pub IsFirst : {X : Type 0} → ℕ → QueuesByTime X → Type 0
 IsFirst due [] = ⊥
 IsFirst due (q ∷ qs) = q.0 ≡ due
 
+-- the first queue has one entry
+abbrev pub StartsAlone : {X : Type 0} → QueuesByTime X → Type 0
+StartsAlone [] = ⊥
+StartsAlone (q ∷ qs) = length q.1 ≡ 1
+
 -- of the first n entries of an inbox, the one at this place is taken first; of several alike it is
 -- the last
 pub record IsLeastAt {X : Type 0} (at n : ℕ) (es : List (Entry X)) : Type 0 where

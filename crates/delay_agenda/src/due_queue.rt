@@ -1,5 +1,6 @@
 //! The entries that are due at one time.
 ghost use Rattle.std.specs.Prelude.{◌≡◌, ◌≢◌, [], ◌∷◌, length, IfErr, IfOk, MatchBool, OnOk, OnErr};
+ghost use Rattle.std.specs.Prelude.{true};
 ghost use Rattle.delay_agenda.specs.Order.{put_entry, HasNone};
 ghost use Rattle.delay_agenda.specs.Queues.{IsHead, IsQueue, numbered, without_number};
 
@@ -101,6 +102,14 @@ impl<X: Drop> DueQueue<X> {
         ensures test { MatchBool result (self.now ≡ []) (self.now ≢ []) }
     {
         self.kinds.len() == 0
+    }
+
+    /// Whether there is one entry alone.
+    #[tactic(auto, using(crate::proofs::DueLemmas::count_is))]
+    pub(crate) fn is_alone(&self) -> bool
+        ensures one { result ≡ true → length self.now ≡ 1 }
+    {
+        self.kinds.len() == 1
     }
 
     /// Takes the entry of a number out.

@@ -5,7 +5,7 @@ ghost use Rattle.std.specs.Ordering.{nat_cmp};
 ghost use Rattle.std.specs.BTreeMap.{get};
 ghost use Rattle.delay_agenda.specs.Order.{put_entry, HasNone};
 ghost use Rattle.delay_agenda.specs.Queues.{AreQueues, IsFirst, IsHead, in_row, numbered, queue_at};
-ghost use Rattle.delay_agenda.specs.Queues.{row_without};
+ghost use Rattle.delay_agenda.specs.Queues.{StartsAlone, row_without};
 
 use crate::due_queue::DueQueue;
 use crate::entry::Entry;
@@ -122,6 +122,32 @@ pub(crate) fn take_at<X: Drop>(queues: &mut Queues<X>, due: u64, number: u64) ->
     }
 }
 
+/// Whether the first queue has one entry alone.
+#[tactic(auto, using(crate::proofs::Rows::alone_is))]
+fn first_is_alone<X: Drop>(queues: &Queues<X>) -> bool
+    ensures alone { result ≡ true → StartsAlone queues.now.entries }
+{
+    match queues.first_key_value() {
+        None => false,
+        Some((_, queue)) => queue.is_alone(),
+    }
+}
+
+/// Takes the first queue, which has one entry alone, off the queues, without a search.
+#[tactic(auto, using(crate::proofs::Rows::alone_facts))]
+fn take_alone<X: Drop>(queues: &mut Queues<X>) -> Option<Entry<X>>
+    requires queues { AreQueues queues.old.entries }
+    requires alone { StartsAlone queues.old.entries }
+    ensures entry { result ≡ slice_get (in_row queues.old.entries) 0 }
+    ensures left { in_row queues.new.entries ≡ drop 1 (in_row queues.old.entries) }
+    ensures queues { AreQueues queues.new.entries }
+{
+    match queues.pop_first() {
+        None => None,
+        Some((_, queue)) => Some(queue.only()),
+    }
+}
+
 /// Takes the entry that is taken first off the queues.
 #[tactic(auto, using(crate::proofs::Rows::first_facts))]
 pub(crate) fn take_first<X: Drop>(queues: &mut Queues<X>) -> Option<Entry<X>>
@@ -130,6 +156,9 @@ pub(crate) fn take_first<X: Drop>(queues: &mut Queues<X>) -> Option<Entry<X>>
     ensures left { in_row queues.new.entries ≡ drop 1 (in_row queues.old.entries) }
     ensures queues { AreQueues queues.new.entries }
 {
+    if first_is_alone(queues) {
+        return take_alone(queues);
+    }
     match first_of(queues) {
         None => None,
         Some((due, number)) => take_at(queues, due, number),
