@@ -1,5 +1,6 @@
 -- After a variable that an object has is put, its value alone differs in the tree that goes back.
-use Rattle.std.proofs.Common.{◌≡◌, ◌<◌, ◌≤◌, ◌+◌, ◌-◌, ℕ, zero, suc, Bool, true, false, cond, not, ◌||◌, List, [], ◌∷◌, ◌++◌, map, filter, length, take, drop, Option, None, Some, refl, sym, ap, subst, ◌∙◌, arith}
+use Rattle.std.proofs.Common.{◌≡◌, ◌<◌, ◌≤◌, ◌+◌, ◌-◌, ℕ, zero, suc, Bool, true, false, cond, not, ◌||◌, List, [], ◌∷◌, ◌++◌, map, filter, length, take, drop, Option, None, Some, refl, sym, ap, subst}
+use Rattle.std.proofs.Common.{◌∙◌, arith}
 use Rattle.std.proofs.Common.{◌⊎◌, inl, inr}
 use Rattle.std.specs.Prelude.{codes}
 use Rattle.std.specs.List.{list_any, slice_get, IsDistinct, AllByRecursion}
@@ -14,7 +15,8 @@ use Rattle.area_rules.specs.Broken.{tag_places, table_places, member_places, mem
 use Rattle.area_back.specs.Back.{with_value, entries_back, others, table_back, fields_back, member_back, members_back, list_back, lists_back}
 use Rattle.area_rules.specs.Area.{object_at, variables_changed_at}
 use Rattle.area_back.specs.Laws.{changed_node, changed_list, changed_in, with_new_value, EntryFor, variable_table, PutChangesOneValue}
-use Rattle.area_back.proofs.UnchangedLaws.{Laws, none_parts, AllFound, all_found, found_any, one_back, entries_one, one_same, entries_same, later_all, some_back, member_same, members_same, list_same, lists_same, taken, dropped}
+use Rattle.area_back.proofs.UnchangedLaws.{Laws, none_parts, AllFound, all_found, found_any, one_back, entries_one, one_same, entries_same, later_all, some_back, member_same, members_same, list_same}
+use Rattle.area_back.proofs.UnchangedLaws.{lists_same, taken, dropped}
 use Rattle.area_back.proofs.ReadBackLaws.{AllOther, under_same, places_same, labels_distinct}
 
 -- ---- a table

@@ -1,5 +1,6 @@
 -- A tree that goes back breaks no rule and tells the same area.
-use Rattle.std.proofs.Common.{◌≡◌, ◌+◌, ◌==◌, ℕ, ℤ, zero, suc, Bool, true, false, cond, not, ◌||◌, List, [], ◌∷◌, ◌++◌, map, filter, length, take, drop, Option, None, Some, refl, sym, ap, subst, ◌∙◌, append_assoc}
+use Rattle.std.proofs.Common.{◌≡◌, ◌+◌, ◌==◌, ℕ, ℤ, zero, suc, Bool, true, false, cond, not, ◌||◌, List, [], ◌∷◌, ◌++◌, map, filter, length, take, drop, Option, None, Some, refl, sym, ap, subst, ◌∙◌}
+use Rattle.std.proofs.Common.{append_assoc}
 use Rattle.std.specs.Prelude.{codes}
 use Rattle.std.specs.List.{list_any, IsDistinct, AllByRecursion}
 use Rattle.std.specs.Str.{bytes_eq}
@@ -9,7 +10,8 @@ use Rattle.std.proofs.lemmas.Slice.Eq.{bytes_eq-Decides}
 use Rattle.gff_tree.specs.Tree.{PlainNode, PlainLeaf, PlainField, Holds, Child, Children, nodes_in, nodes_from}
 use Rattle.gff_tree.specs.Fields.{kind_of, fields_of, list_from, found, replaced, appended}
 use Rattle.local_variables.specs.Variables.{Variable, IntVar, TextVar, same_variable, matching}
-use Rattle.area_rules.specs.Objects.{AreaObject, Entry, Broken, Unread, Tells, dword_in, int_in, string_in, int_entry, text_entry, typed_entry, entry_of, with_entry, variables_in, structs_in, tag_in, with_script, scripts_in, object_of, list_labels, objects_under}
+use Rattle.area_rules.specs.Objects.{AreaObject, Entry, Broken, Unread, Tells, dword_in, int_in, string_in, int_entry, text_entry, typed_entry, entry_of, with_entry, variables_in, structs_in, tag_in}
+use Rattle.area_rules.specs.Objects.{with_script, scripts_in, object_of, list_labels, objects_under}
 use Rattle.area_rules.specs.Broken.{Place, entry_places, with_later, entries_places, tag_places, table_places, member_places, members_places, list_places, lists_places}
 use Rattle.area_back.specs.Back.{value_of, new_entry, with_value, entries_back, others, table_back, fields_back, member_back, members_back, objects_back, list_back, lists_back}
 use Rattle.area_rules.specs.Area.{bare, top_of, HaveDistinct}

@@ -3,10 +3,12 @@ use Rattle.std.proofs.Common.{◌≡◌, ℕ, suc, Bool, true, false, cond, ◌&
 use Rattle.std.specs.Prelude.{codes}
 use Rattle.std.specs.List.{list_all}
 use Rattle.gff_tree.specs.Tree.{PlainNode, PlainLeaf, PlainField, Holds, Child, Children, nodes_in, is_sound_node, is_sound_leaf, is_sound}
-use Rattle.gff_tree.specs.Fields.{kind_of, fields_of, node_from, list_from, found, ReplacedIsSound, AppendedIsSound, FoundIsSound, ListIsSound, NodeIsItsFields, FieldsAreTheNodes, ListIsItsNodes, NodesAreTheLists}
+use Rattle.gff_tree.specs.Fields.{kind_of, fields_of, node_from, list_from, found, ReplacedIsSound, AppendedIsSound, FoundIsSound, ListIsSound, NodeIsItsFields, FieldsAreTheNodes, ListIsItsNodes}
+use Rattle.gff_tree.specs.Fields.{NodesAreTheLists}
 use Rattle.local_variables.specs.Variables.{Variable, IntVar, TextVar}
 use Rattle.area_rules.specs.Objects.{AreaObject, entry_of, structs_in, list_labels}
-use Rattle.area_back.specs.Back.{value_of, new_entry, is_kept, variable_for, with_value, valued, entries_back, others, table_back, leaf_back, fields_back, member_back, members_back, objects_back, list_back, lists_back}
+use Rattle.area_back.specs.Back.{value_of, new_entry, is_kept, variable_for, with_value, valued, entries_back, others, table_back, leaf_back, fields_back, member_back, members_back, objects_back}
+use Rattle.area_back.specs.Back.{list_back, lists_back}
 
 -- what gff_tree's laws say of structs, fields and lists
 pub record TreeLaws : Type 0 where

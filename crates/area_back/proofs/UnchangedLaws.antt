@@ -7,9 +7,11 @@ use Rattle.std.proofs.lemmas.List.{append-nil}
 use Rattle.gff_tree.specs.Tree.{PlainNode, PlainLeaf, PlainField, Byte, Char, Word, Short, Dword, Int, Dword64, Int64, Float, Double, Str, Res, Localized, Void, Holds, Child, Children, nodes_in}
 use Rattle.gff_tree.specs.Fields.{kind_of, fields_of, node_from, list_from, found, replaced}
 use Rattle.local_variables.specs.Variables.{Variable, IntVar, TextVar, same_variable, matching}
-use Rattle.area_rules.specs.Objects.{AreaObject, Entry, Broken, Unread, Tells, dword_in, int_in, string_in, int_entry, text_entry, typed_entry, entry_of, with_entry, variables_in, structs_in, object_of, list_labels, objects_under}
+use Rattle.area_rules.specs.Objects.{AreaObject, Entry, Broken, Unread, Tells, dword_in, int_in, string_in, int_entry, text_entry, typed_entry, entry_of, with_entry, variables_in, structs_in}
+use Rattle.area_rules.specs.Objects.{object_of, list_labels, objects_under}
 use Rattle.area_rules.specs.Broken.{tag_places, table_places, member_places, members_places, list_places, lists_places}
-use Rattle.area_back.specs.Back.{value_of, stays, is_kept, variable_for, with_value, valued, entries_back, table_back, leaf_back, fields_back, member_back, members_back, objects_back, list_back, lists_back}
+use Rattle.area_back.specs.Back.{value_of, stays, is_kept, variable_for, with_value, valued, entries_back, table_back, leaf_back, fields_back, member_back, members_back, objects_back, list_back}
+use Rattle.area_back.specs.Back.{lists_back}
 use Rattle.area_rules.specs.Laws.{TablesAreDistinct}
 use Rattle.local_variables.specs.Laws.{PutIsFound, SameIsEquivalence, FilterKeepsDistinct}
 use Rattle.area_back.specs.Laws.{UnchangedGoesBack}

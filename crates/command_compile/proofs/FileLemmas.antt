@@ -1,6 +1,6 @@
 -- What comes of a typed unit's code does the work of its file.
 use Rattle.std.proofs.Common.{◌≡◌, ◌≤◌, ◌<◌, ℕ, Bool, true, false, List, length, None, Result, Ok, Err, refl, subst, sym}
-use Rattle.std.specs.Prelude.{IfOk, nat_lt}
+use Rattle.std.specs.Prelude.{IfOk, OnOk, nat_lt}
 use Rattle.std.proofs.lemmas.Bool.{lt-ltb, le-ltb}
 use Rattle.nwq_value.specs.Limits.{file_limit}
 use Rattle.nwq_value.specs.Engine.{EngineTable, IsTable}
@@ -24,6 +24,7 @@ use Rattle.command_work.specs.Work.{Does, MayBeCut, writes}
 use Rattle.command_work.specs.Parts.{Refuses, cut_here, makes_does, refused, then_ok}
 use Rattle.command_sources.specs.Units.{PlainScript, at_spot, grammar_symbols, spot_of}
 use Rattle.command_sources.specs.Reading.{HasTree}
+use Rattle.command_sources.specs.Reads.{ReadsUnit, reads_same, reads_still}
 use Rattle.command_files.specs.Checks.{IsStackedFile}
 use Rattle.command_files.specs.Commands.{writes_and_puts}
 use Rattle.command_compile.specs.Made.{IsUnitFile, IsTreeFile}
@@ -103,3 +104,11 @@ answer_stacked pass header (Ok bytes) table unit tree has made small = tree_stac
 answer_stacked pass header (Err status) table unit tree has made small = tt
 
 pub ruleset stacks = (answer_stacked)
+
+-- ---- what is read
+
+-- between the header, behind which nothing had changed, and a write, which reads nothing
+pub reads_behind : {A : Type 0} (r : Result A Status) (c d : Contents) (script : List ℕ) (before mid between now : ℕ) → d ≡ c → mid ≡ before → now ≡ between
+    → ReadsUnit d script mid between → OnOk r (ReadsUnit c script before now)
+reads_behind r c d script before mid between now same none still h =
+    reads_same r c d script before mid now same none (reads_still r d script mid between now still h)

@@ -1,14 +1,6 @@
 -- What comes of a script's tree does the work of its typed unit.
 use Rattle.std.proofs.Common.{◌≡◌, ℕ, List, Result, Ok, Err, refl, subst}
-use Rattle.std.specs.Prelude.{◌≤◌, IfOk}
-use Rattle.nwq_value.specs.Engine.{EngineTable, IsTable}
-use Rattle.nwq_value.specs.Limits.{token_limit}
-use Rattle.nss_tree.specs.Source.{SourceTree}
-use Rattle.nss_parser.specs.Sizes.{IsKnownTree}
-use Rattle.nss_types.specs.declared.unit.TypeFault.{TypeFault}
-use Rattle.typing_rules.specs.declared.units.Typed.{Typed}
-use Rattle.typing_rules.specs.UnitReading.{typed_unit}
-use Rattle.typing_laws.specs.Laws.{HasCode, EachTypedTreeHasCode}
+use Rattle.nwq_value.specs.Engine.{EngineTable}
 use Rattle.nwq_outside.specs.Outside.{Contents}
 use Rattle.typing_rules.specs.declared.fault.Fault.{Fault}
 use Rattle.typing_rules.specs.Typed.{TypedUnit}
@@ -21,12 +13,6 @@ use Rattle.command_work.specs.Work.{Does, Refused}
 use Rattle.command_work.specs.Parts.{Refuses, cut_here, finds_one, refused}
 use Rattle.command_sources.specs.Units.{PlainScript, at_token}
 use Rattle.command_compile.specs.Typings.{TypingFate, Whole, Faulty, IsTypingFate, whole, faulty, cause_of, typing_by, typed_in}
-
--- what is typed has code
-pub code_of_typed : EachTypedTreeHasCode → (table : EngineTable) (u : SourceTree) (r : Result Typed TypeFault) → IsTable table → IsKnownTree u → u.count ≤ token_limit
-    → IfOk r (λ t. TypesUnit table u (typed_unit t)) → IfOk r (λ t. HasCode (typed_unit t))
-code_of_typed law table u (Ok t) is known few h = law table u (typed_unit t) is known few h
-code_of_typed law table u (Err e) is known few h = tt
 
 module _ (header : EngineTable) (script : PlainScript) (c : Contents) where
   goes : (fate : TypingFate) (r : Result TypedUnit Status) (t t' : List ℕ) → IsTypingFate header script.tree fate → Does (typing_by script fate) c t r c t'

@@ -10,8 +10,8 @@ ghost use Rattle.command_work.specs.Counts.{Refusing, StopsSource, KeepsBut};
 ghost use Rattle.command_work.specs.Calls.{DoesOn, TalliesOn, TalliesPuts, IsName, DoesPuts};
 ghost use Rattle.command_sources.specs.Reads.{ReadsUnit, header_read};
 ghost use Rattle.command_sources.specs.Scripts.{plain_script};
-ghost use Rattle.command_compile.specs.Files.{IsTooLarge, file_in, compiled_in, compiled_named};
-ghost use Rattle.command_compile.specs.Files.{code_name, writes_code, compiles_under, compiles};
+ghost use Rattle.command_compile.specs.Files.{file_in, compiled_in, compiled_named};
+ghost use Rattle.command_compile.specs.Files.{code_name, writes_code, compiles};
 ghost use Rattle.command_files.specs.Checks.{IsStackedFile};
 ghost use Rattle.command_compile.specs.Made.{IsTreeFile};
 
@@ -25,23 +25,10 @@ use ncs_code::size_laws;
 use nwq_outside::{Files, Sink};
 use nwq_value::{Items, NoMemory, Table};
 use std::alloc::Global;
-use typing_rules::Typed;
 use unit_laws::typed_units_pass;
 
-/// The file of a unit.
-#[tactic(auto, using(crate::proofs::FileLemmas::sizes))]
-fn code_of(alloc: Global, unit: &Typed) -> Result<Vec<u8>, GenFault>
-    requires { HasCode (typed_unit unit.now) }
-    ensures file { IfOk result (λ bytes. bytes.items ≡ unit_file (typed_unit unit.now)) }
-    ensures small { IfOk result (λ bytes. length bytes.items ≤ file_limit) }
-    ensures large { IfErr result (IsTooLarge (unit_file (typed_unit unit.now))) }
-{
-    size_laws();
-    generate(alloc, unit)
-}
-
 /// The file of a typed script. A script whose file would be too large is refused at its end.
-#[tactic(auto, using(crate::proofs::FileLemmas::files))]
+#[tactic(auto, using(crate::proofs::FileLemmas::sizes, crate::proofs::FileLemmas::files))]
 fn file_of<S: Sink>(alloc: Global, script: &TypedScript, out: &mut S) -> Result<Items<u8>, Status>
     requires { HasCode (typed_unit script.now.typed) }
     ensures does { IsTrue S.tells → DoesPuts S.taken
@@ -51,7 +38,8 @@ fn file_of<S: Sink>(alloc: Global, script: &TypedScript, out: &mut S) -> Result<
     ensures small { IfOk result (λ bytes. length bytes ≤ file_limit) }
     ensures only { IfErr result (Refusing Status.Script) }
 {
-    match code_of(alloc, &script.typed) {
+    size_laws();
+    match generate(alloc, &script.typed) {
         Ok(bytes) => Ok(Items::of_vec(bytes)),
         Err(GenFault::Large(_)) => Err(refuse_end(alloc, &script.unit, Cause::Large, out)),
         Err(GenFault::NoMemory) => Err(Status::Memory),
@@ -79,7 +67,8 @@ pub fn compile_script<S: Sink>(
     }
 }
 
-/// The file of the script of this name under a header.
+/// The file of the script of this name under a header. Also where files don't tell what they hold,
+/// its instructions are well stacked.
 #[tactic(auto, using(crate::proofs::Steps::steps, crate::proofs::FileLemmas::stacks, command_sources::specs::Reads::on_ok), unfolding(crate::specs::Files::compiled_named))]
 pub fn read_compiled<F: Files, S: Sink>(
     alloc: Global,
@@ -90,7 +79,6 @@ pub fn read_compiled<F: Files, S: Sink>(
 ) -> Result<Items<u8>, Status>
     ensures does { IsTrue F.tells → IsTrue S.tells → DoesOn F.contents S.taken
         (compiled_named table.now script.now) files.old out.old result files.new out.new }
-    // Also where files don't tell what they hold, its instructions are well stacked.
     ensures stacked { IfOk result (IsStackedFile table.now) }
     ensures counts { TalliesOn F.counts S.faults result files.old out.old files.new out.new }
     ensures same { F.contents files.new ≡ F.contents files.old }
@@ -143,32 +131,9 @@ fn write_code<F: Files, S: Sink>(
     }
 }
 
-/// Compiles a script under a header, and writes its file.
-#[tactic(auto, using(crate::proofs::Steps::steps, command_work::specs::KeepsLemmas::keeps_all), unfolding(crate::specs::Files::compiles_under))]
-fn compile_under<F: Files, S: Sink>(
-    alloc: Global,
-    table: &Table,
-    script: &str,
-    files: &mut F,
-    out: &mut S,
-) -> Result<(), Status>
-    ensures does { IsTrue F.tells → IsTrue S.tells → DoesOn F.contents S.taken
-        (compiles_under script.now table.now) files.old out.old result files.new out.new }
-    ensures counts { TalliesOn F.counts S.faults result files.old out.old files.new out.new }
-    ensures names { KeepsBut (IsName (code_name script.now)) (F.contents files.old) (F.contents
-        files.new) }
-    ensures once { IsTrue F.tells → OnOk result (ReadsUnit (F.contents files.old) script.now
-        (F.reads files.old) (F.reads files.new)) }
-    ensures only { IfErr result StopsSource }
-{
-    match read_compiled(alloc, table, script, files, out) {
-        Err(status) => Err(status),
-        Ok(bytes) => write_code(alloc, script, bytes.as_slice(), files, out),
-    }
-}
-
-/// Compiles the script of this name under the header that a word names, and writes its file.
-#[tactic(auto, using(crate::proofs::Steps::steps, command_work::specs::KeepsLemmas::keeps_all), unfolding(crate::specs::Files::compiles))]
+/// Compiles the script of this name under the header that a word names, and writes its file. The
+/// header is read, unless it is the built-in one, and each file of the script's unit, once.
+#[tactic(auto, using(crate::proofs::Steps::steps, command_work::specs::KeepsLemmas::keeps_all), unfolding(crate::specs::Files::compiles, crate::specs::Files::compiles_under))]
 pub fn compile_file<F: Files, S: Sink>(
     alloc: Global,
     header: &str,
@@ -181,13 +146,15 @@ pub fn compile_file<F: Files, S: Sink>(
     ensures counts { TalliesOn F.counts S.faults result files.old out.old files.new out.new }
     ensures names { KeepsBut (IsName (code_name script.now)) (F.contents files.old) (F.contents
         files.new) }
-    // The header is read, unless it is the built-in one, and each file of the script's unit, once.
     ensures once { IsTrue F.tells → OnOk result (ReadsUnit (F.contents files.old) script.now
         (header_read header.now (F.reads files.old)) (F.reads files.new)) }
     ensures only { IfErr result StopsSource }
 {
     match read_table(alloc, header, files, out) {
         Err(status) => Err(status),
-        Ok(table) => compile_under(alloc, &table, script, files, out),
+        Ok(table) => match read_compiled(alloc, &table, script, files, out) {
+            Err(status) => Err(status),
+            Ok(bytes) => write_code(alloc, script, bytes.as_slice(), files, out),
+        },
     }
 }

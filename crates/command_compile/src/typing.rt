@@ -1,10 +1,7 @@
-ghost use Rattle.std.specs.Prelude.{◌≡◌, ◌≤◌, ℕ, IsTrue, IfErr, IfOk};
-ghost use Rattle.nwq_value.specs.Limits.{token_limit};
+ghost use Rattle.std.specs.Prelude.{◌≡◌, ℕ, IsTrue, IfErr, IfOk};
 ghost use Rattle.nss_tree.specs.Reading.{plain_tree};
-ghost use Rattle.nss_parser.specs.Sizes.{IsKnownTree};
 ghost use Rattle.typing_rules.specs.Meaning.{TypesUnit};
 ghost use Rattle.typing_rules.specs.UnitReading.{typed_unit};
-ghost use Rattle.nss_types.specs.Answers.{IsFaultOf};
 ghost use Rattle.typing_laws.specs.Laws.{HasCode};
 ghost use Rattle.command_work.specs.Counts.{Refusing};
 ghost use Rattle.command_work.specs.Calls.{TalliesPuts, DoesPuts};
@@ -14,13 +11,12 @@ ghost use Rattle.command_compile.specs.Typings.{cause_of, plain_typed_answer, ty
 use crate::script::TypedScript;
 use command_sources::{Script, refuse_token};
 use command_work::{Cause, Status};
-use nss_tree::Tree;
 use nss_types::{TypeFault, type_unit};
 use nwq_outside::Sink;
 use nwq_value::Table;
 use std::alloc::Global;
 use typing_laws::laws::typed_units_have_code;
-use typing_rules::{FaultKind, Typed};
+use typing_rules::FaultKind;
 
 fn cause_of(kind: FaultKind) -> Cause
     ensures { result ≡ cause_of kind }
@@ -38,19 +34,6 @@ fn cause_of(kind: FaultKind) -> Cause
         FaultKind::Cells => Cause::Cells,
         FaultKind::Entry => Cause::Entry,
     }
-}
-
-/// The typed unit of a tree, of which there is code.
-fn typed_of(alloc: Global, tree: Tree, table: &Table) -> Result<Typed, TypeFault>
-    requires known { IsKnownTree (plain_tree tree) }
-    requires few { (plain_tree tree).count ≤ token_limit }
-    ensures typed { IfOk result (λ t. TypesUnit table.now (plain_tree tree) (typed_unit t)) }
-    ensures code { IfOk result (λ t. HasCode (typed_unit t)) }
-    ensures fault { IfErr result (IsFaultOf table.now (plain_tree tree)) }
-{
-    table.keeps();
-    typed_units_have_code();
-    type_unit(alloc, tree, table)
 }
 
 /// The typed unit of a script under a header. A script that has none is refused at its least fault.
@@ -71,7 +54,9 @@ pub fn type_script<S: Sink>(
     ensures only { IfErr result (Refusing Status.Script) }
 {
     let Script { unit, tree } = script;
-    match typed_of(alloc, tree, table) {
+    table.keeps();
+    typed_units_have_code();
+    match type_unit(alloc, tree, table) {
         Ok(typed) => Ok(TypedScript { unit, typed }),
         Err(TypeFault::NoMemory) => Err(Status::Memory),
         Err(TypeFault::Fault(fault)) => {

@@ -1,5 +1,6 @@
 -- A tree of few bytes has few structs and fields, and one of more is too large for a file.
-use Rattle.std.proofs.Common.{◌≡◌, ◌≤◌, ◌<◌, ◌+◌, ◌-◌, ◌^◌, ℕ, zero, suc, min, true, false, List, [], ◌∷◌, ◌++◌, length, length-append, get_or, drop, drop-cons, add-one, Ok, Err, nat_lt, refl, sym, ap, subst, arith}
+use Rattle.std.proofs.Common.{◌≡◌, ◌≤◌, ◌<◌, ◌+◌, ◌-◌, ◌^◌, ℕ, zero, suc, min, true, false, List, [], ◌∷◌, ◌++◌, length, length-append, get_or, drop, drop-cons, add-one, Ok, Err, nat_lt, refl, sym}
+use Rattle.std.proofs.Common.{ap, subst, arith}
 use Rattle.std.proofs.lemmas.Bool.Decides.{nat_tests}
 use Rattle.nwq_value.specs.Limits.{file_limit}
 use Rattle.gff_tree.specs.declared.tree.Field.{Field}
@@ -9,7 +10,8 @@ use Rattle.gff_tree.specs.Whole.{PlainGff}
 use Rattle.gff_write.specs.declared.fault.WriteFault.TheVariants as fault
 use Rattle.gff_write.specs.declared.flat.Entry.{Entry}
 use Rattle.gff_write.specs.declared.flat.FlatStruct.{FlatStruct}
-use Rattle.gff_write.specs.Flat.{node_count, fields_count, leaf_count, nodes_count, rows_of, rows_below, list_rows, tree_limit}
+use Rattle.gff_tree.specs.Count.{node_count, fields_count, leaf_count, nodes_count}
+use Rattle.gff_write.specs.Flat.{rows_of, rows_below, list_rows, tree_limit}
 use Rattle.gff_write.specs.File.{field_count, outcome_of, written}
 use Rattle.gff_write.specs.Size.{node_bytes, fields_bytes, leaf_bytes, nodes_bytes}
 use Rattle.gff_write.proofs.FlatLemmas.{below_length, list_length}

@@ -6,7 +6,8 @@ use Rattle.gff_tree.specs.Tree.{PlainNode, PlainFields, PlainLeaf, PlainNodes, S
 use Rattle.gff_write.specs.declared.flat.Entry.{Entry}
 use Rattle.gff_write.specs.declared.flat.FlatStruct.{FlatStruct}
 use Rattle.gff_write.specs.File.{words_up}
-use Rattle.gff_write.specs.Flat.{word, node_count, fields_count, leaf_count, nodes_count, rows_of, rows_below, leaf_rows, list_rows, entries_from}
+use Rattle.gff_tree.specs.Count.{node_count, fields_count, leaf_count, nodes_count}
+use Rattle.gff_write.specs.Flat.{word, rows_of, rows_below, leaf_rows, list_rows, entries_from}
 
 mutual
   pub rows_length : (n : ℕ) (node : PlainNode) → length (rows_of n node) ≡ node_count node

@@ -11,7 +11,8 @@ use Rattle.gff_tree.specs.Label.{has_zero, label_text}
 use Rattle.gff_tree.specs.Tree.{PlainNode, PlainFields, PlainLeaf, PlainNodes, Struct, NoField, MoreFields, Holds, Child, Children, NoNode, MoreNodes}
 use Rattle.gff_write.specs.declared.flat.Entry.{Entry}
 use Rattle.gff_write.specs.declared.flat.FlatStruct.{FlatStruct}
-use Rattle.gff_write.specs.Flat.{padded, node_count, leaf_count, entries_from, rows_of, rows_below, leaf_rows, list_rows}
+use Rattle.gff_tree.specs.Count.{node_count, leaf_count}
+use Rattle.gff_write.specs.Flat.{padded, entries_from, rows_of, rows_below, leaf_rows, list_rows}
 use Rattle.gff_write.specs.File.{label_index, with_label, entry_labels, row_labels, joined}
 use Rattle.gff_write.specs.Laws.{IsLabel, IsNode, AreFields, IsLeaf, AreNodes}
 use Rattle.gff_write.proofs.PlaceLemmas.{At, front_at, next_at, moved, taken_at, low_is}

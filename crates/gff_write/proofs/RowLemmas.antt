@@ -17,7 +17,8 @@ use Rattle.gff_write.specs.declared.flat.Entry.{Entry}
 use Rattle.gff_write.specs.declared.flat.FlatStruct.{FlatStruct}
 use Rattle.gff_write.specs.Flat.{word}
 use Rattle.gff_write.specs.File as file
-use Rattle.gff_write.specs.File.{label_index, data_of, list_of, third_of, entry_bytes, entries_data, entries_lists, entries_bytes, rows_data, rows_lists, rows_fields, words_up, indices_of, second_of, rows_indices, rows_structs, field_count}
+use Rattle.gff_write.specs.File.{label_index, data_of, list_of, third_of, entry_bytes, entries_data, entries_lists, entries_bytes, rows_data, rows_lists, rows_fields, words_up, indices_of, second_of}
+use Rattle.gff_write.specs.File.{rows_indices, rows_structs, field_count}
 use Rattle.gff_write.proofs.SizeLemmas.{entry_length, row_length, up_length}
 use Rattle.gff_write.proofs.PlaceLemmas.{At, front_at, next_at, word_length, word_stands, words_stand, low_is}
 

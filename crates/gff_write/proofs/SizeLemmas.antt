@@ -7,8 +7,10 @@ use Rattle.gff_write.specs.declared.flat.Entry.{Entry}
 use Rattle.gff_tree.specs.Whole.{PlainGff}
 use Rattle.gff_write.specs.declared.flat.FlatStruct.{FlatStruct}
 use Rattle.gff_write.specs.declared.sections.Sections.{Sections}
-use Rattle.gff_write.specs.Flat.{word, scalar_content, leaf_content, numbers_from, node_count, leaf_count, entries_from, rows_of, rows_below, leaf_rows, list_rows}
-use Rattle.gff_write.specs.File.{joined, row_labels, data_of, list_of, label_index, third_of, entry_bytes, entries_data, entries_lists, entries_bytes, rows_data, rows_lists, rows_fields, words_up, indices_of, second_of, row_bytes, rows_indices, rows_structs, field_count, header_of, parts_of, written_rows, body_of, written}
+use Rattle.gff_tree.specs.Count.{node_count, leaf_count}
+use Rattle.gff_write.specs.Flat.{word, scalar_content, leaf_content, numbers_from, entries_from, rows_of, rows_below, leaf_rows, list_rows}
+use Rattle.gff_write.specs.File.{joined, row_labels, data_of, list_of, label_index, third_of, entry_bytes, entries_data, entries_lists, entries_bytes, rows_data, rows_lists, rows_fields, words_up}
+use Rattle.gff_write.specs.File.{indices_of, second_of, row_bytes, rows_indices, rows_structs, field_count, header_of, parts_of, written_rows, body_of, written}
 use Rattle.gff_write.proofs.PlaceLemmas.{word_length}
 use Rattle.gff_write.specs.Size.{capped, index_bytes, own_count, node_bytes, fields_bytes, leaf_bytes, nodes_bytes}
 

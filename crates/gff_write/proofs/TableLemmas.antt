@@ -3,7 +3,8 @@ use Rattle.std.proofs.Common.{◌≡◌, ℕ, ◌+◌, List, [], ◌∷◌, ◌+
 use Rattle.gff_tree.specs.Tree.{PlainNode, PlainFields, PlainLeaf, PlainNodes, Struct, NoField, MoreFields, Holds, Child, Children, NoNode, MoreNodes}
 use Rattle.gff_write.specs.declared.flat.FlatStruct.{FlatStruct}
 use Rattle.gff_write.specs.File.{with_label, entry_labels, row_labels}
-use Rattle.gff_write.specs.Flat.{padded, node_count, leaf_count, entries_from, rows_of, rows_below, leaf_rows, list_rows}
+use Rattle.gff_tree.specs.Count.{node_count, leaf_count}
+use Rattle.gff_write.specs.Flat.{padded, entries_from, rows_of, rows_below, leaf_rows, list_rows}
 use Rattle.gff_write.specs.Size.{own_labels, node_labels, labels_below, leaf_labels, list_labels, with_labels}
 
 entries_table : (table : List (List ℕ)) (n : ℕ) (fields : PlainFields) → entry_labels table (entries_from n fields) ≡ with_labels table (own_labels fields)

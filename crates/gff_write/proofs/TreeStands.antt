@@ -11,9 +11,11 @@ use Rattle.gff_read.specs.declared.kind.FieldKind.{FieldKind}
 use Rattle.gff_read.specs.declared.kind.FieldKind.TheVariants as kind
 use Rattle.gff_read.specs.Rows.{PlainShape, PlainRow, Value, One, Many, kinds, field_number}
 use Rattle.gff_read.specs.Stands.{ShapeStands, WordsStand, RowStands, RowsStand, NodesStand, LeafStands, FieldsStand, NodeStands}
-use Rattle.gff_tree.specs.Tree.{PlainNode, PlainFields, PlainLeaf, PlainNodes, Struct, NoField, MoreFields, Holds, Child, Children, NoNode, MoreNodes, differ_after, are_distinct, labels_of, is_sound_node, are_sound_fields, is_sound_leaf, are_sound_nodes}
+use Rattle.gff_tree.specs.Tree.{PlainNode, PlainFields, PlainLeaf, PlainNodes, Struct, NoField, MoreFields, Holds, Child, Children, NoNode, MoreNodes, differ_after, are_distinct, labels_of}
+use Rattle.gff_tree.specs.Tree.{is_sound_node, are_sound_fields, is_sound_leaf, are_sound_nodes}
 use Rattle.gff_write.specs.declared.flat.FlatStruct.{FlatStruct}
-use Rattle.gff_write.specs.Flat.{word, node_count, fields_count, leaf_count, nodes_count, padded, leaf_kind, leaf_content, numbers_from, entries_from, rows_of, rows_below, leaf_rows, list_rows}
+use Rattle.gff_tree.specs.Count.{node_count, fields_count, leaf_count, nodes_count}
+use Rattle.gff_write.specs.Flat.{word, padded, leaf_kind, leaf_content, numbers_from, entries_from, rows_of, rows_below, leaf_rows, list_rows}
 use Rattle.gff_write.specs.Laws.{IsLabel, IsNode, AreFields, IsLeaf, AreNodes}
 use Rattle.gff_write.proofs.FlatLemmas.{rows_length, leaf_length}
 use Rattle.gff_write.proofs.LabelStands.{padded_text}

@@ -13,7 +13,8 @@ use Rattle.gff_read.specs.Stands.{Stands, OneTree}
 use Rattle.nwq_value.specs.Limits.{file_limit}
 use Rattle.gff_write.specs.declared.fault.WriteFault.{WriteFault}
 use Rattle.gff_write.specs.declared.fault.WriteFault.TheVariants as fault
-use Rattle.gff_write.specs.Flat.{node_count, rows_of}
+use Rattle.gff_tree.specs.Count.{node_count}
+use Rattle.gff_write.specs.Flat.{rows_of}
 use Rattle.gff_write.specs.File.{row_labels, parts_of, header_of, body_of, field_count, written_rows, written, outcome_of, Gives}
 use Rattle.gff_write.specs.Laws.{IsTree, WrittenStands}
 use Rattle.gff_write.proofs.FlatLemmas.{rows_length}

@@ -6,30 +6,13 @@ use Rattle.std.specs.List.{flat_map}
 use Rattle.byteorder.specs.Endian.{little_bytes}
 use Rattle.gff_tree.specs.declared.tree.Loc.{Loc}
 use Rattle.gff_tree.specs.declared.tree.LocPart.{LocPart}
+use Rattle.gff_tree.specs.Count.{node_count, leaf_count}
 use Rattle.gff_tree.specs.Tree as tree
 use Rattle.gff_tree.specs.Tree.{Scalar, PlainNode, PlainFields, PlainLeaf, PlainNodes, Struct, NoField, MoreFields, Holds, Child, Children, NoNode, MoreNodes}
 use Rattle.gff_write.specs.declared.flat.Content.{Content}
 use Rattle.gff_write.specs.declared.flat.Content.TheVariants.{Small, Data, Number, Numbers}
 use Rattle.gff_write.specs.declared.flat.Entry.{Entry}
 use Rattle.gff_write.specs.declared.flat.FlatStruct.{FlatStruct}
-
--- how many structs there are
-abbrev mutual
-  pub node_count : PlainNode → ℕ
-  node_count (Struct kind fields) = 1 + fields_count fields
-
-  pub fields_count : PlainFields → ℕ
-  fields_count NoField = 0
-  fields_count (MoreFields label holds rest) = leaf_count holds + fields_count rest
-
-  pub leaf_count : PlainLeaf → ℕ
-  leaf_count (Holds scalar) = 0
-  leaf_count (Child node) = node_count node
-  leaf_count (Children nodes) = nodes_count nodes
-
-  pub nodes_count : PlainNodes → ℕ
-  nodes_count NoNode = 0
-  nodes_count (MoreNodes node rest) = node_count node + nodes_count rest
 
 -- No tree of more bytes is written: it is too large for a file, which its size alone tells.
 abbrev pub tree_limit : ℕ

@@ -2,7 +2,8 @@
 
 ghost use Rattle.std.specs.Prelude.{◌≡◌, ◌≤◌};
 ghost use Rattle.gff_tree.specs.Tree.{plain_node, plain_leaf};
-ghost use Rattle.gff_write.specs.Flat.{node_count, leaf_count, tree_limit};
+ghost use Rattle.gff_tree.specs.Count.{node_count, leaf_count};
+ghost use Rattle.gff_write.specs.Flat.{tree_limit};
 
 use gff_tree::{Leaf, Node, readings_tell};
 

@@ -7,7 +7,8 @@ ghost use Rattle.gff_write.specs.declared.flat.Content.TheVariants.{Data, Number
 ghost use Rattle.gff_write.specs.Flat.{word, wide, length_prefixed, named, part_bytes};
 ghost use Rattle.gff_write.specs.Flat.{localized_bytes};
 ghost use Rattle.gff_write.specs.Flat.{leaf_kind, leaf_content, numbers_from, padded, entries_from};
-ghost use Rattle.gff_write.specs.Flat.{fields_count, leaf_count, nodes_count, tree_limit};
+ghost use Rattle.gff_tree.specs.Count.{fields_count, leaf_count, nodes_count};
+ghost use Rattle.gff_write.specs.Flat.{tree_limit};
 
 use crate::count::{count_leaf, count_node};
 use crate::flat::{Content, Entry};

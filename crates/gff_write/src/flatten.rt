@@ -2,7 +2,8 @@
 
 ghost use Rattle.std.specs.Prelude.{◌≡◌, ◌≤◌, ◌+◌, ◌++◌, length, OnOk};
 ghost use Rattle.gff_tree.specs.Tree.{plain_node, plain_leaf};
-ghost use Rattle.gff_write.specs.Flat.{rows_of, leaf_rows, node_count, leaf_count, tree_limit};
+ghost use Rattle.gff_tree.specs.Count.{node_count, leaf_count};
+ghost use Rattle.gff_write.specs.Flat.{rows_of, leaf_rows, tree_limit};
 
 use crate::encode::put_fields;
 use crate::flat::FlatStruct;

@@ -4,7 +4,8 @@ ghost use Rattle.std.specs.Prelude.{◌≡◌, ◌≤◌, ◌++◌, [], length, 
 ghost use Rattle.gff_tree.specs.Whole.{PlainGff, plain_gff};
 ghost use Rattle.gff_read.specs.Stands.{Stands};
 ghost use Rattle.gff_tree.specs.Tree.{plain_node};
-ghost use Rattle.gff_write.specs.Flat.{node_count, rows_of, tree_limit};
+ghost use Rattle.gff_tree.specs.Count.{node_count};
+ghost use Rattle.gff_write.specs.Flat.{rows_of, tree_limit};
 ghost use Rattle.gff_write.specs.File.{Gives, field_count, row_labels, section_words, header_of};
 ghost use Rattle.gff_write.specs.File.{body_of, written_rows, written, outcome_of};
 ghost use Rattle.nwq_value.specs.Limits.{file_limit};

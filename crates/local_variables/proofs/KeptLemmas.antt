@@ -1,5 +1,6 @@
 -- What is found among an object's variables, put there, written and taken out.
-use Rattle.std.proofs.Common.{◌≡◌, if◌then◌else◌, ◌≤◌, ◌+◌, ◌==◌, ℕ, ℤ, zero, suc, Bool, true, false, not, ◌||◌, List, [], ◌∷◌, ◌++◌, filter, drop, length, slice_get, Option, None, Some, is_some, Result, Ok, Err, refl, sym, ap, subst, ◌∙◌, arith}
+use Rattle.std.proofs.Common.{◌≡◌, if◌then◌else◌, ◌≤◌, ◌+◌, ◌==◌, ℕ, ℤ, zero, suc, Bool, true, false, not, ◌||◌, List, [], ◌∷◌, ◌++◌, filter, drop, length, slice_get, Option, None, Some, is_some}
+use Rattle.std.proofs.Common.{Result, Ok, Err, refl, sym, ap, subst, ◌∙◌, arith}
 use Rattle.std.specs.List.{list_any, IsDistinct}
 use Rattle.std.specs.Option.{option_map, option_or}
 use Rattle.std.specs.Result.{OnOk}
@@ -229,7 +230,8 @@ text_becomes name text h e = by h.content e
 -- ---- what is read, and what a change leaves
 
 -- what is kept, seen from the other type
-pub turned : {is other : List ℕ → Variable → Bool} {next : ℕ} {es : List (ℕ × Held)} {stamps others : List (List ℕ × ℕ)} → AreKept is other next es stamps others → AreKept other is next es others stamps
+pub turned : {is other : List ℕ → Variable → Bool} {next : ℕ} {es : List (ℕ × Held)} {stamps others : List (List ℕ × ℕ)} → AreKept is other next es stamps others → AreKept other is next es
+    others stamps
 turned kept = record { under = kept.under; leads = kept.leads_other; leads_other = kept.leads; distinct = kept.distinct }
 
 -- what a change leaves: the facts, and the variables in their order
@@ -302,7 +304,8 @@ module _ {is other : List ℕ → Variable → Bool} (kind : IsKind is other) (n
       stands = sym (at ∙ kept.leads name)
 
       puts : seen (rewritten content s es) ≡ put v (seen es)
-      puts = seen_rewritten v content 0 s es (λ h here. becomes h (ap (λ (test : Variable → Bool). test (variable_in h)) same ∙ here)) up (ap (λ (test : Variable → Bool). stamp_of test es) (sym same) ∙ stands)
+      puts = seen_rewritten v content 0 s es (λ h here. becomes h (ap (λ (test : Variable → Bool). test (variable_in h)) same ∙ here)) up
+          (ap (λ (test : Variable → Bool). stamp_of test es) (sym same) ∙ stands)
 
   pub removed : {s : ℕ} {now : List (ℕ × Held)} {new : List (List ℕ × ℕ)} → Rise 0 es → Some s ≡ number_under name stamps → Puts name None stamps new → now ≡ without s es
       → Left is other next now new others (filter (λ v. not (is name v)) vars)

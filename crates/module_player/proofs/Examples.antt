@@ -60,14 +60,17 @@ played area limit = code_play host_here limit 10 60000 (begun area)
 
 -- the captured value is printed later
 played_trace : (area : PlainArea) → trace_text (played area 100).last.trace ≡ codes "0 #0 print 2\n1000 #0 print 1\n"
-unfolding code_runner host step act engine header_table header_routines role_without_row op_at cell_count depth_of range_of range_at is_callable type_of_one type_of_both value_eq cells_after ty_eq tys_eq trace_text line_text digits escaped spelling value_text
+unfolding code_runner host step act engine header_table header_routines role_without_row op_at cell_count depth_of range_of range_at is_callable type_of_one type_of_both value_eq cells_after
+    ty_eq tys_eq trace_text line_text digits escaped spelling value_text
 played_trace area = refl
 
 played_end : (area : PlainArea) → code_end_text scripts (played area 100) ≡ codes "end done clock 1000 entries 2 instructions 17\n"
-unfolding code_runner host step act engine header_table header_routines role_without_row op_at cell_count depth_of range_of range_at is_callable type_of_one type_of_both value_eq cells_after ty_eq tys_eq end_text world_text digits escaped spelling value_text
+unfolding code_runner host step act engine header_table header_routines role_without_row op_at cell_count depth_of range_of range_at is_callable type_of_one type_of_both value_eq cells_after
+    ty_eq tys_eq end_text world_text digits escaped spelling value_text
 played_end area = refl
 
 -- the first entry takes 14 instructions; with fewer it is stopped before the state is stored
 stopped_end : (area : PlainArea) → code_end_text scripts (played area 5) ≡ codes "end instructions clock 0 entries 1 instructions 5\n"
-unfolding code_runner host step act engine header_table header_routines role_without_row op_at cell_count depth_of range_of range_at is_callable type_of_one type_of_both value_eq cells_after ty_eq tys_eq end_text world_text digits escaped spelling value_text
+unfolding code_runner host step act engine header_table header_routines role_without_row op_at cell_count depth_of range_of range_at is_callable type_of_one type_of_both value_eq cells_after
+    ty_eq tys_eq end_text world_text digits escaped spelling value_text
 stopped_end area = refl

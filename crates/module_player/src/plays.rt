@@ -178,7 +178,8 @@ pub fn play<S: Sink>(
 ) -> Played
     requires world { MayPlay (seen setting.now) world.old.world }
     // How the play ends, after how many entries and instructions, and in which world.
-    ensures ending { EndsAs result.how (played_in (seen setting.now) limits world.old.world).ending }
+    ensures ending { EndsAs result.how
+        (played_in (seen setting.now) limits world.old.world).ending }
     ensures entries { WherePlayed result.how (result.entries ≡ (played_in (seen setting.now) limits
         world.old.world).last.entries) }
     ensures instructions { WherePlayed result.how (result.instructions ≡ (played_in

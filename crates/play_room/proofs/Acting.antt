@@ -26,7 +26,8 @@ use Rattle.stack_shape.specs.Calls.{is_action, is_callable}
 use Rattle.machine_rules.specs.Frames.{Frame}
 use Rattle.machine_rules.specs.Cells.{values_on, zero_on_top}
 use Rattle.machine_rules.specs.Calls.{Taken, with_value, with_action, value_taken, action_taken, taken, arguments, is_execute_script}
-use Rattle.machine_rules.specs.Act.{Act, Moves, Asks, Executes, Returns, Divides, act, moved, returned, restored, stored, stored_cells, executed, asked, behind_call, engine_called, is_division, place_after, next_place, cells_after}
+use Rattle.machine_rules.specs.Act.{Act, Moves, Asks, Executes, Returns, Divides, act, moved, returned, restored, stored, stored_cells, executed, asked, behind_call, engine_called, is_division}
+use Rattle.machine_rules.specs.Act.{place_after, next_place, cells_after}
 use Rattle.state_format.specs.Parts.{IsMaybe, IsNumber}
 use Rattle.play_room.specs.Room.{CellHasRoom, SavedHasRoom}
 use Rattle.play_room.specs.Kept.{StackedHasRoom, ActionHasRoom}

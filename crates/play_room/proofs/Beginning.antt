@@ -13,7 +13,8 @@ use Rattle.gff_tree.specs.Count.{node_count, fields_count, leaf_count, nodes_cou
 use Rattle.gff_read.specs.Laws.{TreesAreFew}
 use Rattle.gff_read.specs.Stands.{Stands}
 use Rattle.local_variables.specs.Variables.{Variable}
-use Rattle.area_rules.specs.Objects.{Script, Entry, Broken, Unread, Tells, structs_in, dword_in, int_in, string_in, int_entry, text_entry, typed_entry, entry_of, with_entry, variables_in, tag_in, with_script, scripts_in, object_of, list_labels, objects_under, objects_of}
+use Rattle.area_rules.specs.Objects.{Script, Entry, Broken, Unread, Tells, structs_in, dword_in, int_in, string_in, int_entry, text_entry, typed_entry, entry_of, with_entry, variables_in, tag_in}
+use Rattle.area_rules.specs.Objects.{with_script, scripts_in, object_of, list_labels, objects_under, objects_of}
 use Rattle.area_rules.specs.Area.{PlainArea, area_of, object, by_tag}
 use Rattle.plan_text.specs.declared.plan.Line.{Line}
 use Rattle.plan_text.specs.declared.plan.Line.TheVariants.{Event, Start, Free}

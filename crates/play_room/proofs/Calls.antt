@@ -25,15 +25,20 @@ use Rattle.world_rules.specs.Pure.{CellLookup, absolute, leading_number, string_
 use Rattle.world_rules.specs.World.{World, is_valid, queue_of, effects_of}
 use Rattle.world_rules.specs.Changes.{told, post, later, with_actions, with_busy, with_action, with_effects, with_variables, has_turn, without_turn, without_first, is_effect}
 use Rattle.world_rules.specs.AlikeLaws.{call}
-use Rattle.world_rules.specs.Rows.{Call, Answered, drawn, drawn_from, assigned, delayed, awake, appended, appended_do, at_rest, cleared, read, changed_variables, applied, applied_to, removed, name_or, event_script, signalled, argument, NewItem, TheAction, AWait, ASpeech, queued, VariableChange, SetInt, SetText, DeleteInt, DeleteText, varied, Print, Say, Draw, Assign, Delay, Queue, Clear, Vary, Apply, Remove, Signal, IntField, LocalInt, int_field, TextField, Tag, LocalText, text_field, Answer, Nothing, Random, ByTag, IsThere, IntOf, TextOf, EventOf, UserNumber, answer}
+use Rattle.world_rules.specs.Rows.{Call, Answered, drawn, drawn_from, assigned, delayed, awake, appended, appended_do, at_rest, cleared, read, changed_variables, applied, applied_to, removed, name_or}
+use Rattle.world_rules.specs.Rows.{event_script, signalled, argument, NewItem, TheAction, AWait, ASpeech, queued, VariableChange, SetInt, SetText, DeleteInt, DeleteText, varied, Print, Say, Draw}
+use Rattle.world_rules.specs.Rows.{Assign, Delay, Queue, Clear, Vary, Apply, Remove, Signal, IntField, LocalInt, int_field, TextField, Tag, LocalText, text_field, Answer, Nothing, Random, ByTag}
+use Rattle.world_rules.specs.Rows.{IsThere, IntOf, TextOf, EventOf, UserNumber, answer}
 use Rattle.world_rules.specs.Engine.{world_value}
 use Rattle.world_rules.specs.RowLaws.{EachKeeps, engine_keeps, engine_answers}
 use Rattle.play_room.specs.Room.{IsText, EffectHasRoom, ValueHasRoom, VariableHasRoom, ItemHasRoom}
 use Rattle.play_room.specs.Kept.{CellsAreBytes, MaybeValueHasRoom, ActionHasRoom, StoodIsKept, ObjectIsKept, WorldIsKept}
 use Rattle.play_room.proofs.Keeps.{CallsKeepValues}
 use Rattle.play_room.proofs.Lists.{all_filter, some_of, mapped, either}
-use Rattle.play_room.proofs.Texts.{first_bytes, last_bytes, joined_bytes, cut_text, no_text, signed_bytes, hex_string_bytes, small_fits, zero_fits, bits_fit, test_fits, int_fits, text_fits, object_fits, effect_fits, event_fits, ints_fit}
-use Rattle.play_room.proofs.Changes.{told_kept, post_kept, without_turn_kept, stood_of, actions_kept, busy_kept, action_kept, effects_kept, lasting_kept, passing_kept, fewer_kept, variables_kept, put_keeps, object_kept, named_text, read_int, read_text, tag_number}
+use Rattle.play_room.proofs.Texts.{first_bytes, last_bytes, joined_bytes, cut_text, no_text, signed_bytes, hex_string_bytes, small_fits, zero_fits, bits_fit, test_fits, int_fits, text_fits}
+use Rattle.play_room.proofs.Texts.{object_fits, effect_fits, event_fits, ints_fit}
+use Rattle.play_room.proofs.Changes.{told_kept, post_kept, without_turn_kept, stood_of, actions_kept, busy_kept, action_kept, effects_kept, lasting_kept, passing_kept, fewer_kept, variables_kept}
+use Rattle.play_room.proofs.Changes.{put_keeps, object_kept, named_text, read_int, read_text, tag_number}
 
 -- a value that has room, where there is one, and a world that is kept
 abbrev IsKeptAnswer : Answered Saved → Type 0

@@ -10,7 +10,8 @@ use Rattle.nwq_value.specs.declared.value.Value.{Value}
 use Rattle.nwq_value.specs.declared.value.Value.TheVariants.{Int, Text, Object, Effect, Event}
 use Rattle.nwq_value.specs.Roles.{tys_eq}
 use Rattle.nwq_value.specs.Values.{start_value}
-use Rattle.nwq_value.specs.Operators.{both, either as either_of, negation, bits_and, bits_or, bits_xor, complement, shift_left, shift_right, shift_right_unsigned, shift_count, sum, difference, product, quotient, remainder, opposite, less, less_or_equal, greater, greater_or_equal, joined_texts}
+use Rattle.nwq_value.specs.Operators.{both, either as either_of, negation, bits_and, bits_or, bits_xor, complement, shift_left, shift_right, shift_right_unsigned, shift_count, sum, difference}
+use Rattle.nwq_value.specs.Operators.{product, quotient, remainder, opposite, less, less_or_equal, greater, greater_or_equal, joined_texts}
 use Rattle.ncs_code.specs.Plain.{PlainLit, PlainOp}
 use Rattle.ncs_code.specs.Plain as ops
 use Rattle.ncs_code.specs.Spelling.{Fits, LitFits}
@@ -21,7 +22,8 @@ use Rattle.stack_shape.specs.declared.range.CellRange.{CellRange}
 use Rattle.stack_shape.specs.Ranges.{cell_count, depth_of, range_at}
 use Rattle.stack_shape.specs.StackEffects.{type_of_both, type_of_one}
 use Rattle.machine_rules.specs.Values.{literal_value, starting_value}
-use Rattle.machine_rules.specs.Cells.{values_on, values_at, value_types, with_values, overwritten, on_int, on_text, of_int, of_ints, of_texts, value_pushed, range_pushed, values_written, range_written, int_written, int_changed, values_dropped, values_kept, range_kept, runs_eq, runs_compared, pair_eq, pair_compared}
+use Rattle.machine_rules.specs.Cells.{values_on, values_at, value_types, with_values, overwritten, on_int, on_text, of_int, of_ints, of_texts, value_pushed, range_pushed, values_written}
+use Rattle.machine_rules.specs.Cells.{range_written, int_written, int_changed, values_dropped, values_kept, range_kept, runs_eq, runs_compared, pair_eq, pair_compared}
 use Rattle.machine_rules.specs.Act.{if_ints, compared, added, int_dropped, one_more, one_less, bp_range, cells_after}
 use Rattle.state_format.specs.Parts.{IsMaybe, IsNumber, IsSigned, AreStateBytes}
 use Rattle.play_room.specs.Room.{IsText, ValueHasRoom}

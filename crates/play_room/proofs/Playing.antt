@@ -14,7 +14,8 @@ use Rattle.world_rules.specs.Pure.{CellLookup}
 use Rattle.world_rules.specs.World.{World}
 use Rattle.world_rules.specs.Turns.{Begun, begin, turn, turn_done, fault}
 use Rattle.world_rules.specs.Plays as plays
-use Rattle.world_rules.specs.Plays.{Ending, Over, Divided, Stopped, Bounds, Progress, Played, Run, Entered, entry_entered, entered_as, event_entry, turn_entry, named_entry, finished_as, further, after_entry, next_entry, full}
+use Rattle.world_rules.specs.Plays.{Ending, Over, Divided, Stopped, Bounds, Progress, Played, Run, Entered, entry_entered, entered_as, event_entry, turn_entry, named_entry, finished_as, further}
+use Rattle.world_rules.specs.Plays.{after_entry, next_entry, full}
 use Rattle.ncs_machine.specs.Host.{EngineView, host}
 use Rattle.module_player.specs.CodePlays.{code_runner, code_play_on, run_of, played_before}
 use Rattle.state_format.specs.Parts.{IsNumber}

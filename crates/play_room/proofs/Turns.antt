@@ -16,7 +16,8 @@ use Rattle.world_rules.specs.Changes.{told, later, with_actions, with_effects, w
 use Rattle.world_rules.specs.Turns.{Begun, user_number, with_entries, entry_begun, next_turn, turned, expired}
 use Rattle.play_room.specs.Room.{ItemHasRoom, KindHasRoom}
 use Rattle.play_room.specs.Kept.{ActionHasRoom, StoodIsKept, EntryIsKept, WorldIsKept}
-use Rattle.play_room.proofs.Keeps.{NoScriptKeepsValues, TooDeepKeepsValues, BegunIsKept, BeginKeepsValues, TurnKeepsValues, TurnDoneKeepsValues, FaultKeepsValues, UnapplyKeepsValues, DrainedKeepsValues}
+use Rattle.play_room.proofs.Keeps.{NoScriptKeepsValues, TooDeepKeepsValues, BegunIsKept, BeginKeepsValues, TurnKeepsValues, TurnDoneKeepsValues, FaultKeepsValues, UnapplyKeepsValues}
+use Rattle.play_room.proofs.Keeps.{DrainedKeepsValues}
 use Rattle.play_room.proofs.Texts.{zero_fits}
 use Rattle.play_room.proofs.Changes.{told_kept, post_kept, items_of, stood_of, actions_kept, busy_kept, effects_kept, fewer_kept}
 

@@ -21,10 +21,14 @@ use Rattle.typing_rules.specs.Typed as typed
 use Rattle.typing_rules.specs.Nodes.{asked, at, first_kind, row, only, no_row, ruled, two, three, four, present_if}
 use Rattle.typing_rules.specs.Sight.{Called, Labels, Meaning, Is, IsRefused, IsMissing, Sight, Structure, cells, cells_if, crosses_with, is_taken, value_type}
 use Rattle.typing_rules.specs.Rules as rules
-use Rattle.typing_rules.specs.Rules.{all_taken, binary_rows, binary_rule, call_rows, call_rule, case_rows, case_rule, constant_name_rows, constant_name_rule, constant_rows, ConstantMeant, constant_type, default_fits, filled, filled_call, for_rows, for_rule, if_else_rows, if_else_rule, if_rows, if_rule, is_again, is_barred, is_behind, is_outside, line_rows, member_rows, member_rule, name_rows, parameter_mismatch, parameter_rows, parameter_rule, postfix_rows, postfix_rule, prefix_rows, prefix_rule, assign_rows, assign_rule, return_rows, return_rule, do_rows, do_rule, while_rule, switch_rows, switch_rule, takes, value_fits, variable_rows, variable_rule, when}
+use Rattle.typing_rules.specs.Rules.{all_taken, binary_rows, binary_rule, call_rows, call_rule, case_rows, case_rule, constant_name_rows, constant_name_rule, constant_rows, ConstantMeant}
+use Rattle.typing_rules.specs.Rules.{constant_type, default_fits, filled, filled_call, for_rows, for_rule, if_else_rows, if_else_rule, if_rows, if_rule, is_again, is_barred, is_behind, is_outside}
+use Rattle.typing_rules.specs.Rules.{line_rows, member_rows, member_rule, name_rows, parameter_mismatch, parameter_rows, parameter_rule, postfix_rows, postfix_rule, prefix_rows, prefix_rule}
+use Rattle.typing_rules.specs.Rules.{assign_rows, assign_rule, return_rows, return_rule, do_rows, do_rule, while_rule, switch_rows, switch_rule, takes, value_fits, variable_rows, variable_rule, when}
 use Rattle.nss_reasons.specs.declared.reason.Reason.TheVariants as why
 use Rattle.nss_reasons.specs.Seen.{Node, own}
-use Rattle.nss_reasons.specs.Why.{assign_reason, because, call_why, case_reason, condition_reason, condition_rule, const_type_there, constant_reason, counts, default_by, line_reason, member_reason, operands, parameter_reason, postfix_reason, prefix_reason, return_reason, step_reason, unless, untaken, value_reason, variable_reason}
+use Rattle.nss_reasons.specs.Why.{assign_reason, because, call_why, case_reason, condition_reason, condition_rule, const_type_there, constant_reason, counts, default_by, line_reason, member_reason}
+use Rattle.nss_reasons.specs.Why.{operands, parameter_reason, postfix_reason, prefix_reason, return_reason, step_reason, unless, untaken, value_reason, variable_reason}
 use Rattle.reason_laws.specs.Laws.{Tells, is_joined, kind_of}
 use Rattle.reason_laws.proofs.Told.{Each, Fitting, each_none, each_other, each_tested, each_wrong}
 
@@ -66,7 +70,8 @@ untaken_told n no_typed ps ks full not_taken = absurd (true≢false not_taken)
 untaken_told n (more_typed x xs) [] ks full not_taken = absurd (true≢false (ap is_none full))
 untaken_told n (more_typed x xs) (p ∷ ps) ks full not_taken = by (untaken_told (n + 1) xs ps ks full) (takes p.ty x) not_taken
   where
-    by : (all_taken xs ps ≡ false → Tells (untaken (n + 1) xs ps) Mismatch) → (b : Bool) → (b && all_taken xs ps) ≡ false → Tells (if b then untaken (n + 1) xs ps else Some (why.Argument (n + 1) (type_of x) p.ty)) Mismatch
+    by : (all_taken xs ps ≡ false → Tells (untaken (n + 1) xs ps) Mismatch) → (b : Bool) → (b && all_taken xs ps) ≡ false → Tells
+        (if b then untaken (n + 1) xs ps else Some (why.Argument (n + 1) (type_of x) p.ty)) Mismatch
     by rest true more = rest more
     by rest false more = record { reason = why.Argument (n + 1) (type_of x) p.ty; is = refl; kind = refl }
 
@@ -136,7 +141,8 @@ default_kind crosses t (Some k) joined = by (same_type t (const_type k)) crosses
 
 module _ (t : Ty) (v : Option Const) (crosses : Option Ty → Bool) where
   parameter_kind : (taken behind void : Bool)
-      → is_joined (first_kind (row Redeclared taken (row Arity behind (row Mismatch (parameter_mismatch v (if void then None else Some t)) (row fault.Cells (crosses (if void then None else Some t)) no_row))))) ≡ true
+      → is_joined (first_kind (row Redeclared taken (row Arity behind (row Mismatch (parameter_mismatch v (if void then None else Some t))
+      (row fault.Cells (crosses (if void then None else Some t)) no_row))))) ≡ true
       → kind_of (if taken then why.Taken else (if behind then why.NoDefault else (if void then why.NoVariable t else default_by t (const_type_there v))))
       ≡ first_kind (row Redeclared taken (row Arity behind (row Mismatch (parameter_mismatch v (if void then None else Some t)) (row fault.Cells (crosses (if void then None else Some t)) no_row))))
   parameter_kind true behind void joined = refl

@@ -14,7 +14,8 @@ use Rattle.typing_rules.specs.Sight.{Head, Sight, Structure}
 use Rattle.nss_reasons.specs.declared.reason.Reason.{Reason}
 use Rattle.nss_reasons.specs.Reasons.{all_nodes, fields_nodes, item_nodes, items_nodes, names_nodes, nodes, nodes_there, params_nodes, stmt_nodes, stmts_nodes, value_nodes, variable_why}
 use Rattle.nss_reasons.specs.Seen.{own}
-use Rattle.reason_laws.proofs.Counting.{Within, within_alone, within_before, within_behind, within_condition, within_crossed, within_infix, within_join, within_node, within_none, within_own, within_skip, within_suffix, within_tested}
+use Rattle.reason_laws.proofs.Counting.{Within, within_alone, within_before, within_behind, within_condition, within_crossed, within_infix, within_join, within_node, within_none, within_own}
+use Rattle.reason_laws.proofs.Counting.{within_skip, within_suffix, within_tested}
 
 mutual
   within_expression : {x : PlainExpr} {xs : List Numbered} (hs : List Head) (c : Sight) (b : Bool) → Expression x xs → Within (nodes hs c b x) xs

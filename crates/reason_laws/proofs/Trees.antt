@@ -9,20 +9,26 @@ use Rattle.nss_tree.specs.declared.units.Identifier.{Identifier}
 use Rattle.nss_tree.specs.Source.{SourceDeclared, SourceItem, SourceItems, SourceLine, SourceParameter, SourceStmt, SourceStmts}
 use Rattle.nss_tree.specs.Places.{token_of}
 use Rattle.nss_tree.specs.Expressions.{PlainExpr, PlainExprs, int, float, text, object_self, object_invalid, name, call, member, prefix, postfix, binary, assign, no_expr, more_exprs}
-use Rattle.nss_tree.specs.Statements.{block, empty, expression, if_only, if_else, while_loop, do_loop, for_loop, switch, break_off, continue_on, return_from, declaration, case_label, default_label, no_stmt, more_stmts}
+use Rattle.nss_tree.specs.Statements.{block, empty, expression, if_only, if_else, while_loop, do_loop, for_loop, switch, break_off, continue_on, return_from, declaration, case_label, default_label}
+use Rattle.nss_tree.specs.Statements.{no_stmt, more_stmts}
 use Rattle.nss_tree.specs.Units.{structure, constant, global, function}
 use Rattle.typing_rules.specs.declared.fault.Fault.{Fault}
 use Rattle.typing_rules.specs.Nodes.{asked, at, faults_there, fine, if_there, no_parts, three, two}
 use Rattle.typing_rules.specs.Sight.{Head, Sight, Structure, callee, cells, declared, first_types, inside, looped, name_means, scope_entered, switched, type_means, value_type, wanted}
 use Rattle.typing_rules.specs.Rules as rules
 use Rattle.typing_rules.specs.Rules.{others, takes_action}
-use Rattle.typing_rules.specs.Verdicts.{after, after_item, after_line, after_then, all_faults, all_fine, body_faults, body_fine, constant_faults, constant_value, faults, field_added, fields_faults, head_verdict, in_body, in_function, item_faults, items_faults, late_after, line_type, lines_faults, lines_fine, names_faults, parameter_declared, params_faults, params_fine, stmt_faults, stmt_verdict, stmts_faults, stmts_fine, value, value_faults, verdict, constant_parts}
+use Rattle.typing_rules.specs.Verdicts.{after, after_item, after_line, after_then, all_faults, all_fine, body_faults, body_fine, constant_faults, constant_value, faults, field_added, fields_faults}
+use Rattle.typing_rules.specs.Verdicts.{head_verdict, in_body, in_function, item_faults, items_faults, late_after, line_type, lines_faults, lines_fine, names_faults, parameter_declared, params_faults}
+use Rattle.typing_rules.specs.Verdicts.{params_fine, stmt_faults, stmt_verdict, stmts_faults, stmts_fine, value, value_faults, verdict, constant_parts}
 use Rattle.nss_reasons.specs.Reasons.{all_nodes, fields_nodes, item_nodes, items_nodes, line_nodes, names_nodes, nodes, nodes_there, params_nodes, stmt_nodes, stmts_nodes, value_nodes}
 use Rattle.nss_reasons.specs.Seen.{Node, own}
 use Rattle.nss_reasons.specs.declared.reason.Reason.TheVariants as why
-use Rattle.nss_reasons.specs.Why.{assign_reason, case_reason, constant_reason, line_reason, line_why, member_reason, operands, parameter_reason, postfix_reason, prefix_reason, return_reason, variable_reason}
+use Rattle.nss_reasons.specs.Why.{assign_reason, case_reason, constant_reason, line_reason, line_why, member_reason, operands, parameter_reason, postfix_reason, prefix_reason, return_reason}
+use Rattle.nss_reasons.specs.Why.{variable_reason}
 use Rattle.reason_laws.proofs.Told.{Each, each_asked, each_both, each_join, each_left, each_none, each_right, each_silent}
-use Rattle.reason_laws.proofs.Fitting.{assign_fits, binary_fits, case_fits, constant_fits, constant_line_fits, constant_other, default_other, each_call, each_do, each_endless, each_for, each_if, each_if_else, each_switch, each_while, head_other, line_fits, member_fits, name_other, parameter_fits, postfix_fits, prefix_fits, redeclared_other, return_fits, variable_fits}
+use Rattle.reason_laws.proofs.Fitting.{assign_fits, binary_fits, case_fits, constant_fits, constant_line_fits, constant_other, default_other, each_call, each_do, each_endless, each_for, each_if}
+use Rattle.reason_laws.proofs.Fitting.{each_if_else, each_switch, each_while, head_other, line_fits, member_fits, name_other, parameter_fits, postfix_fits, prefix_fits, redeclared_other, return_fits}
+use Rattle.reason_laws.proofs.Fitting.{variable_fits}
 
 -- faults of one part or of another, each with its nodes, and then the node's own
 each_pair : {fs gs hs : List Fault} {xs ys zs : List Node} → Each fs xs → Each gs ys → Each hs zs → Each ((fs ++ gs) ++ hs) (xs ++ (ys ++ zs))

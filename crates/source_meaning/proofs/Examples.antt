@@ -24,7 +24,8 @@ use Rattle.world_rules.specs.Engine.{engine}
 use Rattle.world_rules.specs.Trace.{line_text, trace_text}
 use Rattle.world_rules.specs.Plays.{Done, StoppedInside}
 use Rattle.source_meaning.specs.Evaluation.{bind, spend}
-use Rattle.source_meaning.proofs.Trees.{stmts, int, text, local, global, two, assign, routine, function_call, print, print_string, delay, execute, execute_here, does, sets, declare, param, global_of, function, unit_of, only_main, listed, creature, played, alone, printed}
+use Rattle.source_meaning.proofs.Trees.{stmts, int, text, local, global, two, assign, routine, function_call, print, print_string, delay, execute, execute_here, does, sets, declare, param, global_of}
+use Rattle.source_meaning.proofs.Trees.{function, unit_of, only_main, listed, creature, played, alone, printed}
 
 -- void main() { PrintInteger(2+3); }
 abbrev sum : TypedUnit

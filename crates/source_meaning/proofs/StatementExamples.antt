@@ -27,7 +27,8 @@ use Rattle.source_meaning.specs.Evaluation.{Deferred, Outcome, Gives, Divides, O
 use Rattle.source_meaning.specs.Expressions.{Running}
 use Rattle.source_meaning.specs.Statements.{Flow, exec}
 use Rattle.source_meaning.specs.Scripts.{no_functions}
-use Rattle.source_meaning.proofs.Trees.{stmts, int, local, global, two, assign, function_call, print, delay, execute_here, does, sets, declare, global_of, function, unit_of, only_main, listed, played, alone, printed, here, begun}
+use Rattle.source_meaning.proofs.Trees.{stmts, int, local, global, two, assign, function_call, print, delay, execute_here, does, sets, declare, global_of, function, unit_of, only_main, listed, played}
+use Rattle.source_meaning.proofs.Trees.{alone, printed, here, begun}
 
 abbrev count_up : TypedExpr
 count_up = e.postfix t.Int post.Increment (local 0)

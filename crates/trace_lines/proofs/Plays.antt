@@ -14,7 +14,8 @@ use Rattle.world_rules.specs.declared.data.Told.TheVariants as line
 use Rattle.world_rules.specs.World.{World, queue_of, effects_of}
 use Rattle.world_rules.specs.Changes.{told, with_actions, with_effects, without_first, is_numbered}
 use Rattle.world_rules.specs.Turns.{Planned, with_planned, still, new_world, user_number, Begun, with_entries, entry_begun, begin, next_turn, turn_done, turned, turn, expired, fault}
-use Rattle.world_rules.specs.Plays.{Ending, Over, Divided, Stopped, Run, Runner, Entered, finished_as, named_entry, event_entry, turn_entry, entered_as, entry_entered, Progress, further, Played, Bounds, full, after_entry, next_entry, plays, unplayed}
+use Rattle.world_rules.specs.Plays.{Ending, Over, Divided, Stopped, Run, Runner, Entered, finished_as, named_entry, event_entry, turn_entry, entered_as, entry_entered, Progress, further, Played}
+use Rattle.world_rules.specs.Plays.{Bounds, full, after_entry, next_entry, plays, unplayed}
 use Rattle.ncs_machine.specs.Host.{EngineView, host}
 use Rattle.module_player.specs.CodePlays.{code_runner, code_play}
 use Rattle.trace_lines.specs.Lines.{ArePlain, HasPlainNames}

@@ -18,9 +18,11 @@ use Rattle.nss_tree.specs.Source.{SourceLine, SourceParameter}
 use Rattle.nss_tree.specs.Counts.{one_if}
 use Rattle.typing_rules.specs.Nodes.{fine, two, if_there, present_if}
 use Rattle.typing_rules.specs.Typed.{TypedLine, TypedParameter}
-use Rattle.typing_rules.specs.Sight.{Members, Structure, Sight, Meant, type_means, value_type, declared_type, cells, cells_if, cells_of_members, counted_to_limit, crosses, cell_limit, crosses_with, is_taken}
+use Rattle.typing_rules.specs.Sight.{Members, Structure, Sight, Meant, type_means, value_type, declared_type, cells, cells_if, cells_of_members, counted_to_limit, crosses, cell_limit, crosses_with}
+use Rattle.typing_rules.specs.Sight.{is_taken}
 use Rattle.typing_rules.specs.Rules.{Fields, is_among, fields_with, crosses_fields, field_rule, field_rows, default_fits, is_behind, parameter_of, parameter_rule, parameter_rows, params_of}
-use Rattle.typing_rules.specs.Verdicts.{line_type, constant_value, field_added, field_verdict, after_fields, fields_fine, line_of, line_fine, after_line, lines_fine, members_of_line, members_of_lines, parameter_verdict, parameter_declared, late_after, params_fine}
+use Rattle.typing_rules.specs.Verdicts.{line_type, constant_value, field_added, field_verdict, after_fields, fields_fine, line_of, line_fine, after_line, lines_fine, members_of_line, members_of_lines}
+use Rattle.typing_rules.specs.Verdicts.{parameter_verdict, parameter_declared, late_after, params_fine}
 use Rattle.typing_rules.specs.Cells.{Structs, cell_types, line_cells}
 use Rattle.emission_rules.specs.Bounds.{IsCell}
 use Rattle.emission_rules.specs.Layout.{params_cells}

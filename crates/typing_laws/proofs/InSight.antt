@@ -18,7 +18,8 @@ use Rattle.nss_tree.specs.declared.constants.TypeName.TheVariants as word
 use Rattle.nss_tree.specs.Source.{SourceDeclared, SourceStmt, SourceParameter}
 use Rattle.nss_tree.specs.Statements as stmt
 use Rattle.typing_rules.specs.Types.{is_void}
-use Rattle.typing_rules.specs.Sight.{Meaning, variable, constant, Entry, Member, Members, Structure, Sight, Meant, IsRefused, IsMissing, Is, find_from, find, entry_means, name_means, struct_means, is_of_struct, type_means, value_type, any_type, declared_type, variable_of, declared}
+use Rattle.typing_rules.specs.Sight.{Meaning, variable, constant, Entry, Member, Members, Structure, Sight, Meant, IsRefused, IsMissing, Is, find_from, find, entry_means, name_means, struct_means}
+use Rattle.typing_rules.specs.Sight.{is_of_struct, type_means, value_type, any_type, declared_type, variable_of, declared}
 use Rattle.typing_rules.specs.Rules.{ConstantMeant, Value, IsFloat, NoName, NoConstant, constant_means, constant_rule, constant_rows, constant_named as as_constant, line_rows}
 use Rattle.typing_rules.specs.Verdicts.{line_type, constant_value, after_names, after, parameter_declared, after_params}
 use Rattle.nss_parser.specs.Sizes.{IsKnownConstant}

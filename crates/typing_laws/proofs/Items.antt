@@ -15,8 +15,11 @@ use Rattle.typing_rules.specs.Types.{same_type}
 use Rattle.typing_rules.specs.Nodes.{fine, two, three, present_if, absent, present}
 use Rattle.typing_rules.specs.Typed.{TypedStmts, TypedLine, TypedParameter, TypedItem}
 use Rattle.typing_rules.specs.Sight.{Structure, Head, Sight, cells_of_members, is_taken, has_struct, type_means, any_type, first_types, callee, declared}
-use Rattle.typing_rules.specs.Rules.{no_fields, struct_rule, struct_rows, constant_name_rule, constant_name_rows, TypedHead, signature_of, may_declare, head_of, head_rule, head_rows, gives, function_rule, function_rows}
-use Rattle.typing_rules.specs.Verdicts.{line_type, constant_line_verdict, constant_value, after_names, names_fine, stmts_fine, lines_fine, struct_verdict, struct_members, no_members, params_fine, in_function, in_body, head_verdict, head, body_fine, constant_parts, constant_name_verdict, constant_item, global_item, constant_meaning, after_item, after_items, item_fine, items_fine}
+use Rattle.typing_rules.specs.Rules.{no_fields, struct_rule, struct_rows, constant_name_rule, constant_name_rows, TypedHead, signature_of, may_declare, head_of, head_rule, head_rows, gives}
+use Rattle.typing_rules.specs.Rules.{function_rule, function_rows}
+use Rattle.typing_rules.specs.Verdicts.{line_type, constant_line_verdict, constant_value, after_names, names_fine, stmts_fine, lines_fine, struct_verdict, struct_members, no_members, params_fine}
+use Rattle.typing_rules.specs.Verdicts.{in_function, in_body, head_verdict, head, body_fine, constant_parts, constant_name_verdict, constant_item, global_item, constant_meaning, after_item}
+use Rattle.typing_rules.specs.Verdicts.{after_items, item_fine, items_fine}
 use Rattle.typing_rules.specs.Meaning.{TypesBody, TypesItem}
 use Rattle.typing_rules.specs.Meaning as rules
 use Rattle.typing_rules.specs.Laws.{ItemsAreRight}

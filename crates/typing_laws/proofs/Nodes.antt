@@ -20,8 +20,10 @@ use Rattle.typing_rules.specs.Nodes.{Verdict, at, faults_there}
 use Rattle.typing_rules.specs.Sight.{Head, Sight, Structure}
 use Rattle.typing_rules.specs.Rules as rules
 use Rattle.typing_rules.specs.Rules.{function_rows, function_rule}
-use Rattle.typing_rules.specs.Verdicts.{verdict, stmt_verdict, faults, all_faults, value_faults, constant_faults, constant_verdict, variable_verdict, names_faults, stmt_faults, stmts_faults, fields_faults, line_faults, lines_faults, params_faults, parameter_verdict, body_faults, body_fine, head_verdict, item_faults, items_faults, in_body}
-use Rattle.typing_laws.proofs.Counting.{Within, within_alone, within_before, within_crossed, within_first, within_function, within_infix, within_join, within_node, within_none, within_own, within_skip, within_suffix}
+use Rattle.typing_rules.specs.Verdicts.{verdict, stmt_verdict, faults, all_faults, value_faults, constant_faults, constant_verdict, variable_verdict, names_faults, stmt_faults, stmts_faults}
+use Rattle.typing_rules.specs.Verdicts.{fields_faults, line_faults, lines_faults, params_faults, parameter_verdict, body_faults, body_fine, head_verdict, item_faults, items_faults, in_body}
+use Rattle.typing_laws.proofs.Counting.{Within, within_alone, within_before, within_crossed, within_first, within_function, within_infix, within_join, within_node, within_none, within_own}
+use Rattle.typing_laws.proofs.Counting.{within_skip, within_suffix}
 
 mutual
   within_expression : {x : PlainExpr} {xs : List Numbered} (hs : List Head) (c : Sight) (b : Bool) → Expression x xs → Within (faults hs c b x) xs

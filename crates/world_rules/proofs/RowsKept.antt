@@ -1,5 +1,6 @@
 -- Each routine keeps what worlds keep.
-use Rattle.std.proofs.Common.{◌≡◌, ◌≢◌, ℕ, ℤ, pos, negsuc, ◌≤◌, zero, suc, Bool, true, false, not, List, [], ◌∷◌, ◌++◌, length, Option, None, Some, refl, sym, ap, subst, ◌∙◌, inl, inr, arith, slice_get}
+use Rattle.std.proofs.Common.{◌≡◌, ◌≢◌, ℕ, ℤ, pos, negsuc, ◌≤◌, zero, suc, Bool, true, false, not, List, [], ◌∷◌, ◌++◌, length, Option, None, Some, refl, sym, ap, subst, ◌∙◌, inl, inr, arith}
+use Rattle.std.proofs.Common.{slice_get}
 use Rattle.std.specs.Prelude.{if◌then◌else◌, ◌==◌, ◌⊎◌, IsTrue}
 use Rattle.std.specs.List.{list_any}
 use Rattle.std.proofs.lemmas.Bool.Decides.{nat_tests}
@@ -19,14 +20,17 @@ use Rattle.world_rules.specs.Arguments.{int_at, text_at, object_at, effect_at, e
 use Rattle.world_rules.specs.Pure.{CellLookup}
 use Rattle.world_rules.specs.World.{World, count, is_valid, queue_of, effects_of}
 use Rattle.world_rules.specs.Changes.{told, post, later, with_action, with_actions, with_busy, with_effect, with_effects, with_variables, has_turn, without_turn, without_first, is_effect}
-use Rattle.world_rules.specs.Rows.{Call, Row, rows, drawn_from, drawn, assigned, delayed, awake, appended, appended_do, at_rest, cleared, changed_variables, applied, applied_to, removed, event_script, signalled, argument, NewItem, TheAction, AWait, ASpeech, queued, varied, Change, Print, Say, Draw, Assign, Delay, Queue, Clear, Vary, Apply, Remove, Signal, done, all_done}
+use Rattle.world_rules.specs.Rows.{Call, Row, rows, drawn_from, drawn, assigned, delayed, awake, appended, appended_do, at_rest, cleared, changed_variables, applied, applied_to, removed, event_script}
+use Rattle.world_rules.specs.Rows.{signalled, argument, NewItem, TheAction, AWait, ASpeech, queued, varied, Change, Print, Say, Draw, Assign, Delay, Queue, Clear, Vary, Apply, Remove, Signal, done}
+use Rattle.world_rules.specs.Rows.{all_done}
 use Rattle.world_rules.specs.RowLaws.{PostsOne, row_posts_one, all_done_posts}
 use Rattle.world_rules.specs.Engine.{row_numbered, by_row, by_role, by_routine, engine}
 use Rattle.world_rules.specs.InPlan.{StaysInPlan}
 use Rattle.world_rules.specs.Settled.{stays_so, stays_on}
 use Rattle.world_rules.specs.Kept.{turns_allowed, IsWorld, IsActing, IsSettled, IsStep, EngineKeeps}
 use Rattle.world_rules.proofs.Queues.{other_queue, same_mark, no_actions, settled_by, busy_settled, cleared_settled}
-use Rattle.world_rules.proofs.KeptLemmas.{AgendaLaws, marks_actions, marks_kept, step_behind, SameShape, same_shape, shapes_join, shape_if, shape_effects, shape_variables, shape_kept, shape_step, stays_by, soon_later, late_later, step_after, step_if, post_step, same_or_other, valid_tells, none_when, woken_settled, awake_if, rest_step}
+use Rattle.world_rules.proofs.KeptLemmas.{AgendaLaws, marks_actions, marks_kept, step_behind, SameShape, same_shape, shapes_join, shape_if, shape_effects, shape_variables, shape_kept, shape_step}
+use Rattle.world_rules.proofs.KeptLemmas.{stays_by, soon_later, late_later, step_after, step_if, post_step, same_or_other, valid_tells, none_when, woken_settled, awake_if, rest_step}
 
 pub shape_told : {X : Type 0} (o : ℕ) (what : Told) (w : World X) → SameShape w (told o what w)
 shape_told o what w = record {

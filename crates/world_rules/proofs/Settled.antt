@@ -14,9 +14,11 @@ use Rattle.delay_agenda.specs.declared.entry.Kind.TheVariants.{Event, Stored, Tu
 use Rattle.world_rules.specs.declared.data.Told.TheVariants as line
 use Rattle.world_rules.specs.World.{World, count, is_valid, queue_in, queue_of}
 use Rattle.world_rules.specs.Changes.{told, later, with_actions, with_busy}
-use Rattle.world_rules.specs.Turns.{Planned, idle, still, with_planned, new_world, user_number, Begun, with_entries, entry_begun, begin, next_turn, turn_done, Turned, turned, turn, unapply, fault, drained}
+use Rattle.world_rules.specs.Turns.{Planned, idle, still, with_planned, new_world, user_number, Begun, with_entries, entry_begun, begin, next_turn, turn_done, Turned, turned, turn, unapply, fault}
+use Rattle.world_rules.specs.Turns.{drained}
 use Rattle.world_rules.specs.Engine.{no_script}
-use Rattle.world_rules.specs.Plays.{Ending, Over, Divided, Stopped, Run, Runner, Entered, quiet, finished_as, finished, named_entry, event_entry, turn_entry, entered_as, entry_entered, Progress, further, Done, Paused, PlayEnd, Played, Bounds, full, after_entry, next_entry, plays}
+use Rattle.world_rules.specs.Plays.{Ending, Over, Divided, Stopped, Run, Runner, Entered, quiet, finished_as, finished, named_entry, event_entry, turn_entry, entered_as, entry_entered, Progress}
+use Rattle.world_rules.specs.Plays.{further, Done, Paused, PlayEnd, Played, Bounds, full, after_entry, next_entry, plays}
 use Rattle.world_rules.specs.Kept.{IsPlaced, IsWorld, IsActing, IsSettled, IsStep, IsBegun}
 use Rattle.world_rules.specs.InPlan.{StaysInPlan}
 use Rattle.world_rules.specs.Settled.{IsBetween, IsLed, stays_so, stays_on, KeepsToEngine, NewIsBetween, IsPlanned, NewIsPlanned, IsEntered, EntriesSettle, HasSettled, PlaysSettle}

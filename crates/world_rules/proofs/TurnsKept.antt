@@ -18,8 +18,10 @@ use Rattle.world_rules.specs.Changes.{told, later, with_actions, with_busy, with
 use Rattle.world_rules.specs.Turns.{Planned, idle, still, with_planned, user_number, with_entries, entry_begun, next_turn, turn_done, turned, expired, unapply, fault, drained}
 use Rattle.world_rules.specs.Engine.{no_script, too_deep}
 use Rattle.world_rules.specs.Settled.{stays_on}
-use Rattle.world_rules.specs.Kept.{IsPlaced, turns_allowed, IsWorld, IsActing, IsBegun, IsTurned, IsDone, NewIsWorld, BeginKeeps, TurnKeeps, TurnDoneKeeps, UnapplyKeeps, FaultKeeps, NoScriptKeeps, TooDeepKeeps, DrainedKeeps}
-use Rattle.world_rules.proofs.KeptLemmas.{AgendaLaws, SameMarks, marks_join, marks_actions, marks_kept, marks_acting, SameShape, same_shape, shapes_join, shape_effects, shape_marks, shape_step, post_kept, stays_by, stays_post, stays_put, soon_later, late_later, nat_eq_same, valid_tells, turn_kept, mark_kept}
+use Rattle.world_rules.specs.Kept.{IsPlaced, turns_allowed, IsWorld, IsActing, IsBegun, IsTurned, IsDone, NewIsWorld, BeginKeeps, TurnKeeps, TurnDoneKeeps, UnapplyKeeps, FaultKeeps, NoScriptKeeps}
+use Rattle.world_rules.specs.Kept.{TooDeepKeeps, DrainedKeeps}
+use Rattle.world_rules.proofs.KeptLemmas.{AgendaLaws, SameMarks, marks_join, marks_actions, marks_kept, marks_acting, SameShape, same_shape, shapes_join, shape_effects, shape_marks, shape_step}
+use Rattle.world_rules.proofs.KeptLemmas.{post_kept, stays_by, stays_post, stays_put, soon_later, late_later, nat_eq_same, valid_tells, turn_kept, mark_kept}
 use Rattle.world_rules.proofs.RowsKept.{shape_told}
 
 -- ---- what only tells

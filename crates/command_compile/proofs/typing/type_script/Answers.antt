@@ -1,6 +1,12 @@
+use Rattle.std.proofs.Common.{rules}
+use Rattle.nss_tree.specs.Reading.{plain_tree}
 use Rattle.command_sources.specs.Scripts.{plain_script}
 use Rattle.command_compile.proofs.TypingLemmas.{fault_does}
 use Rattle.command_compile.proofs.typing.type_script.Goals as goal
+
+pub returns-in-Ok-clause-code : goal.returns-in-Ok-clause-code
+returns-in-Ok-clause-code g c =
+    c.typed_units_have_code.ensures.tree c.args.table.now (plain_tree c.args.script.tree) _ c.keeps.ensures.table (search rules) (search rules) c.in-Ok.ensures.typed
 
 pub returns-clause-does : goal.returns-clause-does
 returns-clause-does g c = λ told contents.

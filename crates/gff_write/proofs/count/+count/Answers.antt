@@ -1,7 +1,7 @@
 use Rattle.std.proofs.Common.{◌≡◌, ◌+◌, [], ap, drop, arith}
 use Rattle.std.proofs.lemmas.List.{drop_all}
 use Rattle.gff_tree.specs.Tree.{plain_leaf, fields_list, nodes_list}
-use Rattle.gff_write.specs.Flat.{node_count, fields_count, leaf_count, nodes_count}
+use Rattle.gff_tree.specs.Count.{node_count, fields_count, leaf_count, nodes_count}
 use Rattle.gff_write.proofs.FlatLemmas.{field_counted, node_counted}
 use Rattle.gff_write.proofs.FewLemmas.{field_few}
 use Rattle.gff_write.proofs.count.+count.Goals as goal

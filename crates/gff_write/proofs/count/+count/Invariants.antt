@@ -1,6 +1,6 @@
 use Rattle.std.proofs.Common.{◌≡◌, ◌+◌, ◌*◌, drop}
 use Rattle.gff_tree.specs.Tree.{plain_node, plain_leaf, fields_list, nodes_list}
-use Rattle.gff_write.specs.Flat.{node_count, leaf_count, fields_count, nodes_count}
+use Rattle.gff_tree.specs.Count.{node_count, leaf_count, fields_count, nodes_count}
 use Rattle.gff_write.proofs.count.+count.Given as goal
 
 abbrev pub invariant-count_leaf-loop-node : goal.invariant-count_leaf-loop-node

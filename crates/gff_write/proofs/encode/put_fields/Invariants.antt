@@ -1,6 +1,7 @@
 use Rattle.std.proofs.Common.{◌≡◌, ◌+◌, ◌++◌, drop}
 use Rattle.gff_tree.specs.Tree.{fields_list}
-use Rattle.gff_write.specs.Flat.{entries_from, fields_count}
+use Rattle.gff_tree.specs.Count.{fields_count}
+use Rattle.gff_write.specs.Flat.{entries_from}
 use Rattle.gff_write.proofs.encode.put_fields.Given as goal
 
 abbrev pub invariant-loop-field : goal.invariant-loop-field

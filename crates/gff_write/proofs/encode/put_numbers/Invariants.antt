@@ -1,6 +1,7 @@
 use Rattle.std.proofs.Common.{◌≡◌, ◌+◌, ◌++◌, drop}
 use Rattle.gff_tree.specs.Tree.{nodes_list}
-use Rattle.gff_write.specs.Flat.{nodes_count, numbers_from}
+use Rattle.gff_tree.specs.Count.{nodes_count}
+use Rattle.gff_write.specs.Flat.{numbers_from}
 use Rattle.gff_write.proofs.encode.put_numbers.Given as goal
 
 abbrev pub invariant-loop-node : goal.invariant-loop-node

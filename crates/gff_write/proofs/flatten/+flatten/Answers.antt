@@ -2,7 +2,8 @@ use Rattle.std.proofs.Common.{◌≡◌, ◌+◌, ◌++◌, ◌∙◌, [], lengt
 use Rattle.std.proofs.lemmas.List.{drop_all, append-nil}
 use Rattle.gff_tree.specs.declared.tree.Node.{out-Node}
 use Rattle.gff_tree.specs.Tree.{Struct, plain_leaf, fields_list, nodes_list}
-use Rattle.gff_write.specs.Flat.{node_count, leaf_count, fields_count, nodes_count, rows_below, leaf_rows, list_rows, entries_from}
+use Rattle.gff_tree.specs.Count.{node_count, leaf_count, fields_count, nodes_count}
+use Rattle.gff_write.specs.Flat.{rows_below, leaf_rows, list_rows, entries_from}
 use Rattle.gff_write.proofs.FlatLemmas.{below_step, list_step, node_done}
 use Rattle.gff_write.proofs.FewLemmas.{below_within, field_few, list_within, member_few, pushed_long}
 use Rattle.gff_write.proofs.flatten.+flatten.Goals as goal
@@ -20,7 +21,8 @@ flatten_node-flatten_leaf-requires t c =
     let made = ap node_count (c.readings_tell.ensures.node c.args.node.now) in
     let same = ap (λ fs. fields_count (fields_list fs)) c.deref-field-items.ensures.value in
     let item = field_few c.deref-field-items.result.now c.loop-field.field-index c.field-item.result c.loop-field-test.true c.field-item.is in
-    let within = below_within c.loop-field.rows c.push.new.self c.deref-field-items.result.now c.loop-field.field-index c.field-item.result c.loop-field-test.true c.field-item.is c.loop-field.invariant in
+    let within = below_within c.loop-field.rows c.push.new.self c.deref-field-items.result.now c.loop-field.field-index c.field-item.result c.loop-field-test.true c.field-item.is
+    c.loop-field.invariant in
     let long = pushed_long c.args.rows.now c.push.new.self _ c.in_ok-push.ensures.ok in
     (omega (arith, made, same, item, c.decreases), omega (arith, made, same, within, long, c.requires.few))
 

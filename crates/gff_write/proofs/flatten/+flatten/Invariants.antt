@@ -1,6 +1,7 @@
 use Rattle.std.proofs.Common.{◌≡◌, ◌+◌, ◌*◌, ◌++◌, length, drop}
 use Rattle.gff_tree.specs.Tree.{plain_node, plain_leaf, fields_list, nodes_list}
-use Rattle.gff_write.specs.Flat.{node_count, leaf_count, rows_below, list_rows}
+use Rattle.gff_tree.specs.Count.{node_count, leaf_count}
+use Rattle.gff_write.specs.Flat.{rows_below, list_rows}
 use Rattle.gff_write.proofs.flatten.+flatten.Given as goal
 
 abbrev pub invariant-flatten_node-loop-field : goal.invariant-flatten_node-loop-field

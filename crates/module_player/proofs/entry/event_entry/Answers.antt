@@ -16,5 +16,6 @@ returns-in-Some g c = record {
   entered = listed_event _ _ _ _ _ c.script_entry.result _ _
       (some_bytes _ _ _ c.bytes.ensures.same c.is_empty.ensures c.if-is_empty.false)
       (sym c.in-Some.ensures.number) c.script_entry.ensures.entered;
-  cut = listed_cut (seen c.args.setting.now) c.args.limits.instructions c.args.object _ c.args.name.now c.script_entry.result c.args.world.now.world c.script_entry.new.world.world (some_bytes _ _ _ c.bytes.ensures.same c.is_empty.ensures c.if-is_empty.false) (sym c.in-Some.ensures.number) c.script_entry.ensures.cut;
+  cut = listed_cut (seen c.args.setting.now) c.args.limits.instructions c.args.object _ c.args.name.now c.script_entry.result c.args.world.now.world c.script_entry.new.world.world
+      (some_bytes _ _ _ c.bytes.ensures.same c.is_empty.ensures c.if-is_empty.false) (sym c.in-Some.ensures.number) c.script_entry.ensures.cut;
 }

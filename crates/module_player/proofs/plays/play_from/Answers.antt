@@ -7,18 +7,21 @@ loop-number-init g c = play_begins _ _ _ _ _ _ _ _ _ c.requires.world.fit c.requ
 
 pub loop-number-preserved : goal.loop-number-preserved
 loop-number-preserved g c =
-    plays_go_on _ _ _ _ _ _ _ _ _ _ _ _ c.loop-number.invariant _ _ _ _ c.loop-number-test.true c.if-number-limits.false c.args.limits.few_instructions c.in-Goes.ensures.turns c.in-Goes.ensures.taken c.in-Goes.ensures.counts
+    plays_go_on _ _ _ _ _ _ _ _ _ _ _ _ c.loop-number.invariant _ _ _ _ c.loop-number-test.true c.if-number-limits.false c.args.limits.few_instructions c.in-Goes.ensures.turns
+    c.in-Goes.ensures.taken c.in-Goes.ensures.counts
 
 pub returns-in-Stops : goal.returns-in-Stops
 returns-in-Stops g c = record {
-  played = play_stops _ _ _ _ _ _ _ _ _ _ _ _ c.loop-number.invariant _ _ _ _ c.loop-number-test.true c.if-number-limits.false c.args.limits.few_instructions c.args.limits.few_entries c.in-Stops.ensures.turns c.in-Stops.ensures.taken c.in-Stops.ensures.counts;
+  played = play_stops _ _ _ _ _ _ _ _ _ _ _ _ c.loop-number.invariant _ _ _ _ c.loop-number-test.true c.if-number-limits.false c.args.limits.few_instructions c.args.limits.few_entries
+      c.in-Stops.ensures.turns c.in-Stops.ensures.taken c.in-Stops.ensures.counts;
   cut = tt;
   told = λ can. tt;
 }
 
 pub returns-in-Rests : goal.returns-in-Rests
 returns-in-Rests g c = record {
-  played = play_rests _ _ _ _ _ _ _ _ _ _ _ _ c.loop-number.invariant _ _ _ c.loop-number-test.true c.if-number-limits.false c.args.limits.few_entries c.in-Rests.ensures.turns c.in-Rests.ensures.taken c.in-Rests.ensures.counts;
+  played = play_rests _ _ _ _ _ _ _ _ _ _ _ _ c.loop-number.invariant _ _ _ c.loop-number-test.true c.if-number-limits.false c.args.limits.few_entries c.in-Rests.ensures.turns
+      c.in-Rests.ensures.taken c.in-Rests.ensures.counts;
   cut = tt;
   told = λ can. tt;
 }

@@ -18,7 +18,9 @@ returns-in-None-clause-ok c =
     (sym (to_z-of_z w32 c.args.n c.ranges.n))) c.push_int.ensures.ok
 
 pub invariant_of-self : goal.invariant_of-self
-invariant_of-self c = (written ints c.args.name.now c.self.invariant c.self.view_is _ refl (int_becomes c.args.name.now c.args.n (search rules)) c.keeps.ensures.rise c.in-Some.ensures.number c.write.ensures).kept
+invariant_of-self c = (written ints c.args.name.now c.self.invariant c.self.view_is _ refl (int_becomes c.args.name.now c.args.n (search rules)) c.keeps.ensures.rise c.in-Some.ensures.number
+    c.write.ensures).kept
 
 pub returns-in-Some-clause-ok : goal.returns-in-Some-clause-ok
-returns-in-Some-clause-ok c = (written ints c.args.name.now c.self.invariant c.self.view_is _ refl (int_becomes c.args.name.now c.args.n (search rules)) c.keeps.ensures.rise c.in-Some.ensures.number c.write.ensures).view
+returns-in-Some-clause-ok c = (written ints c.args.name.now c.self.invariant c.self.view_is _ refl (int_becomes c.args.name.now c.args.n (search rules)) c.keeps.ensures.rise
+    c.in-Some.ensures.number c.write.ensures).view

@@ -13,7 +13,9 @@ returns-in-None-clause-ok c =
     put_ok c.push_text.new.self _ _ c.push_text.result (put_last (TextVar c.args.name.now c.args.text) c.args.self.now none) c.push_text.ensures.ok
 
 pub invariant_of-self : goal.invariant_of-self
-invariant_of-self c = turned (written texts c.args.name.now (turned c.self.invariant) c.self.view_is _ refl (text_becomes c.args.name.now c.args.text) c.keeps.ensures.rise c.in-Some.ensures.number c.write.ensures).kept
+invariant_of-self c = turned (written texts c.args.name.now (turned c.self.invariant) c.self.view_is _ refl (text_becomes c.args.name.now c.args.text) c.keeps.ensures.rise
+    c.in-Some.ensures.number c.write.ensures).kept
 
 pub returns-in-Some-clause-ok : goal.returns-in-Some-clause-ok
-returns-in-Some-clause-ok c = (written texts c.args.name.now (turned c.self.invariant) c.self.view_is _ refl (text_becomes c.args.name.now c.args.text) c.keeps.ensures.rise c.in-Some.ensures.number c.write.ensures).view
+returns-in-Some-clause-ok c = (written texts c.args.name.now (turned c.self.invariant) c.self.view_is _ refl (text_becomes c.args.name.now c.args.text) c.keeps.ensures.rise
+    c.in-Some.ensures.number c.write.ensures).view
