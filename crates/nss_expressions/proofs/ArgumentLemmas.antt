@@ -54,4 +54,3 @@ module _ (hs : List Head) (s : Sight) where
   pub end_least : (es : List Expr) (i : ℕ) (ps : List Param) (l whole : Option Fault) → length es ≤ i → kept l (all_faults hs s ps (plain_exprs (drop i es))) ≡ whole → l ≡ whole
   end_least es i ps l whole le so_far =
       ap (kept l) (ap (all_faults hs s ps) (sym plain_exprs_none) ∙ sym (at_drop_all (λ ys. all_faults hs s ps (plain_exprs ys)) es i le)) ∙ so_far
-
