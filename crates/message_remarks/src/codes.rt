@@ -33,17 +33,21 @@ pub(crate) enum Code {
     Binary(Items<u8>),
 }
 
-fn stand_in(spots: &[Spot], script: u32) -> bool {
-    spots.iter().any(|spot| spot.script == script)
+fn is_in(spot: Spot, script: usize) -> bool {
+    spot.script as usize == script
 }
 
-fn speaks_of(remark: &Remark, script: u32) -> bool {
-    remark.at.script == script
-        || remark.begun.script == script
+fn stand_in(spots: &[Spot], script: usize) -> bool {
+    spots.iter().any(|spot| is_in(*spot, script))
+}
+
+fn speaks_of(remark: &Remark, script: usize) -> bool {
+    is_in(remark.at, script)
+        || is_in(remark.begun, script)
         || stand_in(remark.returns.as_slice(), script)
 }
 
-fn are_about(remarks: &[Remark], script: u32) -> bool {
+fn are_about(remarks: &[Remark], script: usize) -> bool {
     remarks.iter().any(|remark| speaks_of(remark, script))
 }
 
@@ -84,7 +88,7 @@ fn source_of<F: Files>(
 fn code_of<F: Files>(
     alloc: Global,
     play: Play<'_>,
-    script: u32,
+    script: usize,
     name: &[u8],
     files: &mut F,
 ) -> Result<Code, NoMemory>
@@ -112,7 +116,7 @@ pub(crate) fn codes_of<F: Files>(
 {
     let mut codes = Vec::new(alloc);
     for (i, name) in play.names.iter().enumerate() {
-        codes.push(code_of(alloc, play, i as u32, name.bytes(), files)?)?;
+        codes.push(code_of(alloc, play, i, name.bytes(), files)?)?;
     }
     Ok(codes)
 }
