@@ -1,11 +1,20 @@
 -- The places behind the calls under way.
-use Rattle.std.proofs.Common.{arith, ◌≡◌, ◌≤◌, ◌<◌, ◌+◌, ◌++◌, ◌∷◌, ℕ, suc, zero, List, [], length, map, take, reverse, Option, Some, None, slice_get, sym, ap, ◌∙◌, refl, subst}
+use Rattle.std.proofs.Common.{arith, ◌≡◌, ◌≤◌, ◌<◌, ◌+◌, ◌-◌, ◌++◌, ◌∷◌, ℕ, suc, zero, List, [], length, map, take, reverse, Option, Some, None, slice_get, sym, ap, ◌∙◌, refl, subst}
 use Rattle.std.specs.List.{flat_map}
-use Rattle.std.proofs.lemmas.List.{length_push, take-take, take_all, take_at, reverse-append}
-use Rattle.std.proofs.lemmas.Option.{none-some}
+use Rattle.std.proofs.lemmas.List.{get_or-reverse, length-reverse, length_push, take-take, take_all, take_at}
+use Rattle.std.proofs.lemmas.List.Concat.{flat_map-append}
+use Rattle.std.proofs.lemmas.Option.{none-some, slice_get-get_or}
+use Rattle.std.specs.Prelude.{IfSome}
+use Rattle.saved_state.specs.declared.saved.Saved.{Saved}
 use Rattle.machine_rules.specs.Frames.{Frame}
+use Rattle.machine_rules.specs.Machine.{State}
+use Rattle.world_rules.specs.World.{World}
+use Rattle.play_remarks.specs.declared.Ending.TheVariants as why
+use Rattle.play_remarks.specs.declared.Remark.{Remark}
 use Rattle.play_remarks.specs.declared.Spot.{Spot}
-use Rattle.ncs_machine.specs.Remarks.{most_returns, returns_of, spot_of, under_way, waits_for}
+use Rattle.ncs_machine.specs.declared.entry.Ran.{Ran}
+use Rattle.ncs_machine.specs.declared.entry.Ran.TheVariants.{Ended, Divide, Limit, NoMemory}
+use Rattle.ncs_machine.specs.Remarks.{IsRemark, MayRemark, WhereStopped, returns_of, spot_of, under_way, waits_for}
 
 -- ---- the first of a list
 
@@ -85,27 +94,59 @@ all_returns n i f old now none is = is ∙ ap (λ zs. take n (old ++ zs)) (none_
 pub as_many_returns : (n i : ℕ) (f : Frame) (old now : List Spot) → n ≤ i → now ≡ take n (old ++ take i (returns_of f)) → now ≡ take n (old ++ returns_of f)
 as_many_returns n i f old now most is = is ∙ no_more_taken n i old (returns_of f) most
 
-pub ruleset return_lemmas = (few_are, nothing_put, one_more_return, all_returns, as_many_returns)
-
 -- ---- scripts that wait
 
-waits_first : (older : List Frame) (newest : Frame) → flat_map waits_for (reverse (older ++ newest ∷ [])) ≡ waits_for newest ++ flat_map waits_for (reverse older)
-waits_first older newest = ap (flat_map waits_for) (reverse-append older (newest ∷ []))
+pub waiting_count : {A : Type 0} (xs : List A) → length (reverse xs) ≡ length xs
+waiting_count xs = length-reverse xs
 
-pub one_more_waits : (n : ℕ) (all older : List Frame) (newest : Frame) (old first then now : List Spot) → all ≡ older ++ newest ∷ []
-    → first ≡ take n (old ++ spot_of newest ∷ []) → then ≡ take n (first ++ returns_of newest) → now ≡ take n (then ++ flat_map waits_for (reverse older))
-    → now ≡ take n (old ++ flat_map waits_for (reverse all))
-one_more_waits n all older newest old first then now is a b c =
-    both_put n old (waits_for newest) (flat_map waits_for (reverse older)) then now (both_put n old (spot_of newest ∷ []) (returns_of newest) first then a b) c
-    ∙ ap (λ zs. take n (old ++ zs)) (sym (waits_first older newest)) ∙ ap (λ zs. take n (old ++ flat_map waits_for (reverse zs))) (sym is)
+pub back_lies : {A : Type 0} (xs : List A) (i : ℕ) → i < length xs → slice_get xs (length xs - 1 - i) ≡ slice_get (reverse xs) i
+back_lies [] i less = absurd (omega (arith, less))
+back_lies (x ∷ xs) i less =
+    slice_get-get_or (x ∷ xs) (length (x ∷ xs) - 1 - i) x (omega (arith, less)) ∙ sym (ap Some (get_or-reverse (x ∷ xs) i x less))
+    ∙ sym (slice_get-get_or (reverse (x ∷ xs)) i x (subst (λ n. i < n) (sym (length-reverse (x ∷ xs))) less))
 
-pub none_waits : (n : ℕ) (all : List Frame) (old : List Spot) → all ≡ [] → length old ≤ n → old ≡ take n (old ++ flat_map waits_for (reverse all))
-none_waits n all old none few = nothing_put n old few ∙ ap (λ zs. take n (old ++ flat_map waits_for (reverse zs))) (sym none)
+pub ruleset waiting_lies = (waiting_count, back_lies)
 
-pub all_put : (n : ℕ) (f : Frame) (slice waiting : List Frame) (old first now : List Spot) → old ≡ [] → first ≡ take n (old ++ returns_of f)
-    → now ≡ take n (first ++ flat_map waits_for (reverse slice)) → reverse slice ≡ waiting → now ≡ take n (under_way f waiting)
-all_put n f slice waiting old first now none a b same =
-    both_put n old (returns_of f) (flat_map waits_for (reverse slice)) first now a b
-    ∙ ap (λ zs. take n (zs ++ (returns_of f ++ flat_map waits_for (reverse slice)))) none ∙ ap (λ zs. take n (returns_of f ++ flat_map waits_for zs)) same
+frame_taken : (i : ℕ) (fs : List Frame) (f : Frame) → slice_get fs i ≡ Some f → take (suc i) fs ≡ take i fs ++ f ∷ []
+frame_taken zero [] f h = absurd (none-some f h)
+frame_taken zero (g ∷ fs) f h = ap (λ o. some_of g o ∷ []) h
+  where
+    some_of : Frame → Option Frame → Frame
+    some_of d None = d
+    some_of d (Some f) = f
+frame_taken (suc i) [] f h = absurd (none-some f h)
+frame_taken (suc i) (g ∷ fs) f h = ap (λ gs. g ∷ gs) (frame_taken i fs f h)
 
-pub ruleset waiting_lemmas = (few_are, one_more_waits, none_waits, all_put)
+waits_next : (i : ℕ) (fs : List Frame) (f : Frame) → slice_get fs i ≡ Some f → flat_map waits_for (take i fs) ++ waits_for f ≡ flat_map waits_for (take (i + 1) fs)
+waits_next i fs f lies =
+    sym (ap (λ k. flat_map waits_for (take k fs)) next ∙ ap (flat_map waits_for) (frame_taken i fs f lies) ∙ flat_map-append waits_for (take i fs) (f ∷ [])
+    ∙ ap (λ zs. flat_map waits_for (take i fs) ++ zs) (nothing_more (waits_for f)))
+  where
+    next : i + 1 ≡ suc i
+    next = omega arith
+
+pub one_more_waits : (n i : ℕ) (fs : List Frame) (f : Frame) (old now first then : List Spot) → slice_get fs i ≡ Some f
+    → now ≡ take n (old ++ flat_map waits_for (take i fs)) → first ≡ take n (now ++ spot_of f ∷ []) → then ≡ take n (first ++ returns_of f)
+    → then ≡ take n (old ++ flat_map waits_for (take (i + 1) fs))
+one_more_waits n i fs f old now first then lies is a b =
+    both_put n old (flat_map waits_for (take i fs)) (waits_for f) now then is (both_put n now (spot_of f ∷ []) (returns_of f) first then a b)
+    ∙ ap (λ zs. take n (old ++ zs)) (waits_next i fs f lies)
+
+pub all_wait : (n i : ℕ) (fs : List Frame) (old now : List Spot) → length fs ≤ i → now ≡ take n (old ++ flat_map waits_for (take i fs)) → now ≡ take n (old ++ flat_map waits_for fs)
+all_wait n i fs old now most is = is ∙ ap (λ gs. take n (old ++ flat_map waits_for gs)) (take_all i fs most)
+
+pub all_put : (n : ℕ) (f g : Frame) (waiting : List Frame) (old first now : List Spot) → g ≡ f → old ≡ [] → first ≡ take n (old ++ returns_of g)
+    → now ≡ take n (first ++ flat_map waits_for waiting) → now ≡ take n (under_way f waiting)
+all_put n f g waiting old first now same none a b =
+    both_put n old (returns_of g) (flat_map waits_for waiting) first now a b
+    ∙ ap (λ zs. take n (zs ++ (returns_of g ++ flat_map waits_for waiting))) none ∙ ap (λ g. take n (under_way g waiting)) same
+
+-- ---- a remark of a run's last state
+
+pub remark_is : (answer : Ran) (x y : Spot) (a b : State (World Saved)) (o : Option Remark) → x ≡ y → WhereStopped answer (a ≡ b)
+    → IfSome o (λ r. MayRemark answer x a (Some r)) → IfSome o (λ r. MayRemark answer y b (Some r))
+remark_is answer x y a b None first last h = h
+remark_is Ended x y a b (Some r) first last h = h
+remark_is Divide x y a b (Some r) first last h = subst (λ z. IsRemark why.Divide z b r) first (subst (λ s. IsRemark why.Divide x s r) last h)
+remark_is Limit x y a b (Some r) first last h = subst (λ z. IsRemark why.Limit z b r) first (subst (λ s. IsRemark why.Limit x s r) last h)
+remark_is NoMemory x y a b (Some r) first last h = h

@@ -20,7 +20,7 @@ use crate::scripts::{Begin, Scripts};
 use crate::setting::PlaySetting;
 use hook_table::Hooks;
 use machine_frames::Frame;
-use nwq_value::{NoMemory, Table};
+use nwq_value::Table;
 use play_remarks::Remark;
 use saved_state::Saved;
 use stack_rules::{entries_begin_safely, steps_are_safe, tables_type_execute_script};
@@ -126,14 +126,8 @@ fn run_remarked(
         setting.code.table(),
         limit,
     );
-    if world.keeps_remarks() {
-        match end_remark(alloc, ran.0, begun, &machine, world) {
-            Ok(remark) => (ran, remark),
-            Err(NoMemory) => (ran, None),
-        }
-    } else {
-        (ran, None)
-    }
+    let remark = end_remark(alloc, ran.0, begun, &machine, world);
+    (ran, remark)
 }
 
 /// The run of one frame, in a setting.

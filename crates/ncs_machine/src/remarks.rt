@@ -1,7 +1,7 @@
 //! What is remarked where an entry ends before its end.
-ghost use Rattle.std.specs.Prelude.{◌≡◌, ◌≤◌, ◌++◌, ◌∷◌, [], length, reverse, take, IfOk, OnOk};
+ghost use Rattle.std.specs.Prelude.{◌≡◌, ◌≤◌, ◌++◌, ◌∷◌, [], length, take, IfOk, IfSome, OnOk, Some};
 ghost use Rattle.std.specs.List.{flat_map};
-ghost use Rattle.ncs_machine.specs.Remarks.{IsRemark, MayRemark, most_returns, returns_of, spot_of};
+ghost use Rattle.ncs_machine.specs.Remarks.{IsRemark, MayRemark, returns_of, spot_of};
 ghost use Rattle.ncs_machine.specs.Remarks.{time_of, under_way, waits_for};
 ghost use Rattle.ncs_machine.specs.Steps.{state};
 
@@ -41,62 +41,62 @@ fn time_of(clock: u64) -> u32
     }
 }
 
-/// Puts a place last, unless as many as are remarked are there.
+/// Puts a place last, unless the most are there.
 #[tactic(auto, using(crate::proofs::RemarkLemmas::put_lemmas))]
-fn put_spot(returns: &mut Vec<Spot>, spot: Spot) -> Result<(), NoMemory>
-    requires few { length returns.old.items ≤ most_returns }
+fn put_spot(returns: &mut Vec<Spot>, spot: Spot, most: usize) -> Result<(), NoMemory>
+    requires few { length returns.old.items ≤ most }
     ensures put { OnOk result
-        (returns.new.items ≡ take most_returns (returns.old.items ++ spot ∷ [])) }
+        (returns.new.items ≡ take most (returns.old.items ++ spot ∷ [])) }
 {
-    if returns.len() < MOST_RETURNS {
+    if returns.len() < most {
         returns.push(spot)?;
     }
     Ok(())
 }
 
 /// Puts the places behind a script's own calls under way last.
-#[tactic(auto, using(crate::proofs::RemarkLemmas::return_lemmas))]
-fn put_returns(frame: &Frame, returns: &mut Vec<Spot>) -> Result<(), NoMemory>
-    requires few { length returns.old.items ≤ most_returns }
+fn put_returns(frame: &Frame, returns: &mut Vec<Spot>, most: usize) -> Result<(), NoMemory>
+    requires few { length returns.old.items ≤ most }
     ensures put { OnOk result
-        (returns.new.items ≡ take most_returns (returns.old.items ++ returns_of frame.now)) }
+        (returns.new.items ≡ take most (returns.old.items ++ returns_of frame.now)) }
 {
     let script = frame.script();
-    for i in 0..MOST_RETURNS {
+    for i in 0..most {
         match frame.return_at(i) {
             None => return Ok(()),
-            Some(place) => put_spot(returns, Spot { script, place })?,
+            Some(place) => put_spot(returns, Spot { script, place }, most)?,
         }
     }
     Ok(())
 }
 
-/// Puts those behind the calls under way of scripts that wait, of which the newest stands last.
-#[tactic(auto, using(crate::proofs::RemarkLemmas::waiting_lemmas))]
-fn put_waiting(waiting: &[Frame], returns: &mut Vec<Spot>) -> Result<(), NoMemory>
-    requires few { length returns.old.items ≤ most_returns }
+/// Puts those behind the calls under way of the scripts that wait last, the newest first.
+fn put_waiting(machine: &Machine, returns: &mut Vec<Spot>, most: usize) -> Result<(), NoMemory>
+    requires few { length returns.old.items ≤ most }
     ensures put { OnOk result (returns.new.items
-        ≡ take most_returns (returns.old.items ++ flat_map waits_for (reverse waiting.now))) }
+        ≡ take most (returns.old.items ++ flat_map waits_for machine.now.waiting)) }
 {
-    match waiting {
-        [] => Ok(()),
-        [older @ .., newest] => {
-            put_spot(returns, spot_of(newest))?;
-            put_returns(newest, returns)?;
-            put_waiting(older, returns)
+    let count = machine.waiting_count();
+    for i in 0..count {
+        match machine.waiting_at(i) {
+            None => unreachable!(),
+            Some(frame) => {
+                put_spot(returns, spot_of(frame), most)?;
+                put_returns(frame, returns, most)?;
+            }
         }
     }
+    Ok(())
 }
 
 /// The places behind all the calls under way, innermost first.
-#[tactic(auto, using(crate::proofs::RemarkLemmas::waiting_lemmas))]
-fn returns_of(alloc: Global, machine: &Machine) -> Result<Vec<Spot>, NoMemory>
+fn returns_of(alloc: Global, machine: &Machine, most: usize) -> Result<Vec<Spot>, NoMemory>
     ensures returns { IfOk result (λ returns. returns.items
-        ≡ take most_returns (under_way machine.now.running machine.now.waiting)) }
+        ≡ take most (under_way machine.now.running machine.now.waiting)) }
 {
     let mut returns = Vec::new(alloc);
-    put_returns(&machine.running, &mut returns)?;
-    put_waiting(machine.waiting(), &mut returns)?;
+    put_returns(machine.frame(), &mut returns, most)?;
+    put_waiting(machine, &mut returns, most)?;
     Ok(returns)
 }
 
@@ -110,20 +110,19 @@ fn remark_of(
 ) -> Result<Remark, NoMemory>
     ensures remark { IfOk result (IsRemark ending begun (state machine.now world.now.world)) }
 {
-    let returns = returns_of(alloc, machine)?;
+    let returns = returns_of(alloc, machine, MOST_RETURNS)?;
     Ok(Remark {
         ending,
         time: time_of(world.clock()),
-        at: spot_of(&machine.running),
+        at: spot_of(machine.frame()),
         returns,
         begun,
         values: Vec::new(alloc),
     })
 }
 
-/// The remark of an entry that began there and ended so; `None` exactly where it ended well, or for
-/// want of memory.
-pub(crate) fn end_remark(
+/// The same of a run that ended so: `None` exactly where it ended well, or for want of memory.
+fn run_remark(
     alloc: Global,
     ran: Ran,
     begun: Spot,
@@ -138,4 +137,24 @@ pub(crate) fn end_remark(
         Ran::Ended | Ran::NoMemory => return Ok(None),
     };
     Ok(Some(remark_of(alloc, ending, begun, machine, world)?))
+}
+
+/// The same, where the world keeps one more remark and there is memory for it.
+pub(crate) fn end_remark(
+    alloc: Global,
+    ran: Ran,
+    begun: Spot,
+    machine: &Machine,
+    world: &World<Saved>,
+) -> Option<Remark>
+    ensures remark { IfSome result (λ remark. MayRemark ran begun
+        (state machine.now world.now.world) (Some remark)) }
+{
+    if !world.keeps_remarks() {
+        return None;
+    }
+    match run_remark(alloc, ran, begun, machine, world) {
+        Ok(remark) => remark,
+        Err(NoMemory) => None,
+    }
 }

@@ -1,5 +1,0 @@
-use Rattle.std.proofs.Common.{length}
-use Rattle.ncs_machine.proofs.remarks.+put_waiting.Given as goal
-
-abbrev pub decreases-put_waiting : goal.decreases-put_waiting
-decreases-put_waiting l = length l.waiting.now
