@@ -11,6 +11,10 @@ pub const MOST: usize = 1 << 25;
 /// the empty list. Past them the answer is want of memory, too.
 pub const MOST_NUMBERS: usize = u32::MAX as usize;
 
+/// So many slots are put on other lists for calls and stored states, whether they take room or were
+/// there before. Past them the answer is want of memory, too.
+pub const MOST_COPIES: usize = 1 << 27;
+
 /// Whether there is room for one more beside so many.
 pub fn room(count: usize) -> Result<(), NoMemory>
     ensures room { OnOk result (count < most) }

@@ -8,6 +8,7 @@ ghost use Rattle.stack_lists.specs.Stacks.{AreTyped, IsJoin, IsNew, IsTop, LiesO
 ghost use Rattle.stack_lists.specs.Stacks.{jump_depth};
 ghost use Rattle.stack_lists.specs.Notes.{AreOne, IsFresh};
 
+use crate::budget::MOST_COPIES;
 use crate::lists::Node;
 use crate::notes::{add_noted, find};
 use crate::places::Places;
@@ -60,6 +61,8 @@ pub struct Stacks {
     agreed: BTreeMap<u64, Agreed>,
     /// By the upper and the lower list: the join of them that was made last.
     joins: BTreeMap<u64, Join>,
+    /// How many slots these joins put on other lists, whether they were there before or not.
+    copied: usize,
 }
 
 impl Model for Stacks {
@@ -86,6 +89,7 @@ impl Drop for Stacks {
             older,
             agreed,
             joins,
+            copied: _,
         } = self;
         drop(links);
         drop(newest);
@@ -118,6 +122,7 @@ impl Stacks {
             older: Places::new(alloc),
             agreed: BTreeMap::new(alloc),
             joins: BTreeMap::new(alloc),
+            copied: 0,
         }
     }
 
@@ -455,11 +460,16 @@ impl Stacks {
         }
     }
 
-    /// Keeps what a join made.
+    /// Keeps what a join made. Its slots count in a budget of their own, since those that are found
+    /// again take no room, but time.
     pub fn keep_join(&mut self, join: Join) -> Result<(), NoMemory>
         requires is { IsJoin self.old join }
         ensures same { self.new ≡ self.old }
     {
+        if join.count > MOST_COPIES.saturating_sub(self.copied) {
+            return Err(NoMemory);
+        }
+        self.copied = self.copied.saturating_add(join.count);
         match self.joins.insert(pair(join.upper, join.lower), join) {
             Ok(_) => Ok(()),
             Err(_) => Err(NoMemory),
