@@ -94,8 +94,8 @@ fn told<F: Watched, S: Sink, E: Sink>(
         line: out.line(),
         trouble: files.trouble(),
         random_used_up: remarks.random_used_up,
-        remarks: &[],
-        names: &[],
+        remarks: remarks.endings.as_slice(),
+        names: remarks.scripts.as_slice(),
         no_text: words.no_text(),
     };
     let mut again = Again::of(files.kept());

@@ -140,8 +140,8 @@ fn end_of(
         line: out.line(),
         trouble: None,
         random_used_up: remarks.random_used_up,
-        remarks: &[],
-        names: &[],
+        remarks: remarks.endings.as_slice(),
+        names: remarks.scripts.as_slice(),
         no_text: None,
     };
     tell_end(alloc, all, end, files, err);
