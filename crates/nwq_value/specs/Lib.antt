@@ -5,7 +5,6 @@ pub mod Hashed
 pub mod Header
 pub mod HeaderTable
 pub mod Index
-pub mod Kept
 pub mod Limits
 pub mod Operators
 pub mod Roles
