@@ -1,12 +1,14 @@
 -- How many structs a tree's fields and lists hold, and which place is the first.
-use Rattle.std.proofs.Common.{◌≡◌, ◌≤◌, ◌<◌, ◌+◌, ℕ, suc, Bool, true, false, cond, List, [], ◌∷◌, ◌++◌, length, map, get_or, drop, drop-cons, add-one, Option, None, Some, Result, Err, MatchOption, refl, sym, ap, subst, ◌∙◌, append_assoc, arith}
+use Rattle.std.proofs.Common.{◌≡◌, ◌≤◌, ◌<◌, ◌+◌, ℕ, suc, Bool, true, false, cond, List, [], ◌∷◌, ◌++◌, length, map, get_or, drop, drop-cons, add-one, Option, None, Some, Result, Err, MatchOption}
+use Rattle.std.proofs.Common.{refl, sym, ap, subst, ◌∙◌, append_assoc, arith}
 use Rattle.std.specs.Str.{bytes_eq}
 use Rattle.std.specs.Borrow.{Bor}
 use Rattle.std.specs.Result.{IfErr}
 use Rattle.gff_tree.specs.declared.tree.Leaf.{Leaf}
 use Rattle.gff_tree.specs.declared.tree.Node.{Node}
 use Rattle.gff_tree.specs.declared.tree.Field.{Field}
-use Rattle.gff_tree.specs.Tree.{PlainNode, PlainFields, PlainLeaf, PlainNodes, PlainField, Struct, NoField, MoreFields, Holds, Child, Children, Byte, Char, Word, Short, Dword, Int, Dword64, Int64, Float, Double, Str, Res, Localized, Void, NoNode, MoreNodes, plain_node, plain_field, plain_leaf, fields_in, nodes_in, nodes_from, nodes_list}
+use Rattle.gff_tree.specs.Tree.{PlainNode, PlainFields, PlainLeaf, PlainNodes, PlainField, Struct, NoField, MoreFields, Holds, Child, Children, Byte, Char, Word, Short, Dword, Int, Dword64, Int64}
+use Rattle.gff_tree.specs.Tree.{Float, Double, Str, Res, Localized, Void, NoNode, MoreNodes, plain_node, plain_field, plain_leaf, fields_in, nodes_in, nodes_from, nodes_list}
 use Rattle.gff_tree.specs.Fields.{fields_of, list_in, found}
 use Rattle.gff_tree.specs.Count.{node_count, fields_count, leaf_count, nodes_count}
 use Rattle.area_rules.specs.declared.fault.AreaFault.{AreaFault}

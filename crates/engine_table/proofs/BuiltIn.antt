@@ -24,7 +24,8 @@ come_to None = Err NoMemory
 come_to (Some ts) = declarations_read (length header_text) nothing stage.Start (placed_all ts)
 
 computed : come_to (tokens_in 6000 0 header_text) ≡ Ok header_table
-unfolding tokens_in pass form is_word header_text header_table header_constants header_routines declarations_read turn structure_of function_fault constant_fault value_fault same_const routine_named constant_named engine_role role_of_row role_without_row has_signature ty_eq tys_eq
+unfolding tokens_in pass form is_word header_text header_table header_constants header_routines declarations_read turn structure_of function_fault constant_fault value_fault same_const
+    routine_named constant_named engine_role role_of_row role_without_row has_signature ty_eq tys_eq
 computed = refl
 
 none_come : ◌≡◌ {A = Result EngineTable HeaderFault} (Err NoMemory) (Ok header_table) → ⊥

@@ -1,5 +1,6 @@
 -- Reading of one line, and that every line of the grammar is read as its declaration, or clashes.
-use Rattle.std.proofs.Common.{◌≡◌, ℕ, zero, ◌+◌, ◌<◌, Bool, true, false, if◌then◌else◌, nat_lt, List, [], ◌∷◌, ◌++◌, length, codes, Option, Some, None, Ok, Err, refl, sym, ap, subst, ◌∙◌, arith, length-append, true≢false}
+use Rattle.std.proofs.Common.{◌≡◌, ℕ, zero, ◌+◌, ◌<◌, Bool, true, false, if◌then◌else◌, nat_lt, List, [], ◌∷◌, ◌++◌, length, codes, Option, Some, None, Ok, Err, refl, sym, ap, subst, ◌∙◌, arith}
+use Rattle.std.proofs.Common.{length-append, true≢false}
 use Rattle.std.proofs.lemmas.Bool.Decides.{nat_tests}
 use Rattle.std.proofs.lemmas.Option.{none-some}
 use Rattle.nwq_value.specs.declared.value.Ty.{Ty}
@@ -27,7 +28,8 @@ use Rattle.engine_table.specs.Grammar as grammar
 use Rattle.engine_table.specs.Grammar.{sign_at, type_in, has_constants, constant_in, negative, brackets, Loose, Value, Heading, ParameterType, Parameter, Parameters, ParameterList, Line}
 use Rattle.engine_table.specs.Headers as header
 use Rattle.engine_table.specs.Headers.{function_fault, constant_fault, IsClear, Clashes}
-use Rattle.engine_table.specs.Turns.{TurnResult, goes, misfit, unless_fault, typed, start_turn, given, type_of, param_turn, valued_turn, owner_fault, got, is_minus_of_int, is_new, loose_by, value_by, params_turn, behind_turn, turn}
+use Rattle.engine_table.specs.Turns.{TurnResult, goes, misfit, unless_fault, typed, start_turn, given, type_of, param_turn, valued_turn, owner_fault, got, is_minus_of_int, is_new, loose_by, value_by}
+use Rattle.engine_table.specs.Turns.{params_turn, behind_turn, turn}
 use Rattle.engine_table.proofs.Progress.{two, three, four}
 
 -- a line was read, with the tokens behind it, or it broke at a token or at the end

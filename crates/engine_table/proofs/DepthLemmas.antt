@@ -22,7 +22,9 @@ use Rattle.engine_table.specs.declared.stage.Turn.TheVariants.{Goes, Gives}
 use Rattle.engine_table.specs.Symbols.{Placed}
 use Rattle.engine_table.specs.Grammar.{type_in, structure_of, defined, has_constants, constant_in, negative, brackets}
 use Rattle.engine_table.specs.Headers.{function_fault, constant_fault}
-use Rattle.engine_table.specs.Turns.{TurnResult, goes, misfit, unless_fault, typed, start_turn, hash_turn, define_turn, given, typed_turn, named_turn, type_of, param_turn, constant_end, valued_turn, owner_fault, got, minus_turn, is_minus_of_int, is_new, constant_turn, loose_by, value_by, params_turn, behind_turn, param_type_turn, closed_turn, turn, depth_of, Leads, Follows}
+use Rattle.engine_table.specs.Turns.{TurnResult, goes, misfit, unless_fault, typed, start_turn, hash_turn, define_turn, given, typed_turn, named_turn, type_of, param_turn, constant_end, valued_turn}
+use Rattle.engine_table.specs.Turns.{owner_fault, got, minus_turn, is_minus_of_int, is_new, constant_turn, loose_by, value_by, params_turn, behind_turn, param_type_turn, closed_turn, turn, depth_of}
+use Rattle.engine_table.specs.Turns.{Leads, Follows}
 use Rattle.engine_table.proofs.KeepLemmas.{same_turn, no_turn, unless, choose}
 
 -- a turn goes on inside so many brackets at most

@@ -1,5 +1,6 @@
 -- What no fault says, and what each turn keeps.
-use Rattle.std.proofs.Common.{◌≡◌, ℕ, ◌+◌, ◌^◌, ◌<◌, ◌≤◌, Bool, true, false, if◌then◌else◌, nat_lt, List, [], ◌∷◌, ◌++◌, length, codes, bytes_eq, Option, Some, None, is_some, IfSome, Ok, Err, refl, sym, ap, subst, ◌∙◌, arith, length-append}
+use Rattle.std.proofs.Common.{◌≡◌, ℕ, ◌+◌, ◌^◌, ◌<◌, ◌≤◌, Bool, true, false, if◌then◌else◌, nat_lt, List, [], ◌∷◌, ◌++◌, length, codes, bytes_eq, Option, Some, None, is_some, IfSome, Ok, Err, refl}
+use Rattle.std.proofs.Common.{sym, ap, subst, ◌∙◌, arith, length-append}
 use Rattle.std.proofs.lemmas.Bool.Decides.{nat_tests}
 use Rattle.std.proofs.lemmas.Option.{same_Some, none-some}
 use Rattle.std.proofs.lemmas.Int.{wrapping_neg_is, SFits-int_wrap}
@@ -33,7 +34,9 @@ use Rattle.engine_table.specs.Names.{is_among}
 use Rattle.engine_table.specs.Symbols.{IsSymbol}
 use Rattle.engine_table.specs.Grammar.{word_type, type_in, structure_of, defined, has_constants, has_type, of_type, constant_in, negative, brackets}
 use Rattle.engine_table.specs.Headers.{function_fault, constant_fault, value_fault}
-use Rattle.engine_table.specs.Turns.{TurnResult, goes, misfit, unless_fault, typed, start_turn, hash_turn, define_turn, given, typed_turn, named_turn, type_of, param_turn, constant_end, valued_turn, owner_fault, checked, got, minus_turn, is_minus_of_int, is_new, constant_turn, loose_by, value_by, params_turn, behind_turn, param_type_turn, closed_turn, turn, IsOpen, KeepsOwner, KeepsValue, KeepsStage, KeepsDeclaration, TellsNew, KeepsTurn}
+use Rattle.engine_table.specs.Turns.{TurnResult, goes, misfit, unless_fault, typed, start_turn, hash_turn, define_turn, given, typed_turn, named_turn, type_of, param_turn, constant_end, valued_turn}
+use Rattle.engine_table.specs.Turns.{owner_fault, checked, got, minus_turn, is_minus_of_int, is_new, constant_turn, loose_by, value_by, params_turn, behind_turn, param_type_turn, closed_turn, turn}
+use Rattle.engine_table.specs.Turns.{IsOpen, KeepsOwner, KeepsValue, KeepsStage, KeepsDeclaration, TellsNew, KeepsTurn}
 
 -- ---- no fault
 

@@ -1,5 +1,6 @@
 -- Whole texts: what reading comes to is what the grammar has, and the grammar has one answer.
-use Rattle.std.proofs.Common.{◌≡◌, ◌≢◌, ◌⊎◌, inl, inr, ℕ, zero, suc, ◌<◌, Bool, true, false, if◌then◌else◌, nat_lt, List, [], ◌∷◌, ◌++◌, length, Option, Some, None, is_some, Result, Ok, Err, refl, sym, ap, subst, ◌∙◌, arith, append_assoc, append-nil, true≢false}
+use Rattle.std.proofs.Common.{◌≡◌, ◌≢◌, ◌⊎◌, inl, inr, ℕ, zero, suc, ◌<◌, Bool, true, false, if◌then◌else◌, nat_lt, List, [], ◌∷◌, ◌++◌, length, Option, Some, None, is_some, Result, Ok, Err, refl}
+use Rattle.std.proofs.Common.{sym, ap, subst, ◌∙◌, arith, append_assoc, append-nil, true≢false}
 use Rattle.std.proofs.lemmas.Option.{same_Some, none-some}
 use Rattle.nss_lexer.specs.Splitting.{Lexeme, Splits}
 use Rattle.nwq_value.specs.declared.value.Ty.{Ty}
@@ -19,7 +20,8 @@ use Rattle.engine_table.specs.Symbols.{Placed, placed_all}
 use Rattle.engine_table.specs.Grammar as grammar
 use Rattle.engine_table.specs.Grammar.{sign_at, structure_of, has_constants, Loose, Value, Heading, Line}
 use Rattle.engine_table.specs.Headers as header
-use Rattle.engine_table.specs.Headers.{function_fault, constant_fault, value_fault, differs, fault_unless, same_const, IsClear, Clashes, IsPrefix, IsInside, IsMisfit, Lines, HeaderFails, Comes, HasTable, IsFaulty, IsRefused, IsAnswer, OneHeader, after, after_all, nothing}
+use Rattle.engine_table.specs.Headers.{function_fault, constant_fault, value_fault, differs, fault_unless, same_const, IsClear, Clashes, IsPrefix, IsInside, IsMisfit, Lines, HeaderFails, Comes}
+use Rattle.engine_table.specs.Headers.{HasTable, IsFaulty, IsRefused, IsAnswer, OneHeader, after, after_all, nothing}
 use Rattle.engine_table.specs.Turns.{TurnResult, turn, ended, run_by, declarations_read, HasBegun}
 use Rattle.engine_table.proofs.Progress as progress
 use Rattle.engine_table.proofs.Progress.{two, three, Begun, After, step, clear_made}

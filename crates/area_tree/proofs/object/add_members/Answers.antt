@@ -23,5 +23,6 @@ loop-node-preserved c = record {
   few = few_next c.loop-node.member c.args.nodes.now c.loop-node.node-index c.node-item.result 4294967296 c.loop-node-test.true c.node-item.is c.loop-node.invariant.few;
   places = members_next c.args.list
       (c.loop-node.member + 1) c.args.nodes.now c.loop-node.node-index c.node-item.result _ c.loop-node-test.true c.node-item.is c.loop-node.invariant.places c.in_ok-object.ensures.0;
-  objects = objects_next c.loop-node.objects.items c.push.new.self.items _ c.in_ok-object.object c.args.nodes.now c.loop-node.node-index c.node-item.result c.loop-node-test.true c.node-item.is c.loop-node.invariant.objects c.in_ok-push.ensures.items c.in_ok-object.ensures.1;
+  objects = objects_next c.loop-node.objects.items c.push.new.self.items _ c.in_ok-object.object c.args.nodes.now c.loop-node.node-index c.node-item.result c.loop-node-test.true
+      c.node-item.is c.loop-node.invariant.objects c.in_ok-push.ensures.items c.in_ok-object.ensures.1;
 }
