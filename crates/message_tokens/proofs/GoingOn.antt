@@ -54,9 +54,10 @@ pub by_grammar : (walk : Walk) (count : ℕ) (rest : List Symbol) (next : Symbol
     → TellsPrefix count (rest ++ next ∷ []) able → TellsFollowing walk count rest next able
 by_grammar walk count rest next b able stays is tells before known =
     let told = tells known.front known.items known.many in
-    let whole : known.front ++ (rest ++ next ∷ []) ≡ before ++ next ∷ [] = sym (append_assoc known.front rest (next ∷ [])) ∙ ap (λ ts. ts ++ next ∷ []) (sym known.whole) in
-    ((λ yes. record { prefix = subst IsPrefix whole (told.0 yes); nest = (known.walked (next ∷ [])).1 (stays.0 (let t : IsTrue b = is in t)) }),
-    (λ h. told.1 (subst IsPrefix (sym whole) h.prefix)))
+    let whole : known.front ++ (rest ++ next ∷ []) ≡ before ++ next ∷ [] = sym (append_assoc known.front rest (next ∷ [])) ∙ ap (λ ts. ts ++ next ∷ []) (sym known.whole) in (
+      (λ yes. record { prefix = subst IsPrefix whole (told.0 yes); nest = (known.walked (next ∷ [])).1 (stays.0 (let t : IsTrue b = is in t)) }),
+      (λ h. told.1 (subst IsPrefix (sym whole) h.prefix)),
+    )
 
 pub grammar_tells : (walk : Walk) (count : ℕ) (rest all : List Seen) (next : Seen) (b able : Bool) → (IsTrue b ↔ StaysWithin walk (plain_symbol next ∷ [])) → b ≡ true
     → all ≡ rest ++ next ∷ [] → TellsPrefix count (map plain_symbol all) able → TellsFollowing walk count (map plain_symbol rest) (plain_symbol next) able

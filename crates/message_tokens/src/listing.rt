@@ -442,7 +442,13 @@ pub fn following<'a>(
         None => Ok(Vec::new(alloc)),
         Some(walk) => {
             let count = whole_items(alloc, symbols.as_slice())?;
-            able_behind(alloc, &walk, count as u32, &symbols.as_slice()[count..], tried)
+            able_behind(
+                alloc,
+                &walk,
+                count as u32,
+                &symbols.as_slice()[count..],
+                tried,
+            )
         }
     }
 }

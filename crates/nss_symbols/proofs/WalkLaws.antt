@@ -8,9 +8,6 @@ use Rattle.nss_symbols.specs.Symbols.{Symbol}
 use Rattle.nss_symbols.specs.declared.terminal.Terminal.{Terminal}
 use Rattle.nss_symbols.specs.Nest.{State, StaysWithin, changed, terminal_in, nests, nests_from, start, total, IsWithinNest}
 
-AreLow : List ℕ → Type 0
-AreLow = AllByRecursion (λ n. n ≤ 256)
-
 -- ---- a list of nests within the limit, as numbers at places and as a list
 
 low_at : (xs : List ℕ) → AllByRecursion (λ n. n ≤ 256) xs → (k : ℕ) → get_or xs k 0 ≤ 256
@@ -73,9 +70,10 @@ walks_on xs i d before last next s t inside w is e small =
 within_of : (tokens more : List Symbol) → IsWithinNest (tokens ++ more) ↔ AllByRecursion (λ n. n ≤ 256) (nests_from None start (map terminal_in tokens ++ map terminal_in more))
 unfolding nests
 within_of tokens more =
-    let same = map_append terminal_in tokens more in
-    ((λ h. subst (λ ms. AllByRecursion (λ n. n ≤ 256) (nests_from None start ms)) same (at_low (nests_from None start (map terminal_in (tokens ++ more))) h)),
-    (λ h. low_at (nests_from None start (map terminal_in (tokens ++ more))) (subst (λ ms. AllByRecursion (λ n. n ≤ 256) (nests_from None start ms)) (sym same) h)))
+    let same = map_append terminal_in tokens more in (
+      (λ h. subst (λ ms. AllByRecursion (λ n. n ≤ 256) (nests_from None start ms)) same (at_low (nests_from None start (map terminal_in (tokens ++ more))) h)),
+      (λ h. low_at (nests_from None start (map terminal_in (tokens ++ more))) (subst (λ ms. AllByRecursion (λ n. n ≤ 256) (nests_from None start ms)) (sym same) h)),
+    )
 
 pub walked_all : (xs : List Seen) (i : ℕ) (before last : Option Terminal) (s : State) → length xs ≤ i
     → Walked (map terminal_in (map plain_symbol (take i xs))) before last s

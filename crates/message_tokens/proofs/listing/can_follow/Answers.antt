@@ -1,5 +1,4 @@
-use Rattle.std.proofs.Common.{◌≡◌, ◌∙◌, Bool, List, [], ◌∷◌, ◌++◌, false, map, ap, sym, subst}
-use Rattle.nss_symbols.specs.declared.symbol.Seen.{Seen}
+use Rattle.std.proofs.Common.{◌≡◌, ◌∙◌, [], ◌∷◌, ◌++◌, false, map, ap, sym, subst}
 use Rattle.nss_symbols.specs.Cursor.{plain_symbol, AreSound}
 use Rattle.nss_symbols.specs.Tokens.{symbol_of}
 use Rattle.nss_parser.specs.Front.{TellsPrefix}

@@ -1,8 +1,5 @@
-use Rattle.std.proofs.Common.{◌<◌, ◌≤◌, ◌∙◌, length, map, take, drop, ap, sym, subst, arith}
+use Rattle.std.proofs.Common.{◌∙◌, length, take, ap, arith}
 use Rattle.std.proofs.lemmas.List.{length-take-le}
-use Rattle.nss_symbols.specs.Cursor.{plain_symbol}
-use Rattle.message_tokens.specs.Behind.{ListsBehind}
-use Rattle.message_tokens.specs.Following.{Lists}
 use Rattle.message_tokens.proofs.GoingOn.{behind_all, rest_sound, as_many_seen, none_walked, if_ok_map}
 use Rattle.message_tokens.proofs.listing.following.Goals as goal
 
@@ -14,21 +11,21 @@ returns-in-None c = record {
 
 pub whole_items-requires-clause-count : goal.whole_items-requires-clause-count
 whole_items-requires-clause-count c =
-    let many = ap length c.as_slice-2.ensures.value ∙ as_many_seen c.in_ok-symbols.symbols.items (take c.args.at c.args.tokens.now) c.in_ok-symbols.ensures.same in
+    let many = ap length c.as_slice-in-Some.ensures.value ∙ as_many_seen c.in_ok-symbols.symbols.items (take c.args.at c.args.tokens.now) c.in_ok-symbols.ensures.same in
     let front = length-take-le c.args.at c.args.tokens.now c.requires.place in
     omega (arith, many, front, c.requires.few, c.requires.place)
 
 pub able_behind-requires-clause-sound : goal.able_behind-requires-clause-sound
 able_behind-requires-clause-sound c =
-    rest_sound c.in_ok-count.count c.in_ok-symbols.symbols.items c.as_slice-3.result.now c.as_slice-3.ensures.value c.in_ok-symbols.ensures.sound
+    rest_sound c.in_ok-count-in-Some.count c.in_ok-symbols.symbols.items c.as_slice-in-Some-2.result.now c.as_slice-in-Some-2.ensures.value c.in_ok-symbols.ensures.sound
 
-pub returns-in-Some : goal.returns-in-Some
-returns-in-Some c = record {
+pub returns : goal.returns
+returns c = record {
   lists =
       if_ok_map c.able_behind.result _ _
       (λ listed lists. lists (take c.args.at c.args.tokens.now)
-      (behind_all c.in-Some.walk c.in_ok-count.count c.in_ok-symbols.symbols.items c.as_slice.result.now c.as_slice-2.result.now c.as_slice-3.result.now
-      (take c.args.at c.args.tokens.now) c.in_ok-nest_walk.field-0 c.as_slice.ensures.value c.as_slice-2.ensures.value c.as_slice-3.ensures.value
-      c.in_ok-symbols.ensures.same c.in_ok-nest_walk.ensures c.in-Some.is c.in_ok-count.ensures.within c.in_ok-count.ensures.items))
+      (behind_all c.in-Some.walk c.in_ok-count-in-Some.count c.in_ok-symbols.symbols.items c.as_slice.result.now c.as_slice-in-Some.result.now c.as_slice-in-Some-2.result.now
+      (take c.args.at c.args.tokens.now) c.in_ok-nest_walk.field-0 c.as_slice.ensures.value c.as_slice-in-Some.ensures.value c.as_slice-in-Some-2.ensures.value
+      c.in_ok-symbols.ensures.same c.in_ok-nest_walk.ensures c.in-Some.is c.in_ok-count-in-Some.ensures.within c.in_ok-count-in-Some.ensures.items))
       c.able_behind.ensures.lists;
 }

@@ -1,6 +1,5 @@
-use Rattle.std.proofs.Common.{◌≡◌, ◌==◌, ◌+◌, length, map, sym, ap, arith, false}
+use Rattle.std.proofs.Common.{◌==◌, ◌+◌, length, map, sym, ap, arith, false}
 use Rattle.nss_tree.specs.Reading.{plain_item}
-use Rattle.nss_symbols.specs.Outcome.{Got, Stuck, Deep}
 use Rattle.nss_parser.specs.ReadStatement.{entries, statement}
 use Rattle.nss_parser.specs.ReadUnit.{items}
 use Rattle.nss_parser.proofs.ReaderLemmas.{reads_ok, reads_syntax, reads_deep}
