@@ -215,9 +215,6 @@ jump_first nodes below e = ap (λ (z : List Slot). length z) e ∙ sym (ap (λ (
 jump_plus : (d : ℕ) → jump_depth (d + 1) ≡ leap d (jump_depth d) (jump_depth (jump_depth d))
 jump_plus d = ap jump_depth (let e : d + 1 ≡ suc d = omega arith in e) ∙ jump_on d
 
-jump_zero : jump_depth 0 ≡ 0
-jump_zero = let l = depth_less 0 in omega (arith, l)
-
 pub jump_second : (nodes : List (Node Slot)) (below : ℕ) (l : Link) → IsTop nodes below l → read nodes l.jump ≡ []
     → length (read nodes below) ≡ jump_depth (length (read nodes below) + 1)
 jump_second nodes below l t e = sym (jump_plus (length (read nodes below)) ∙ leap_near (length (read nodes below)) _ _ (λ eq. far (ap jump_depth zero) eq))

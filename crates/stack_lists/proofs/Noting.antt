@@ -39,12 +39,6 @@ on_none links number below slot e o = none_some o.link (e ∙ place_is links num
 pub on_zero : (links : List Link) (number below : ℕ) (slot : Slot) → number ≡ 0 → IsOn links number below slot → ⊥
 on_zero links number below slot e o = let n = o.next in omega (arith, n, e)
 
-pub on_other : (links : List Link) (number below : ℕ) (slot : Slot) (l : Link) → Some l ≡ slice_get links (number - 1)
-    → (l.below ≡ below → l.slot ≡ slot → ⊥) → IsOn links number below slot → ⊥
-on_other links number below slot l e ne o =
-    let same = some_is l o.link (e ∙ place_is links number below slot o) in
-    ne (ap (λ (l : Link). l.below) same ∙ o.below_is) (ap (λ (l : Link). l.slot) same ∙ o.slot_is)
-
 pub ruleset standing = (on_there, on_none, on_zero)
 
 -- ---- the search
