@@ -4,5 +4,3 @@ pub mod Rows
 pub mod Kept
 pub mod RowLaws
 pub mod Walked
-pub mod Nodes
-pub mod ArgumentLaws

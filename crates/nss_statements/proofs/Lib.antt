@@ -2,4 +2,5 @@ pub mod NameRows
 pub mod Judged
 pub mod StatementRows
 pub mod SameSight
+pub mod Nodes
 pub mod ReturnLemmas
