@@ -1,8 +1,9 @@
 -- Acts of frames.
-use Rattle.std.proofs.Common.{arith, ◌≡◌, ◌≢◌, ◌<◌, ◌≤◌, ◌-◌, ℕ, List, [], ◌∷◌, ◌++◌, length, drop, reverse, Option, Some, None, Bool, true, false, sym, ap, ◌∙◌, refl, subst}
+use Rattle.std.proofs.Common.{arith, ◌≡◌, ◌≢◌, ◌<◌, ◌≤◌, ◌-◌, ℕ, List, [], ◌∷◌, ◌++◌, length, drop, get_or, reverse, Option, Some, None, Bool, true, false, sym, ap, ◌∙◌, refl, subst}
 use Rattle.std.specs.Prelude.{slice_get, ◌&&◌, nat_le, if◌then◌else◌}
 use Rattle.std.specs.Option.{option_map, option_and_then}
-use Rattle.std.proofs.lemmas.List.{reverse-append, length-drop}
+use Rattle.std.proofs.lemmas.List.{reverse-append, length-drop, length-reverse, get_or-reverse}
+use Rattle.std.proofs.lemmas.Option.{slice_get-get_or, slice_get_past}
 use Rattle.std.proofs.lemmas.Bool.Decides.{nat_tests}
 use Rattle.nwq_value.specs.declared.value.Value.{Value}
 use Rattle.saved_state.specs.declared.cell.Cell.{Cell}
@@ -22,6 +23,17 @@ use Rattle.machine_frames.proofs.RunLemmas.{length_is}
 
 pub pushed_last : {A : Type 0} (xs : List A) (x : A) → reverse (xs ++ x ∷ []) ≡ x ∷ reverse xs
 pushed_last xs x = reverse-append xs (x ∷ [])
+
+-- ---- the calls under way, innermost first
+
+pub return_lies : (xs : List ℕ) (i d : ℕ) → i < length xs → slice_get (reverse xs) i ≡ Some (get_or xs (length xs - 1 - i) d)
+return_lies xs i d less =
+    slice_get-get_or (reverse xs) i d (subst (λ n. i < n) (sym (length-reverse xs)) less) ∙ ap Some (get_or-reverse xs i d less)
+
+pub no_return : (xs : List ℕ) (i : ℕ) → length xs ≤ i → slice_get (reverse xs) i ≡ None
+no_return xs i most = slice_get_past (reverse xs) i (subst (λ n. n ≤ i) (sym (length-reverse xs)) most)
+
+pub ruleset return_lemmas = (return_lies, no_return)
 
 -- ---- instructions that change the cells
 

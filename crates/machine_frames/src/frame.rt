@@ -1,6 +1,6 @@
 //! Running scripts.
 ghost use Rattle.std.specs.Prelude.{◌≡◌, ◌≢◌, ◌+◌, ◌≤◌, ◌<◌, ◌^◌, false, length};
-ghost use Rattle.std.specs.Prelude.{if◌then◌else◌, None, Some, IfOk, OnOk};
+ghost use Rattle.std.specs.Prelude.{if◌then◌else◌, None, Some, IfOk, OnOk, slice_get};
 ghost use Rattle.nwq_value.specs.Limits.{file_limit};
 ghost use Rattle.ncs_code.specs.Plain.{Div, Jsr, Mod, SaveBp, RestoreBp, StoreState};
 ghost use Rattle.ncs_code.specs.Spelling.{op_size};
@@ -113,6 +113,20 @@ impl Frame {
         self.own
     }
 
+    /// The place behind the call under way at place `i`, counted from 0, the innermost one; `None`
+    /// exactly from the count of calls on.
+    #[tactic(auto, using(crate::proofs::FrameLemmas::return_lemmas))]
+    pub fn return_at(&self, i: usize) -> Option<u32>
+        ensures place { result ≡ slice_get self.now.calls i }
+    {
+        let len = self.calls.len();
+        if i < len {
+            Some(self.calls[len - 1 - i])
+        } else {
+            None
+        }
+    }
+
     /// The next instruction stands behind one of this size.
     pub(crate) fn step_over(&mut self, size: u32)
         requires small { self.old.place + size ≤ file_limit }
@@ -144,6 +158,7 @@ impl Frame {
         requires small { self.old.place + op_size (Div kind) ≤ file_limit }
         ensures act { IfOk result (λ goes. moved (Div kind) self.old
             ≡ Some (if goes then Moves self.new else Divides)) }
+        ensures same { IfOk result (λ goes. goes ≡ false → self.new ≡ self.old) }
         ensures script { self.new.script ≡ self.old.script }
         ensures own { self.new.self ≡ self.old.self }
     {
@@ -162,6 +177,7 @@ impl Frame {
         requires small { self.old.place + op_size Mod ≤ file_limit }
         ensures act { IfOk result (λ goes. moved Mod self.old
             ≡ Some (if goes then Moves self.new else Divides)) }
+        ensures same { IfOk result (λ goes. goes ≡ false → self.new ≡ self.old) }
         ensures script { self.new.script ≡ self.old.script }
         ensures own { self.new.self ≡ self.old.self }
     {

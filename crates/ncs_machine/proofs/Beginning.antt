@@ -20,6 +20,7 @@ use Rattle.ncs_machine.specs.declared.entry.Ran.{Ran}
 use Rattle.ncs_machine.specs.Begins.{RunsAlone}
 use Rattle.ncs_machine.specs.Endings.{FitsBegin, IsCut, IsRunOf, WhereCut}
 use Rattle.ncs_machine.specs.Host.{first_frame, script_of, scripts_of}
+use Rattle.ncs_machine.specs.Remarks.{WhereStopped}
 use Rattle.ncs_machine.specs.Settings.{CheckedListing, CodeSetting, checked_listing, code_setting, host_in, scripts_in, tables_in}
 use Rattle.ncs_machine.specs.Steps.{Frames, Untouched, state}
 
@@ -80,5 +81,12 @@ module _ (s t : CodeSetting) (answer : Ran) (n o : ℕ) (m : Frames) (f : Frame)
   cut_here same alone h =
       subst (λ k. WhereCut answer (IsCut (host_in k) n o (entry f w) v)) same
       (subst (λ k. WhereCut answer (IsCut (host_in s) n o (state k w) v)) alone h)
+
+  pub last_here : (limit : ℕ) (k : Frames) → s ≡ t → m ≡ record { running = f; waiting = [] }
+      → WhereStopped answer (state k v ≡ (run (host_in s) limit (state m w)).last)
+      → WhereStopped answer (state k v ≡ (run (host_in t) limit (entry f w)).last)
+  last_here limit k same alone h =
+      subst (λ c. WhereStopped answer (state k v ≡ (run (host_in c) limit (entry f w)).last)) same
+      (subst (λ n. WhereStopped answer (state k v ≡ (run (host_in s) limit (state n w)).last)) alone h)
 
 pub ruleset begin_lemmas = (start_safe, stored_safe, not_begun)

@@ -8,3 +8,4 @@ pub mod Running
 pub mod Calls
 pub mod Stepping
 pub mod Beginning
+mod RemarkLemmas

@@ -303,6 +303,21 @@ stopped_run scripts e tables limit m first w v done self x h own =
     (state m v) scripts tables w v (stops scripts e tables limit (state first w) done (state m v) x h) refl own refl
     (reached_fits scripts e tables w v x.safe.world) (more_left done limit w v (omega (arith, h)) x.left) (λ fact f. f)
 
+-- the last state of a run that ended before its end is the one in which the frames and the world are left
+pub divided_last : (scripts : List Script) (e : EngineView) (tables : Tables) (limit : ℕ) (m k first : Frames)
+    (w v u : World Saved) (done : ℕ) → SoFar scripts e tables limit (state first w) done (state m v) → done < limit
+    → step (host scripts e) (state m v) ≡ Some Divided → k ≡ m → u ≡ v
+    → state k u ≡ (run (host scripts e) limit (state first w)).last
+divided_last scripts e tables limit m k first w v u done x less h frames world =
+    ap (λ m. state m u) frames ∙ ap (state m) world
+    ∙ sym (ap (λ (r : Ran (World Saved)). r.last) (divides scripts e tables limit (state first w) done (state m v) x less h))
+
+pub stopped_last : (scripts : List Script) (e : EngineView) (tables : Tables) (limit : ℕ) (m first : Frames)
+    (w v : World Saved) (done : ℕ) → SoFar scripts e tables limit (state first w) done (state m v) → done ≡ limit
+    → state m v ≡ (run (host scripts e) limit (state first w)).last
+stopped_last scripts e tables limit m first w v done x h =
+    sym (ap (λ (r : Ran (World Saved)). r.last) (stops scripts e tables limit (state first w) done (state m v) x h))
+
 pub cut_run : (n self : ℕ) (r : Ran (World Saved)) (scripts : List Script) (tables : Tables) (w v : World Saved) → IsRunOf answer.NoMemory n self r scripts tables w v
 cut_run n self r scripts tables w v = record { ending = tt; counted = tt; own = tt; world = tt; fit = tt; left = tt }
 

@@ -6,6 +6,7 @@ pub mod InSetting
 pub mod Endings
 pub mod Begins
 pub mod Steps
+pub mod Remarks
 pub mod Names
 pub mod Leading
 pub mod HostLemmas

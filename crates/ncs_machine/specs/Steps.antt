@@ -74,3 +74,10 @@ Remains code.Goes before after = after ≡ before
 Remains code.Enters before after = Unit {0}
 Remains code.Ends before after = Unit {0}
 Remains code.Divides before after = Unit {0}
+
+-- where a divisor is 0, the frames are left as they are
+abbrev pub KeepsFrames : StepOutcome → Frames → Frames → Type 0
+KeepsFrames code.Goes before after = Unit {0}
+KeepsFrames code.Enters before after = Unit {0}
+KeepsFrames code.Ends before after = Unit {0}
+KeepsFrames code.Divides before after = after ≡ before

@@ -1,5 +1,5 @@
 //! An entry from its begin to its end.
-ghost use Rattle.std.specs.Prelude.{◌≤◌};
+ghost use Rattle.std.specs.Prelude.{◌≡◌, ◌≤◌, Some, IfSome};
 ghost use Rattle.hook_table.specs.InHooks.{known_by};
 ghost use Rattle.machine_rules.specs.Runs.{entry, run as run_of};
 ghost use Rattle.stack_rules.specs.Safe.{IsSafeFrame};
@@ -8,17 +8,20 @@ ghost use Rattle.ncs_machine.specs.Endings.{IsCut, IsRunOf, WhereCut};
 ghost use Rattle.ncs_machine.specs.Host.{engine_view, first_frame, host, run_from, scripts_of};
 ghost use Rattle.ncs_machine.specs.Host.{tables_of};
 ghost use Rattle.ncs_machine.specs.InSetting.{seen};
+ghost use Rattle.ncs_machine.specs.Remarks.{MayRemark, WhereStopped, spot_of};
 ghost use Rattle.ncs_machine.specs.Settings.{IsSet, checked_listing, code_setting};
 ghost use Rattle.ncs_machine.specs.Settings.{host_in, scripts_in, tables_in};
 ghost use Rattle.ncs_machine.specs.Steps.{state};
 
 use crate::machine::{Machine, StepOutcome};
+use crate::remarks::{end_remark, spot_of};
 use crate::scene::Scene;
 use crate::scripts::{Begin, Scripts};
 use crate::setting::PlaySetting;
 use hook_table::Hooks;
 use machine_frames::Frame;
 use nwq_value::Table;
+use play_remarks::Remark;
 use saved_state::Saved;
 use stack_rules::{entries_begin_safely, steps_are_safe, tables_type_execute_script};
 use std::alloc::Global;
@@ -62,6 +65,9 @@ fn run_machine(
     ensures cut { WhereCut result.0 (IsCut (host (scripts_of scripts.now)
         (engine_view table.now (known_by hooks.now))) result.1 result.2
         (state machine.old world.old.world) world.new.world) }
+    ensures last { WhereStopped result.0 (state machine.new world.new.world ≡ (run_of
+        (host (scripts_of scripts.now) (engine_view table.now (known_by hooks.now))) limit
+        (state machine.old world.old.world)).last) }
 {
     steps_are_safe::<Scene>();
     calls_keep_worlds::<Saved>();
@@ -88,6 +94,42 @@ fn run_machine(
     (Ran::Limit, limit, own)
 }
 
+/// The run of one frame, in a setting, and what is remarked of it where it ends before its end.
+fn run_remarked(
+    alloc: Global,
+    setting: &PlaySetting<'_, '_>,
+    frame: Frame,
+    world: &mut World<Saved>,
+    limit: u64,
+) -> ((Ran, u64, u32), Option<Remark>)
+    requires runs { MayRun limit frame.self world.old.world }
+    requires safe { IsSafeFrame (scripts_in (seen setting.now)) (tables_in (seen setting.now))
+        frame }
+    ensures room { world.old.room ≤ world.new.room }
+    ensures run { IsRunOf result.0.0 result.0.1 result.0.2 (run_of (host_in (seen setting.now))
+        limit (entry frame world.old.world)) (scripts_in (seen setting.now))
+        (tables_in (seen setting.now)) world.old.world world.new.world }
+    ensures cut { WhereCut result.0.0 (IsCut (host_in (seen setting.now)) result.0.1 result.0.2
+        (entry frame world.old.world) world.new.world) }
+    ensures remark { IfSome result.1 (λ remark. MayRemark result.0.0 (spot_of frame) (run_of
+        (host_in (seen setting.now)) limit (entry frame world.old.world)).last (Some remark)) }
+{
+    setting.code.keeps();
+    let begun = spot_of(&frame);
+    let mut machine = Machine::of(alloc, frame);
+    let ran = run_machine(
+        alloc,
+        setting.code.scripts(),
+        &mut machine,
+        world,
+        setting.hooks,
+        setting.code.table(),
+        limit,
+    );
+    let remark = end_remark(alloc, ran.0, begun, &machine, world);
+    (ran, remark)
+}
+
 /// The run of one frame, in a setting.
 fn run_frame(
     alloc: Global,
@@ -106,17 +148,11 @@ fn run_frame(
     ensures cut { WhereCut result.0 (IsCut (host_in (seen setting.now)) result.1 result.2
         (entry frame world.old.world) world.new.world) }
 {
-    setting.code.keeps();
-    let mut machine = Machine::of(alloc, frame);
-    run_machine(
-        alloc,
-        setting.code.scripts(),
-        &mut machine,
-        world,
-        setting.hooks,
-        setting.code.table(),
-        limit,
-    )
+    let (ran, remark) = run_remarked(alloc, setting, frame, world, limit);
+    if let Some(remark) = remark {
+        world.remark(remark);
+    }
+    ran
 }
 
 /// The run of an entry that begins so, with `caller` as self: how it ends, how many instructions it

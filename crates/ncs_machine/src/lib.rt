@@ -10,6 +10,7 @@ mod call;
 mod entry;
 mod laws;
 mod machine;
+mod remarks;
 mod scene;
 mod scripts;
 mod setting;

@@ -1,6 +1,7 @@
 //! The frames of a running entry, and one step.
 ghost use Rattle.std.specs.Prelude.{◌≡◌, ◌≢◌, ◌≤◌, ◌<◌, ◌+◌, ◌^◌, [], ◌∷◌, length, map, None};
 ghost use Rattle.std.specs.Prelude.{IfOk, OnErr, OnOk, Option, Some, slice_get, ℕ};
+ghost use Rattle.std.specs.Option.{option_copied};
 ghost use Rattle.nwq_value.specs.Engine.{IsRoutine};
 ghost use Rattle.nwq_value.specs.declared.engine.Role.TheVariants.{Pure};
 ghost use Rattle.std.specs.List.{position_from};
@@ -21,6 +22,7 @@ ghost use Rattle.hook_table.specs.InHooks.{known_by};
 ghost use Rattle.ncs_machine.specs.Host.{EngineView, answer_of, engine_answer, engine_view, host};
 ghost use Rattle.ncs_machine.specs.Host.{scripts_of};
 ghost use Rattle.ncs_machine.specs.Steps.{FitArguments, IsHalfway, Remains, next_of, state};
+ghost use Rattle.ncs_machine.specs.Steps.{Frames, KeepsFrames};
 ghost use Rattle.world_core.specs.Calls.{AreServing, IsEarly};
 
 use crate::scripts::{Loaded, Scripts};
@@ -135,6 +137,30 @@ impl Machine {
         }
     }
 
+    /// The running script, in the middle of its run.
+    pub(crate) fn frame(&self) -> &Frame
+        ensures frame { result.now ≡ self.now.running }
+    {
+        &self.running
+    }
+
+    /// How many scripts wait.
+    #[tactic(auto, using(crate::proofs::RemarkLemmas::waiting_lies))]
+    pub(crate) fn waiting_count(&self) -> usize
+        ensures count { result ≡ length self.now.waiting }
+    {
+        self.waiting.len()
+    }
+
+    /// The script that waits at place `i`, counted from 0, the newest one.
+    #[tactic(auto, using(crate::proofs::RemarkLemmas::waiting_lies))]
+    pub(crate) fn waiting_at(&self, i: usize) -> Option<&Frame>
+        requires inside { i < length self.now.waiting }
+        ensures frame { option_copied result ≡ slice_get self.now.waiting i }
+    {
+        self.waiting.get(self.waiting.len() - 1 - i)
+    }
+
     /// The place of its next instruction.
     pub(crate) fn place(&self) -> u32
         ensures place { result ≡ self.now.running.place }
@@ -183,6 +209,7 @@ impl Machine {
     fn end_script(&mut self) -> StepOutcome
         ensures next { (w : WorldView SavedView) → over self.old.waiting (state self.old w)
             ≡ next_of result (state self.new w) }
+        ensures frames { (before : Frames) → KeepsFrames result before self.new }
         ensures remains { (script : ℕ) → Remains result script self.new.running.script }
         ensures own { (own : ℕ) → Remains result own self.new.running.self }
     {
@@ -202,6 +229,7 @@ impl Machine {
         ensures next { (h : Host (WorldView SavedView)) (w : WorldView SavedView) →
             followed h (state self.old w) (returned self.old.running.calls self.old.running)
             ≡ next_of result (state self.new w) }
+        ensures frames { KeepsFrames result self.old self.new }
         ensures remains { Remains result self.old.running.script self.new.running.script }
         ensures own { Remains result self.old.running.self self.new.running.self }
     {

@@ -12,7 +12,7 @@ ghost use Rattle.hook_table.specs.InHooks.{known_by};
 ghost use Rattle.decoded_code.specs.Steps.{op_of};
 ghost use Rattle.ncs_machine.specs.Host.{engine_view, host, scripts_of};
 ghost use Rattle.ncs_machine.specs.Steps.{GoesWell, IsHalfway, Remains, Stays, next_of, state};
-ghost use Rattle.ncs_machine.specs.Steps.{world_behind};
+ghost use Rattle.ncs_machine.specs.Steps.{KeepsFrames, world_behind};
 ghost use Rattle.world_core.specs.Calls.{AreServing, IsEarly};
 
 use crate::machine::{Machine, StepOutcome};
@@ -49,6 +49,7 @@ impl Machine {
         requires small { self.old.running.place + op_size (op_of decoded.now) ≤ file_limit }
         ensures room { world.old.room ≤ world.new.room }
         ensures stays { IfOk result (λ next. Stays next world.old.world world.new.world) }
+        ensures frames { IfOk result (λ next. KeepsFrames next self.old self.new) }
         ensures next { IfOk result (λ next. IfSome (act table.now (op_of decoded.now)
             self.old.running) (λ a. followed (host (scripts_of scripts.now)
             (engine_view table.now (known_by hooks.now)))
@@ -128,6 +129,7 @@ impl Machine {
             (state self.old world.old.world)) }
         ensures room { world.old.room ≤ world.new.room }
         ensures stays { IfOk result (λ next. Stays next world.old.world world.new.world) }
+        ensures frames { IfOk result (λ next. KeepsFrames next self.old self.new) }
         ensures next { IfOk result (λ next.
             step (host (scripts_of scripts.now)
             (engine_view table.now (known_by hooks.now)))

@@ -5,6 +5,10 @@
 //! it is left out. docs/MESSAGES.md tells the notes that are made of it.
 #![tactic(auto)]
 
+mod list;
+
+pub use list::RemarkList;
+
 /// Why an entry ended before its end.
 #[derive(Clone, Copy, PartialEq, Eq)]
 pub enum Ending {

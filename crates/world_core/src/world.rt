@@ -28,18 +28,21 @@ use area_tree::Area;
 use delay_agenda::{Entry, calls_keep_order};
 use hook_table::Hooks;
 use nwq_value::{Args, NoMemory, Randoms, Routine, Table, Text, Value};
+use play_remarks::{Remark, RemarkList};
 use std::alloc::Global;
 use std::marker::Model;
+use std::mem;
 use world_parts::{Parts, WorldParts};
 use world_rules::{StandingWalk, Told, calls_keep_worlds, entries_keep_worlds};
 
 /// The world in which scripts run.
 ///
 /// `room` counts the posts that a Turn's end may make without memory. The agenda has at least so
-/// much room.
+/// much room. Nothing that a world does depends on what is remarked of the play.
 pub struct World<X> {
     parts: Parts<X>,
     room: u32,
+    remarks: RemarkList,
 }
 
 impl<X> Model for World<X> {
@@ -60,8 +63,13 @@ impl<X> Model for World<X> {
 
 impl<X: Drop> Drop for World<X> {
     fn drop(self) {
-        let World { parts, room: _ } = self;
+        let World {
+            parts,
+            room: _,
+            remarks,
+        } = self;
         drop(parts);
+        drop(remarks);
     }
 }
 
@@ -87,7 +95,11 @@ impl<X: Drop> World<X> {
                     drop(parts);
                     Err(NoMemory)
                 }
-                Ok(()) => Ok(World { parts, room: 0 }),
+                Ok(()) => Ok(World {
+                    parts,
+                    room: 0,
+                    remarks: RemarkList::new(alloc),
+                }),
             },
         }
     }
@@ -98,7 +110,11 @@ impl<X: Drop> World<X> {
         ensures world { result.world ≡ put_together area saved }
     {
         let parts = Parts::from_parts(alloc, area, saved);
-        World { parts, room: 0 }
+        World {
+            parts,
+            room: 0,
+            remarks: RemarkList::new(alloc),
+        }
     }
 
     /// How many random numbers are left.
@@ -113,7 +129,12 @@ impl<X: Drop> World<X> {
         ensures parts { IfOk result (λ both. put_together both.0 both.1
             ≡ record self.world { trace = []; user = pos 0 }) }
     {
-        let World { parts, room: _ } = self;
+        let World {
+            parts,
+            room: _,
+            remarks,
+        } = self;
+        drop(remarks);
         parts.into_parts()
     }
 
@@ -372,8 +393,34 @@ impl<X: Drop> World<X> {
     pub fn into_area(self) -> Area
         ensures area { result ≡ self.world.area }
     {
-        let World { parts, room: _ } = self;
+        let World {
+            parts,
+            room: _,
+            remarks,
+        } = self;
+        drop(remarks);
         parts.into_area()
+    }
+
+    /// Remarks something of the play, which changes nothing in it. Where there is no memory for it,
+    /// it is left out.
+    pub fn remark(&mut self, remark: Remark)
+        ensures same { self.new ≡ self.old }
+    {
+        let _kept = self.remarks.keep(remark);
+    }
+
+    /// Whether one more remark is kept.
+    pub fn keeps_remarks(&self) -> bool {
+        self.remarks.has_room()
+    }
+
+    /// Takes what was remarked of the play.
+    pub fn take_remarks(&mut self) -> RemarkList
+        ensures same { self.new ≡ self.old }
+    {
+        let none = RemarkList::new(self.parts.alloc());
+        mem::replace(&mut self.remarks, none)
     }
 
     /// What every world keeps.

@@ -1,9 +1,9 @@
 use Rattle.std.proofs.Common.{arith, Some, slice_get, subst, sym, ap, ◌+◌, ◌∙◌}
 use Rattle.hook_table.specs.InHooks.{known_by}
 use Rattle.ncs_machine.specs.Host.{engine_view, scripts_of, tables_of}
-use Rattle.ncs_machine.specs.Steps.{Remains, Stays, next_of, state}
+use Rattle.ncs_machine.specs.Steps.{KeepsFrames, Remains, Stays, next_of, state}
 use Rattle.ncs_machine.proofs.Typed.{answers_typed}
-use Rattle.ncs_machine.proofs.Running.{cut_short, divided_run, ended_run, goes_on, run_begins, steps_well, still_listed, stopped_run}
+use Rattle.ncs_machine.proofs.Running.{cut_short, divided_last, divided_run, ended_run, goes_on, run_begins, steps_well, still_listed, stopped_last, stopped_run}
 use Rattle.ncs_machine.proofs.entry.run_machine.Goals.{in-Enters, in-Goes}
 use Rattle.ncs_machine.proofs.entry.run_machine.Goals as goal
 
@@ -60,6 +60,15 @@ returns-in-Divides-clause-run g c =
     c.loop-done.invariant.own
     (subst (λ n. Stays n c.loop-done.world.world c.step.new.world.world) c.in-Divides.is c.in-Ok.ensures.stays)
 
+pub returns-in-Divides-clause-last : goal.returns-in-Divides-clause-last
+returns-in-Divides-clause-last g c =
+    divided_last (scripts_of c.args.scripts.now) _
+    (tables_of c.args.scripts.now) c.args.limit c.loop-done.machine c.step.new.self c.args.machine.now c.args.world.now.world c.loop-done.world.world c.step.new.world.world
+    c.loop-done.done c.loop-done.invariant.running c.loop-done-test.true
+    (c.in-Ok.ensures.next ∙ ap (λ n. Some (next_of n (state c.step.new.self c.step.new.world.world))) c.in-Divides.is)
+    (subst (λ n. KeepsFrames n c.loop-done.machine c.step.new.self) c.in-Divides.is c.in-Ok.ensures.frames)
+    (subst (λ n. Stays n c.loop-done.world.world c.step.new.world.world) c.in-Divides.is c.in-Ok.ensures.stays)
+
 pub script-script-requires-in-Enters : goal.script-script-requires-in-Enters
 script-script-requires-in-Enters g c = record {
   listed = still_listed c.args.scripts.now _ (tables_of c.args.scripts.now) c.args.limit (state c.args.machine.now c.args.world.now.world)
@@ -96,3 +105,8 @@ pub returns-clause-run : goal.returns-clause-run
 returns-clause-run g c =
     stopped_run (scripts_of c.args.scripts.now) _ (tables_of c.args.scripts.now) c.args.limit c.loop-done.machine c.args.machine.now c.args.world.now.world c.loop-done.world.world
     c.loop-done.done c.loop-done.own c.loop-done.invariant.running (omega (arith, c.loop-done-test.false, c.loop-done.auto)) c.loop-done.invariant.own
+
+pub returns-clause-last : goal.returns-clause-last
+returns-clause-last g c =
+    stopped_last (scripts_of c.args.scripts.now) _ (tables_of c.args.scripts.now) c.args.limit c.loop-done.machine c.args.machine.now c.args.world.now.world c.loop-done.world.world
+    c.loop-done.done c.loop-done.invariant.running (omega (arith, c.loop-done-test.false, c.loop-done.auto))
