@@ -1,5 +1,5 @@
 -- The first remarks, and one more.
-use Rattle.std.proofs.Common.{arith, ◌≡◌, ◌≤◌, ◌<◌, ◌++◌, ◌∷◌, ℕ, List, [], length, take, subst, sym}
+use Rattle.std.proofs.Common.{arith, ◌≡◌, ◌≤◌, ◌<◌, ◌++◌, ◌∷◌, ℕ, List, [], length, take}
 use Rattle.std.proofs.lemmas.List.{length_push, take_all, take_at}
 
 pub none_more : {A : Type 0} (n : ℕ) (xs : List A) (x : A) → length xs ≤ n → n ≤ length xs → take n (xs ++ x ∷ []) ≡ xs
