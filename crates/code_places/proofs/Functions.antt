@@ -12,15 +12,15 @@ use Rattle.emission_rules.specs.Statements.{all_stmt_labels}
 use Rattle.emission_rules.specs.Units.{body_count, emit_function, emit_functions, emit_start, has_globals, start_labels, unit_code}
 use Rattle.code_places.specs.declared.seek.Seek.{Seek}
 use Rattle.code_places.specs.declared.seek.Seek.TheVariants.{Ahead, Found}
-use Rattle.code_places.specs.Nodes.{Node, nodes_item, nodes_items, unit_nodes}
+use Rattle.code_places.specs.Nodes.{nodes_item, nodes_items, unit_nodes}
 use Rattle.code_places.specs.Numbers.{Number, behind_item}
 use Rattle.code_places.specs.Marks.{Mark, function_marks, item_marks, start_marks}
 use Rattle.code_places.specs.Seeking.{is_found, sought}
-use Rattle.code_places.specs.Laws.{HasCode, LiesIn, StandsIn, count, instructions}
+use Rattle.code_places.specs.Laws.{LiesIn, StandsIn, count, instructions}
 use Rattle.code_places.specs.Functions.{FunctionsHold, IsFunctionCode, function_among, function_behind}
 use Rattle.code_places.proofs.Found.{first_of_two, others_of_two}
 use Rattle.code_places.proofs.Inside.{from_pad, pad}
-use Rattle.code_places.proofs.Owned.{count_add, length_add, size_of}
+use Rattle.code_places.proofs.Owned.{count_add, size_of}
 use Rattle.code_places.proofs.Owners.{From, function_marked, start_marked}
 use Rattle.code_places.proofs.Seeking.{sought_more, sought_none, still_found}
 
@@ -342,9 +342,3 @@ pub past : (l : Layout) (k m : Number) (j : ℕ) (i : TypedItem) (is : List Type
 past l k m j i is s t walks missed numbered =
     ap (λ z. cond (is_found z) (Some j) (function_among l (behind_item k i) (j + 1) is z)) (sym walks)
     ∙ (ap (λ b. cond b (Some j) (function_among l (behind_item k i) (j + 1) is t)) missed ∙ ap (λ n. function_among l n (j + 1) is t) (sym numbered))
-
-pub here_found : (l : Layout) (k : Number) (j : ℕ) (i : TypedItem) (is : List TypedItem) (s t : Seek) → t ≡ sought (item_marks l k i) s → is_found t ≡ true
-    → function_among l k j (i ∷ is) s ≡ Some j
-here_found l k j i is s t walks found =
-    ap (λ z. cond (is_found z) (Some j) (function_among l (behind_item k i) (j + 1) is z)) (sym walks)
-    ∙ ap (λ b. cond b (Some j) (function_among l (behind_item k i) (j + 1) is t)) found

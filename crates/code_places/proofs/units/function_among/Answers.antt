@@ -1,7 +1,7 @@
 use Rattle.std.proofs.Common.{◌∙◌, ◌+◌, refl, sym}
 use Rattle.typing_rules.specs.UnitReading.{typed_item, typed_items}
 use Rattle.code_places.specs.Functions.{function_among}
-use Rattle.code_places.proofs.Functions.{here_found, past}
+use Rattle.code_places.proofs.Functions.{past}
 use Rattle.code_places.proofs.Loops.{done, step}
 use Rattle.code_places.proofs.units.function_among.Goals as goal
 
