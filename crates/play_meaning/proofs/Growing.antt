@@ -16,7 +16,8 @@ use Rattle.world_rules.specs.Arguments.{int_at, text_at, object_at, effect_at}
 use Rattle.world_rules.specs.Pure.{CellLookup}
 use Rattle.world_rules.specs.World.{World, is_valid, queue_of, effects_of}
 use Rattle.world_rules.specs.Changes.{told, has_turn, is_effect, with_actions}
-use Rattle.world_rules.specs.Rows.{Call, drawn_from, drawn, assigned, delayed, awake, appended, appended_do, at_rest, cleared, applied, NewItem, TheAction, AWait, ASpeech, queued, Change, Print, Say, Draw, Assign, Delay, Queue, Clear, Vary, Apply, Remove, Signal, done}
+use Rattle.world_rules.specs.Rows.{Call, drawn_from, drawn, assigned, delayed, awake, appended, appended_do, at_rest, cleared, applied, NewItem, TheAction, AWait, ASpeech, queued, Change, Print, Say}
+use Rattle.world_rules.specs.Rows.{Draw, Assign, Delay, Queue, Clear, Vary, Apply, Remove, Signal, done}
 use Rattle.world_rules.specs.Engine.{engine}
 use Rattle.world_rules.specs.RowLaws.{engine_keeps}
 use Rattle.world_rules.specs.AlikeLaws.{call}
