@@ -72,8 +72,8 @@ fn bounded(heap: &Heap, facts: &Facts)
 
 /// The code with a table of shapes that meets the rules under this header, or `Unstacked` exactly
 /// where there is none. `NoMemory` comes where memory is refused, past 2^25 rows, nodes of lists of
-/// slots or nodes of lists of calls, and past 2^32 - 1 nodes of saved lists. The code is dropped on
-/// a refusal.
+/// slots or nodes of lists of calls, past 2^27 slots that calls and stored states put on other
+/// lists, and past 2^32 - 1 nodes of saved lists. The code is dropped on a refusal.
 #[tactic(auto, using(crate::proofs::Ending::checking))]
 pub fn check(alloc: Global, code: Code, table: &Table) -> Result<Checked, CheckFault>
     // What was handed in is kept.
