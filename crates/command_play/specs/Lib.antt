@@ -4,3 +4,4 @@ pub mod Stops
 pub mod Files
 pub mod Reads
 pub mod Laws
+pub mod Named

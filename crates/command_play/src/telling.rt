@@ -125,7 +125,8 @@ pub fn tell_end<F: Files, S: Sink>(
     ensures only { IfErr result StopsEnd }
     ensures used_up { IsTrue remarks.new.random_used_up ↔ (world.world.random ≡ []) }
 {
-    remark(&world, remarks);
+    let mut world = world;
+    remark(alloc, &mut world, scripts, remarks);
     match end_text(alloc, world, scripts, played) {
         Err(NoMemory) => Err(Status::Memory),
         Ok((area, text)) => end_by(alloc, played.how, to, area, text, files, out),

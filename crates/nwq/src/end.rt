@@ -225,7 +225,7 @@ pub(crate) fn end_of<F: Files + Watched, S: Sink, E: Sink>(
     // And the end is told to standard error, whichever it is.
     ensures said { err.new.told ≡ true }
 {
-    let mut remarks = Remarks::none();
+    let mut remarks = Remarks::none(alloc);
     let number = number_of(alloc, &words, files, out, &mut remarks);
     told(alloc, &words, number, remarks, files, out, err)
 }

@@ -44,7 +44,7 @@ pub(crate) fn status_told<'a, F: Files, S: Sink, L: Loan>(
     ensures only { ComesOf (form_of (map string_bytes words.now)) result.0 }
 {
     let mut telling: Telling<'a, S, L> = Telling::new(out);
-    let mut remarks = Remarks::none();
+    let mut remarks = Remarks::none(alloc);
     let status = status_of_words(alloc, words, files, &mut telling, hooks, &mut remarks);
     (status, telling.into_sink())
 }

@@ -133,7 +133,7 @@ fn end_of(
 ) -> u8
     requires hooks { AreServing (known_by hooks.now) }
 {
-    let mut remarks = Remarks::none();
+    let mut remarks = Remarks::none(alloc);
     let number = nwq_program(alloc, all, files, out, hooks, &mut remarks);
     let end = End {
         number,
