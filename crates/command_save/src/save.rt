@@ -17,6 +17,7 @@ ghost use Rattle.command_save.specs.Tellings.{MayBegin, TakesSome};
 
 use crate::inputs::{AreaFile, HeaderFile, read_area_file, read_header};
 use crate::saving::{BrokenPlay, ListedPlan, save_broken};
+use command_play::{Remarks, remark_endings};
 use command_plays::play_first;
 use command_work::Status;
 use hook_table::Hooks;
@@ -50,6 +51,7 @@ fn save_plan<F: Files, S: Sink>(
     hooks: &Hooks,
     files: &mut F,
     out: &mut S,
+    remarks: &mut Remarks,
 ) -> Result<(), Status>
     requires begins { MayBegin header listed.now.plan.now listed.now.scripts.now words.entries }
     requires hooks { AreServing (known_by hooks.now) }
@@ -72,6 +74,8 @@ fn save_plan<F: Files, S: Sink>(
             Err(status)
         }
         Ok((world, played)) => {
+            let mut world = world;
+            remark_endings(alloc, &mut world, listed.scripts, remarks);
             let broken = BrokenPlay { world, played };
             save_broken(
                 alloc,
@@ -96,6 +100,7 @@ fn save_area<F: Files, S: Sink>(
     hooks: &Hooks,
     files: &mut F,
     out: &mut S,
+    remarks: &mut Remarks,
 ) -> Result<(), Status>
     requires begins { MayBegin header listed.now.plan.now listed.now.scripts.now words.entries }
     requires hooks { AreServing (known_by hooks.now) }
@@ -112,7 +117,9 @@ fn save_area<F: Files, S: Sink>(
             drop(header);
             Err(status)
         }
-        Ok(area) => save_plan(alloc, header, area, listed, words, hooks, files, out),
+        Ok(area) => save_plan(
+            alloc, header, area, listed, words, hooks, files, out, remarks,
+        ),
     }
 }
 
@@ -126,6 +133,7 @@ fn save_scripts<F: Files, S: Sink>(
     hooks: &Hooks,
     files: &mut F,
     out: &mut S,
+    remarks: &mut Remarks,
 ) -> Result<(), Status>
     requires header { IsHeaderOf header.text header.table }
     requires hooks { AreServing (known_by hooks.now) }
@@ -148,7 +156,7 @@ fn save_scripts<F: Files, S: Sink>(
                 plan,
                 scripts: &scripts,
             };
-            save_area(alloc, header, &listed, words, hooks, files, out)
+            save_area(alloc, header, &listed, words, hooks, files, out, remarks)
         }
     }
 }
@@ -162,6 +170,7 @@ fn save_under<F: Files, S: Sink>(
     hooks: &Hooks,
     files: &mut F,
     out: &mut S,
+    remarks: &mut Remarks,
 ) -> Result<(), Status>
     requires hooks { AreServing (known_by hooks.now) }
     requires takes { TakesSome plan.now words.entries }
@@ -176,7 +185,7 @@ fn save_under<F: Files, S: Sink>(
 {
     match read_header(alloc, words.header, files, out) {
         Err(status) => Err(status),
-        Ok(header) => save_scripts(alloc, words, plan, header, hooks, files, out),
+        Ok(header) => save_scripts(alloc, words, plan, header, hooks, files, out, remarks),
     }
 }
 
@@ -189,6 +198,7 @@ pub fn save_play<F: Files, S: Sink>(
     hooks: &Hooks,
     files: &mut F,
     out: &mut S,
+    remarks: &mut Remarks,
 ) -> Result<(), Status>
     requires hooks { AreServing (known_by hooks.now) }
     requires some { 1 ≤ words.entries }
@@ -206,6 +216,6 @@ pub fn save_play<F: Files, S: Sink>(
 {
     match read_plan_file(alloc, words.plan, files, out) {
         Err(status) => Err(status),
-        Ok(plan) => save_under(alloc, words, &plan, hooks, files, out),
+        Ok(plan) => save_under(alloc, words, &plan, hooks, files, out, remarks),
     }
 }
