@@ -312,6 +312,29 @@ fn played_by<'a>(inputs: Inputs<'a>) -> &'a [u8] {
     }
 }
 
+/// Appends the notes on entries that ended before their end, by the table and the binaries that
+/// were read.
+fn put_endings<'a, F: Files>(
+    alloc: Global,
+    out: &mut Vec<u8>,
+    name: &'a [u8],
+    table: Option<&'a Table>,
+    binaries: &'a [Text],
+    end: End<'a>,
+    files: &mut F,
+) -> Result<(), NoMemory>
+    ensures same { F.contents files.new ≡ F.contents files.old }
+{
+    let play = Play {
+        name,
+        table,
+        names: end.names,
+        binaries,
+        remarks: end.remarks,
+    };
+    put_remarks(alloc, out, play, files)
+}
+
 /// Appends the notes on entries that ended before their end.
 fn put_ended<F: Files>(
     alloc: Global,
@@ -327,14 +350,16 @@ fn put_ended<F: Files>(
     }
     let table = table_in(alloc, inputs, files);
     let binaries = binaries_of(alloc, inputs, files)?;
-    let play = Play {
-        name: played_by(inputs),
-        table: table.as_ref(),
-        names: end.names,
-        binaries: binaries.as_slice(),
-        remarks: end.remarks,
-    };
-    put_remarks(alloc, out, play, files)
+    let name = played_by(inputs);
+    put_endings(
+        alloc,
+        out,
+        name,
+        table.as_ref(),
+        binaries.as_slice(),
+        end,
+        files,
+    )
 }
 
 /// The notes on a command that did its work, for standard error.
