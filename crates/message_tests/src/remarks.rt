@@ -73,6 +73,7 @@ struct Row {
 }
 
 /// A play, with its files and the names of its scripts.
+#[derive(Drop)]
 struct Played {
     words: &'static [&'static str],
     files: &'static [Held],
