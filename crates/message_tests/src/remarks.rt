@@ -131,6 +131,29 @@ fn names_of(alloc: Global, names: &[&str]) -> Result<Vec<Text>, NoMemory> {
     Ok(all)
 }
 
+/// What is said after these words, of these remarks on the scripts of these names.
+fn told_by<'a>(
+    alloc: Global,
+    words: &[String],
+    number: u8,
+    names: &'a [Text],
+    remarks: &'a [Remark],
+    files: &mut MemFiles,
+) -> MemSink {
+    let mut err = MemSink::new(alloc);
+    let end = End {
+        number,
+        line: b"",
+        trouble: None,
+        random_used_up: false,
+        remarks,
+        names,
+        no_text: None,
+    };
+    tell_end(alloc, words, end, files, &mut err);
+    err
+}
+
 /// What is said of these remarks on a play.
 fn told(alloc: Global, played: &Played, remarks: &[Remark]) -> Result<MemSink, NoMemory> {
     let mut files = MemFiles::new(alloc);
@@ -139,18 +162,14 @@ fn told(alloc: Global, played: &Played, remarks: &[Remark]) -> Result<MemSink, N
     }
     let words = words_of(alloc, played.words)?;
     let names = names_of(alloc, played.names)?;
-    let mut err = MemSink::new(alloc);
-    let end = End {
-        number: played.number,
-        line: b"",
-        trouble: None,
-        random_used_up: false,
+    Ok(told_by(
+        alloc,
+        words.as_slice(),
+        played.number,
+        names.as_slice(),
         remarks,
-        names: names.as_slice(),
-        no_text: None,
-    };
-    tell_end(alloc, words.as_slice(), end, &mut files, &mut err);
-    Ok(err)
+        &mut files,
+    ))
 }
 
 /// Whether all this is said of an entry.
