@@ -1,23 +1,24 @@
 -- What an index has under a name, by the tree of hashes and the tree of names behind it.
-use Rattle.std.proofs.Common.{◌≡◌, ◌∙◌, ℕ, Bool, true, false, cond, if◌then◌else◌, Vec, List, [], ◌∷◌, ◌++◌, map, Option, None, Some, IsSome, Result, Ok, Err, OnOk, refl, sym, ap, subst}
+use Rattle.std.proofs.Common.{◌≡◌, ◌∙◌, ℕ, Bool, true, false, cond, if◌then◌else◌, Vec, List, [], ◌∷◌, ◌++◌, map, Option, None, Some, IsSome, refl, sym, ap, subst}
 use Rattle.std.proofs.lemmas.Bool.{false≢true}
 use Rattle.std.proofs.lemmas.Cmp.{nat_cmp_total, tied_itself, eq_by_cmp_equiv}
 use Rattle.std.proofs.lemmas.Map.{lookup-none}
-use Rattle.std.proofs.lemmas.Map.Entries.{none_past_head, lookup_head, lookup_tail}
+use Rattle.std.proofs.lemmas.Map.Entries.{none_below_head, none_past_head, lookup_head, lookup_tail}
+use Rattle.std.proofs.lemmas.Option.{none-some, same_Some}
 use Rattle.std.proofs.lemmas.Map.Keys.{sorted_tail, IsDistinct-from_sorted}
 use Rattle.std.proofs.lemmas.Map.Lookups.{exact_unsigned}
 use Rattle.std.specs.declared.alloc.Global.{Global}
-use Rattle.std.specs.BTreeMap.{BTreeMap, get, is_at, IsOrdered}
+use Rattle.std.specs.BTreeMap.{BTreeMap, get, insert_entry, is_at, IsOrdered}
 use Rattle.std.specs.Cmp.Lexicographic.{bytes_decides}
 use Rattle.std.specs.List.Sorted.{IsStrictlySortedBy}
 use Rattle.std.specs.Map.{lookup, keys_of}
-use Rattle.std.specs.Option.{IfSome, is_some, option_or}
+use Rattle.std.specs.Option.{IfSome, MatchOption, is_some, option_or}
 use Rattle.std.specs.declared.cmp.Ordering.{Ordering}
 use Rattle.std.specs.declared.cmp.Ordering.TheVariants.{Less, Equal, Greater}
-use Rattle.std.specs.Ordering.{is_eq, nat_cmp}
+use Rattle.std.specs.Ordering.{is_eq, match_ordering, nat_cmp}
 use Rattle.std.specs.Str.{bytes_eq}
 use Rattle.nwq_value.specs.declared.index.Numbered.{Numbered}
-use Rattle.nwq_value.specs.Hashed.{hash_of, number_in, is_free, numbered, names_of, first_of, AreHashed, PutsFirst}
+use Rattle.nwq_value.specs.Hashed.{hash_of, number_in, is_free, numbered, names_of, first_of, AreHashed, IsTaken, PutsFirst}
 use Rattle.nwq_value.specs.Index.{entry, number_under, Puts}
 
 -- ---- a hash among the keys
@@ -217,7 +218,58 @@ none_from_not_some (Some n) is = absurd (false≢true (sym is))
 pub stays_out : (name : List ℕ) (first : BTreeMap ℕ Numbered) → AreHashed first → first_of first name ≡ None → PutsFirst name None first first
 stays_out name first hashed none = subst (λ u. PutsFirst name u first first) none (same_first name first hashed)
 
--- what follows from what holds on success
-pub on_ok : {T E : Type 0} (r : Result T E) (P Q : Type 0) → (P → Q) → OnOk r P → OnOk r Q
-on_ok (Ok x) P Q follows holds = follows holds
-on_ok (Err e) P Q follows holds = tt
+-- ---- a name that comes back
+
+-- what stands under a hash is exchanged, and put back
+insert_back : (h : ℕ) (v w : Numbered) (es : List (ℕ × Numbered)) → IsStrictlySortedBy nat_cmp (keys_of es) → lookup (is_at (nat_cmp h)) es ≡ Some v
+    → insert_entry nat_cmp (insert_entry nat_cmp es h w) h v ≡ es
+insert_back h v w [] sorted there = absurd (none-some v there)
+insert_back h v w (e ∷ es) sorted there = by (insert_back h v w es (sorted_tail nat_cmp e.0 (keys_of es) sorted)) (nat_cmp h e.0) refl
+  where
+    test : ℕ → Bool
+    test = is_at (nat_cmp h)
+
+    by : (lookup test es ≡ Some v → insert_entry nat_cmp (insert_entry nat_cmp es h w) h v ≡ es) → (o : Ordering) → nat_cmp h e.0 ≡ o
+        → insert_entry nat_cmp (match_ordering o ((h, w) ∷ e ∷ es) ((e.0, w) ∷ es) (e ∷ insert_entry nat_cmp es h w)) h v ≡ e ∷ es
+    by more Less is = absurd (none-some v (sym (lookup-none test (e ∷ es) (none_below_head nat_cmp_total h e es sorted is)) ∙ there))
+    by more Equal is = ap (λ o. match_ordering o ((h, v) ∷ (e.0, w) ∷ es) ((e.0, v) ∷ es) ((e.0, w) ∷ insert_entry nat_cmp es h v)) is
+        ∙ ap (λ x. (e.0, x) ∷ es) (sym (same_Some e.1 v (sym (lookup_head test e es (ap is_eq is)) ∙ there)))
+    by more Greater is = ap (λ o. match_ordering o ((h, v) ∷ e ∷ insert_entry nat_cmp es h w) ((e.0, v) ∷ insert_entry nat_cmp es h w)
+        (e ∷ insert_entry nat_cmp (insert_entry nat_cmp es h w) h v)) is
+        ∙ ap (λ fs. e ∷ fs) (more (sym (lookup_tail test e es (ap is_eq is)) ∙ there))
+
+-- so nothing changed
+pub taken_back : (name : List ℕ) (h : ℕ) (v w : Numbered) (old mid new : BTreeMap ℕ Numbered) → h ≡ hash_of name → AreHashed old
+    → Some v ≡ get nat_cmp old h → bytes_eq v.name.items name ≡ false
+    → mid.entries ≡ insert_entry nat_cmp old.entries h w → new.entries ≡ insert_entry nat_cmp mid.entries h v → IsOrdered nat_cmp new
+    → IsTaken name old new
+taken_back name h v w old mid new at before was apart first back sorted = record { taken = taken; same = same; hashed = (sorted, hashed) }
+  where
+    same : new.entries ≡ old.entries
+    same = back ∙ ap (λ es. insert_entry nat_cmp es h v) first ∙ insert_back h v w old.entries before.0 (sym was)
+
+    hashed : (q : ℕ) → IfSome (get nat_cmp new q) (λ held. hash_of held.name.items ≡ q)
+    hashed q = subst (λ es. IfSome (lookup (is_at (nat_cmp q)) es) (λ held. hash_of held.name.items ≡ q)) (sym same) (before.1 q)
+
+    other : (b : Bool) → bytes_eq name v.name.items ≡ b → b ≡ false
+    other true is = absurd (false≢true (sym apart ∙ (bytes_decides v.name.items name).1 (sym ((bytes_decides name v.name.items).0 is))))
+    other false is = refl
+
+    taken : is_free name (get nat_cmp old (hash_of name)) ≡ false
+    taken = ap (is_free name) (ap (get nat_cmp old) (sym at) ∙ sym was) ∙ other (bytes_eq name v.name.items) refl
+
+pub taken_out : (name : List ℕ) (old new : BTreeMap ℕ Numbered) → AreHashed old → IsTaken name old new → PutsFirst name None old new
+taken_out name old new before t = (
+  t.hashed,
+  λ x. ap (λ es. number_in x (lookup (is_at (nat_cmp (hash_of x))) es)) t.same
+      ∙ (stays_out name old before (none_where_taken name (get nat_cmp old (hash_of name)) t.taken)).1 x,
+)
+
+-- what an answer says where it is one of the two
+pub where_none : (P : Type 0) (Q : Numbered → Type 0) (o : Option Numbered) → o ≡ None → MatchOption o P Q → P
+where_none P Q o is h = subst (λ u. MatchOption u P Q) is h
+
+pub where_some : (P : Type 0) (Q : Numbered → Type 0) (o : Option Numbered) (x : Numbered) → o ≡ Some x → MatchOption o P Q → Q x
+where_some P Q o x is h = subst (λ u. MatchOption u P Q) is h
+
+pub ruleset put_lemmas = (updates_first, none_where_taken)

@@ -1,5 +1,5 @@
 -- How an index keeps its names: by a fixed hash the first of each hash, and by name the others.
-use Rattle.std.specs.Prelude.{◌≡◌, ℕ, Bool, true, List, ◌++◌, map, Option, None, Some, IfSome, Vec, if◌then◌else◌}
+use Rattle.std.specs.Prelude.{◌≡◌, ℕ, Bool, true, false, List, ◌++◌, map, Option, None, Some, IfSome, Vec, if◌then◌else◌}
 use Rattle.std.specs.BTreeMap.{BTreeMap, get, IsOrdered}
 use Rattle.std.specs.Hash.FoldHasher as folding
 use Rattle.std.specs.Ordering.{nat_cmp}
@@ -43,3 +43,9 @@ first_of first name = number_in name (get nat_cmp first (hash_of name))
 abbrev pub PutsFirst : List ℕ → Option ℕ → BTreeMap ℕ Numbered → BTreeMap ℕ Numbered → Type 0
 PutsFirst name number old new = AreHashed new
     × ((x : List ℕ) → first_of new x ≡ (if bytes_eq x name then number else first_of old x))
+
+-- another name stands under the hash of a name, and all stays as it was
+pub record IsTaken (name : List ℕ) (old new : BTreeMap ℕ Numbered) : Type 0 where
+  pub taken : is_free name (get nat_cmp old (hash_of name)) ≡ false
+  pub same : new.entries ≡ old.entries
+  pub hashed : AreHashed new

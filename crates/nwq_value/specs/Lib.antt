@@ -5,6 +5,7 @@ pub mod Hashed
 pub mod Header
 pub mod HeaderTable
 pub mod Index
+pub mod Kept
 pub mod Limits
 pub mod Operators
 pub mod Roles

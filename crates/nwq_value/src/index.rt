@@ -1,8 +1,7 @@
-ghost use Rattle.std.specs.Prelude.{◌≡◌, [], None, Some, IsSome, OnOk, OnErr, map, true};
-ghost use Rattle.std.specs.Ordering.{nat_cmp};
-ghost use Rattle.std.specs.BTreeMap.{get};
+ghost use Rattle.std.specs.Prelude.{◌≡◌, [], None, Some, IsSome, IfOk, OnOk, OnErr, MatchOption};
+ghost use Rattle.std.specs.Prelude.{map};
 ghost use Rattle.nwq_value.specs.Index.{entry, number_under, Puts};
-ghost use Rattle.nwq_value.specs.Hashed.{hash_of, first_of, is_free, AreHashed, PutsFirst};
+ghost use Rattle.nwq_value.specs.Hashed.{hash_of, first_of, AreHashed, IsTaken, PutsFirst};
 
 use crate::memory::NoMemory;
 use std::alloc::Global;
@@ -77,29 +76,36 @@ fn first_of(first: &BTreeMap<u64, Numbered>, name: &[u8]) -> Option<usize>
     }
 }
 
-/// Whether no other name stands under the hash of a name.
-fn is_free(first: &BTreeMap<u64, Numbered>, hash: u64, name: &[u8]) -> bool
-    ensures { result ≡ is_free name.now (get nat_cmp first.now hash) }
-{
-    match first.get(&hash) {
-        Some(held) => held.name.as_slice() == name,
-        None => true,
-    }
-}
-
-/// Puts a name with its number under its hash, where no other name stands.
-fn put_first(first: &mut BTreeMap<u64, Numbered>, hash: u64, held: Numbered) -> Result<(), NoMemory>
+/// Puts a name with its number under its hash. Where another name stands there, that one stays, and
+/// the new one comes back: this is rare, so it isn't looked for before.
+#[tactic(auto, using(crate::proofs::HashLemmas::put_lemmas))]
+fn put_first(
+    first: &mut BTreeMap<u64, Numbered>,
+    hash: u64,
+    name: &[u8],
+    held: Numbered,
+) -> Result<Option<Numbered>, NoMemory>
     requires hashed { AreHashed first.old }
-    requires hash { hash ≡ hash_of held.name.items }
-    requires free { is_free held.name.items (get nat_cmp first.old hash) ≡ true }
-    ensures ok { OnOk result
-        (PutsFirst held.name.items (Some held.number) first.old first.new) }
+    requires hash { hash ≡ hash_of name.now }
+    requires name { held.name.items ≡ name.now }
+    ensures ok { IfOk result (λ back. MatchOption back
+        (PutsFirst name.now (Some held.number) first.old first.new)
+        (λ left. (left ≡ held) × IsTaken name.now first.old first.new)) }
     ensures same { OnErr result (first.new.entries ≡ first.old.entries) }
     ensures still { OnErr result (AreHashed first.new) }
 {
     match first.insert(hash, held) {
-        Ok(_) => Ok(()),
         Err(_) => Err(NoMemory),
+        Ok(None) => Ok(None),
+        Ok(Some(old)) => {
+            if old.name.as_slice() == name {
+                return Ok(None);
+            }
+            match first.insert(hash, old) {
+                Ok(Some(held)) => Ok(Some(held)),
+                _ => unreachable!(),
+            }
+        }
     }
 }
 
@@ -165,11 +171,13 @@ impl NameIndex {
     {
         let hash = hash_of(name);
         let key = Vec::from_slice(self.alloc, name)?;
-        if is_free(&self.first, hash, name) {
-            put_first(&mut self.first, hash, Numbered { name: key, number })
-        } else {
-            self.others.insert(key, number)?;
-            Ok(())
+        let held = Numbered { name: key, number };
+        match put_first(&mut self.first, hash, name, held)? {
+            None => Ok(()),
+            Some(back) => {
+                self.others.insert(back.name, back.number)?;
+                Ok(())
+            }
         }
     }
 

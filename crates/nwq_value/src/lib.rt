@@ -18,6 +18,7 @@ pub mod engine;
 pub mod header;
 pub mod index;
 pub mod items;
+mod kept;
 pub mod memory;
 pub mod roles;
 pub mod table;

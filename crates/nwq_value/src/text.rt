@@ -1,6 +1,7 @@
 ghost use Rattle.std.specs.Prelude.{◌≡◌, ◌++◌, ◌≤◌, [], length, take, IfOk};
 ghost use Rattle.nwq_value.specs.Limits.{text_limit};
 
+use crate::kept::Kept;
 use crate::memory::NoMemory;
 use std::alloc::Global;
 use std::marker::Model;
@@ -14,18 +15,19 @@ pub const TEXT_BYTES: usize = 8192;
 /// Copies share the bytes, so a copy takes no memory.
 #[derive(Drop)]
 pub struct Text {
-    bytes: Rc<Vec<u8>>,
+    bytes: Rc<Kept>,
 }
 
 impl Model for Text {
     ghost use Rattle.std.specs.Prelude.{List, ℕ, ◌≤◌, length};
+    ghost use Rattle.nwq_value.specs.Kept.{bytes_of};
     ghost use Rattle.nwq_value.specs.Limits.{text_limit};
 
     ghost Value = { List ℕ };
 
-    ghost view = { λ a. a.bytes.value.items };
+    ghost view = { λ a. bytes_of a.bytes.value };
 
-    ghost invariant = { λ a. length a.bytes.value.items ≤ text_limit };
+    ghost invariant = { λ a. length (bytes_of a.bytes.value) ≤ text_limit };
 }
 
 /// The first `n` bytes, or all where there are fewer.
@@ -43,7 +45,7 @@ impl Text {
         ensures empty { IfOk result (λ text. text ≡ []) }
     {
         Ok(Text {
-            bytes: Rc::new(alloc, Vec::new(alloc))?,
+            bytes: Rc::new(alloc, Kept::of(alloc, &[])?)?,
         })
     }
 
@@ -51,7 +53,7 @@ impl Text {
     pub fn of(alloc: Global, bytes: &[u8]) -> Result<Text, NoMemory>
         ensures ok { IfOk result (λ text. text ≡ take text_limit bytes.now) }
     {
-        let bytes = Vec::from_slice(alloc, prefix(bytes, TEXT_BYTES))?;
+        let bytes = Kept::of(alloc, prefix(bytes, TEXT_BYTES))?;
         Ok(Text {
             bytes: Rc::new(alloc, bytes)?,
         })
@@ -80,9 +82,7 @@ impl Text {
     {
         let first = self.bytes();
         let second = prefix(other.bytes(), TEXT_BYTES - first.len());
-        let mut bytes = Vec::with_capacity(alloc, first.len() + second.len())?;
-        bytes.extend_from_slice(first)?;
-        bytes.extend_from_slice(second)?;
+        let bytes = Kept::joined(alloc, first, second)?;
         Ok(Text {
             bytes: Rc::new(alloc, bytes)?,
         })
