@@ -4,7 +4,7 @@ use Rattle.std.specs.Fmt.{signed_decimal}
 use Rattle.std.specs.Result.{OnOk}
 use Rattle.nwq_value.specs.declared.value.Ty.{Ty}
 use Rattle.nwq_value.specs.declared.value.Ty.TheVariants.{Void, Int, Text, Object, Effect, Event, Action, Struct, Refused}
-use Rattle.nss_reasons.specs.declared.reason.Reason.TheVariants.{NoMember}
+use Rattle.expression_reasons.specs.declared.reason.Reason.TheVariants.{NoMember}
 use Rattle.message_sentences.specs.Template.{filled}
 use Rattle.message_types.specs.Sentences.{or_nothing, said, type_word}
 

@@ -2,7 +2,7 @@
 use Rattle.std.proofs.Common.{◌≡◌, ℕ, Bool, true, false, List, [], ◌++◌, Option, None, Some, is_some, refl, sym, ap, ◌∙◌, append-nil, true≢false}
 use Rattle.nwq_value.specs.Engine.{EngineTable}
 use Rattle.nss_tree.specs.Source.{SourceTree}
-use Rattle.nss_reasons.specs.declared.reason.Reason.{Reason}
+use Rattle.expression_reasons.specs.declared.reason.Reason.{Reason}
 use Rattle.nss_reasons.specs.Reasons.{reason_at}
 use Rattle.message_types.specs.Sentences.{or_nothing, said, said_there}
 use Rattle.message_types.specs.Told.{TellsOf}

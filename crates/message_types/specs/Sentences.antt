@@ -4,8 +4,8 @@ use Rattle.std.specs.Fmt.{decimal, signed_decimal}
 use Rattle.nwq_value.specs.declared.value.Ty.{Ty}
 use Rattle.nwq_value.specs.declared.value.Ty.TheVariants.{Void, Int, Text, Object, Effect, Event, Action, Struct, Refused}
 use Rattle.message_sentences.specs.Template.{filled}
-use Rattle.nss_reasons.specs.declared.reason.Reason.{Reason}
-use Rattle.nss_reasons.specs.declared.reason.Reason.TheVariants.{Operands, Operand, Arguments, Argument, Condition, Returned, Value, Default, Label, NoMember, Again, NoVariable, NoConstant}
+use Rattle.expression_reasons.specs.declared.reason.Reason.{Reason}
+use Rattle.expression_reasons.specs.declared.reason.Reason.TheVariants.{Operands, Operand, Arguments, Argument, Condition, Returned, Value, Default, Label, NoMember, Again, NoVariable, NoConstant}
 
 abbrev pub type_word : Ty → List ℕ
 type_word Void = codes "void"

@@ -4,7 +4,7 @@ use Rattle.nwq_value.specs.Engine.{EngineTable}
 use Rattle.nss_tree.specs.Source.{SourceTree}
 use Rattle.nss_symbols.specs.Symbols.{Symbol}
 use Rattle.nss_parser.specs.Sentence.{Parses}
-use Rattle.nss_reasons.specs.declared.reason.Reason.{Reason}
+use Rattle.expression_reasons.specs.declared.reason.Reason.{Reason}
 use Rattle.nss_reasons.specs.Reasons.{reason_at}
 use Rattle.message_types.specs.Sentences.{said}
 

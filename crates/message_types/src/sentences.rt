@@ -2,13 +2,13 @@
 
 ghost use Rattle.std.specs.Prelude.{◌≡◌, ◌++◌, ℕ, List, codes, is_some, not, IfOk, OnOk};
 ghost use Rattle.std.specs.Fmt.{decimal, signed_decimal};
-ghost use Rattle.nss_reasons.specs.declared.reason.Reason.TheVariants.{NoMember, Returned};
+ghost use Rattle.expression_reasons.specs.declared.reason.Reason.TheVariants.{NoMember, Returned};
 ghost use Rattle.message_types.specs.Sentences.{count_text, or_nothing, range_text, said, sum_text};
 ghost use Rattle.message_types.specs.Sentences.{type_word, wanted_text};
 ghost use Rattle.message_sentences.specs.Template.{filled};
 
+use expression_reasons::Reason;
 use message_sentences::{put_sentence, put_words, same};
-use nss_reasons::Reason;
 use nwq_text::{put_count, put_number as put_signed};
 use nwq_value::{NoMemory, Ty};
 

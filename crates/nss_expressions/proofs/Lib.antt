@@ -1,2 +1,1 @@
 pub mod ArgumentLemmas
-pub mod Nodes

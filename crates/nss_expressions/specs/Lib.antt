@@ -4,3 +4,5 @@ pub mod Rows
 pub mod Kept
 pub mod RowLaws
 pub mod Walked
+pub mod Nodes
+pub mod ArgumentLaws

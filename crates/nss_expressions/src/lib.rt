@@ -9,7 +9,7 @@
 //! docs/TYPES.md.
 #![tactic(auto)]
 
-#[tactic(auto, using(crate::proofs::ArgumentLemmas::filled_is))]
+#[tactic(auto, using(crate::specs::ArgumentLaws::filled_is))]
 pub mod call;
 pub mod called;
 pub mod constant;

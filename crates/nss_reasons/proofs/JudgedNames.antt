@@ -10,10 +10,11 @@ use Rattle.typing_rules.specs.Rules.{constant_name_rule, default_fits, is_behind
 use Rattle.typing_rules.specs.Sight.{Sight, cells, crosses_with, is_taken}
 use Rattle.typing_rules.specs.Typed.{TypedExpr, type_of}
 use Rattle.typing_rules.specs.Types.{is_void, same_type}
-use Rattle.nss_reasons.specs.declared.reason.Reason.{Reason}
-use Rattle.nss_reasons.specs.declared.reason.Reason.TheVariants.{NoDefault, NoVariable, Taken, Value}
+use Rattle.expression_reasons.specs.declared.reason.Reason.{Reason}
+use Rattle.expression_reasons.specs.declared.reason.Reason.TheVariants.{NoDefault, NoVariable, Taken, Value}
 use Rattle.nss_reasons.specs.Reasons.{parameter_by}
-use Rattle.nss_reasons.specs.Why.{because, constant_reason, const_type_there, declared_by, declared_why, default_by, default_fits_type, default_reason, fits_type, parameter_by_tests, parameter_named, unless, value_reason, variable_reason}
+use Rattle.expression_reasons.specs.Why.{because, unless}
+use Rattle.nss_reasons.specs.Why.{constant_reason, const_type_there, declared_by, declared_why, default_by, default_fits_type, default_reason, fits_type, parameter_by_tests, parameter_named, value_reason, variable_reason}
 
 tested : {B : Type 0} (taken fits crosses : Bool) (made : B) (r : Reason)
     → declared_by taken fits crosses r ≡ unless (when (not taken && (fits && not crosses)) made) (if taken then Taken else r)

@@ -1,82 +1,25 @@
--- What is found in a row, part by part.
-use Rattle.std.proofs.Common.{◌≡◌, ℕ, ◌+◌, ◌<◌, ◌≤◌, List, [], ◌∷◌, ◌++◌, length, drop, get_or, map, Option, Bool, refl, sym, ap, ◌∙◌}
+-- What stands in rows.
+use Rattle.std.proofs.Common.{◌≡◌, ℕ, ◌+◌, ◌<◌, List, [], ◌∷◌, ◌++◌, length, drop, get_or, map, Option, Bool, refl, sym, ap, ◌∙◌}
 use Rattle.std.specs.Option.{option_map}
-use Rattle.std.proofs.lemmas.List.{at_drop_more, at_drop_all}
+use Rattle.std.proofs.lemmas.List.{at_drop_more}
 use Rattle.nss_tree.specs.declared.constants.Constant.{Constant}
 use Rattle.nss_tree.specs.declared.constants.TypeName.{TypeName}
 use Rattle.nss_tree.specs.declared.expressions.Expr.{Expr}
 use Rattle.nss_tree.specs.declared.statements.DeclaredName.{DeclaredName}
 use Rattle.nss_tree.specs.declared.statements.Stmt.{Stmt}
 use Rattle.nss_tree.specs.declared.units.Item.{Item}
-use Rattle.nss_tree.specs.Reading.{plain_expr, plain_exprs, plain_name, plain_names, plain_stmt, plain_stmts, plain_item}
-use Rattle.nss_tree.specs.Readings.{stmts_more, map_stmts_none, plain_exprs_none, plain_exprs_more}
+use Rattle.nss_tree.specs.Reading.{plain_expr, plain_name, plain_names, plain_stmt, plain_stmts, plain_item}
+use Rattle.nss_tree.specs.Readings.{stmts_more, map_stmts_none}
 use Rattle.nss_tree.specs.Source.{SourceLine, SourceParameter}
 use Rattle.nss_tree.specs.Statements.{map_stmts, more_stmts, no_stmt}
 use Rattle.nwq_value.specs.declared.value.Ty.{Ty}
-use Rattle.nwq_value.specs.declared.engine.Param.{Param}
-use Rattle.typing_rules.specs.Rules.{others, takes_action}
 use Rattle.typing_rules.specs.Sight.{Head, Sight, Structure, declared}
 use Rattle.typing_rules.specs.Verdicts.{after, afters, after_names, after_item, after_items, after_params, late_after, parameter_declared}
-use Rattle.nss_reasons.specs.declared.reason.Reason.{Reason}
-use Rattle.nss_reasons.specs.Reasons.{nodes, all_nodes, nodes_there, value_nodes, variable_why, names_nodes, stmt_nodes, stmts_nodes, parameter_why, params_nodes, fields_nodes, item_nodes, items_nodes}
-use Rattle.nss_reasons.specs.Seen.{Node, own, seen, seen_append}
+use Rattle.expression_reasons.specs.Reasons.{nodes_there, value_nodes}
+use Rattle.nss_reasons.specs.Reasons.{variable_why, names_nodes, stmt_nodes, stmts_nodes, parameter_why, params_nodes, fields_nodes, item_nodes, items_nodes}
+use Rattle.expression_reasons.specs.Seen.{own}
 use Rattle.nss_reasons.specs.Why.{line_why}
-
-pub record RowLaws {C R : Type 0} (after : C → R → C) (own_nodes : C → R → List Node)
-    (Nodes : C → List R → List Node) (After : C → List R → C) : Type 0 where
-  pub nodes_more : (c : C) (r : R) (rs : List R) → Nodes c (r ∷ rs) ≡ own_nodes c r ++ Nodes (after c r) rs
-  pub nodes_none : (c : C) → Nodes c [] ≡ []
-  pub after_more : (c : C) (r : R) (rs : List R) → After c (r ∷ rs) ≡ After (after c r) rs
-  pub after_none : (c : C) → After c [] ≡ c
-
-module _ {C R : Type 0} {after : C → R → C} {own_nodes : C → R → List Node}
-    {Nodes : C → List R → List Node} {After : C → List R → C}
-    (laws : RowLaws after own_nodes Nodes After) (rs : List R) (i : ℕ) where
-  module _ (d e : R) (lt : i < length rs) (is : e ≡ get_or rs i d) (c c' : C) (next : c' ≡ after c e) where
-    nodes_at : Nodes c (drop i rs) ≡ own_nodes c e ++ Nodes (after c e) (drop (i + 1) rs)
-    nodes_at = at_drop_more (Nodes c) rs i d lt
-        ∙ (ap (λ y. Nodes c (y ∷ drop (i + 1) rs)) (sym is) ∙ laws.nodes_more c e (drop (i + 1) rs))
-
-    after_at : After c (drop i rs) ≡ After (after c e) (drop (i + 1) rs)
-    after_at = at_drop_more (After c) rs i d lt
-        ∙ (ap (λ y. After c (y ∷ drop (i + 1) rs)) (sym is) ∙ laws.after_more c e (drop (i + 1) rs))
-
-    pub row_found : (k : ℕ) (l l' whole : Option Reason) → l' ≡ seen k l (own_nodes c e)
-        → seen k l (Nodes c (drop i rs)) ≡ whole → seen k l' (Nodes c' (drop (i + 1) rs)) ≡ whole
-    row_found k l l' whole walked so_far =
-        ap (λ o. seen k o (Nodes c' (drop (i + 1) rs))) walked
-        ∙ (ap (λ s. seen k (seen k l (own_nodes c e)) (Nodes s (drop (i + 1) rs))) next
-        ∙ (sym (seen_append k l (own_nodes c e) (Nodes (after c e) (drop (i + 1) rs)))
-        ∙ (ap (seen k l) (sym nodes_at) ∙ so_far)))
-
-    pub row_sight : (whole : C) → After c (drop i rs) ≡ whole → After c' (drop (i + 1) rs) ≡ whole
-    row_sight whole so_far = ap (λ s. After s (drop (i + 1) rs)) next ∙ (sym after_at ∙ so_far)
-
-  module _ (le : length rs ≤ i) (c : C) where
-    pub row_end_found : (k : ℕ) (l whole : Option Reason) → seen k l (Nodes c (drop i rs)) ≡ whole → l ≡ whole
-    row_end_found k l whole so_far = ap (seen k l)
-        (sym (laws.nodes_none c) ∙ sym (at_drop_all (Nodes c) rs i le)) ∙ so_far
-
-    pub row_end_sight : (whole : C) → After c (drop i rs) ≡ whole → c ≡ whole
-    row_end_sight whole so_far = sym (laws.after_none c) ∙ (sym (at_drop_all (After c) rs i le) ∙ so_far)
-
--- ---- what stands in rows
-
-abbrev others_after : List Param → List Expr → List Param
-others_after ps [] = ps
-others_after ps (e ∷ es) = others_after (others ps) es
-
-pub argument_laws : (hs : List Head) (s : Sight) → RowLaws
-    (λ (ps : List Param) (e : Expr). others ps)
-    (λ ps e. nodes hs s (takes_action ps) (plain_expr e))
-    (λ ps es. all_nodes hs s ps (plain_exprs es))
-    others_after
-argument_laws hs s = record {
-  nodes_more = λ ps e es. ap (all_nodes hs s ps) (plain_exprs_more e es);
-  nodes_none = λ ps. ap (all_nodes hs s ps) plain_exprs_none;
-  after_more = λ ps e es. refl;
-  after_none = λ ps. refl;
-}
+use Rattle.expression_reasons.specs.Rows.{RowLaws}
 
 pub name_laws : (hs : List Head) (ty : Option Ty) → RowLaws
     (λ (c : Sight) (d : DeclaredName Expr (List ℕ)). declared c d.name ty)

@@ -5,11 +5,11 @@ ghost use Rattle.nss_tree.specs.Reading.{plain_item, plain_tree};
 ghost use Rattle.typing_rules.specs.Sight.{start};
 ghost use Rattle.typing_rules.specs.Verdicts.{after_items, heads};
 ghost use Rattle.nss_scopes.specs.Views.{in_sight};
+ghost use Rattle.expression_reasons.specs.Seen.{seen};
 ghost use Rattle.nss_reasons.specs.Reasons.{items_nodes, reason_at};
-ghost use Rattle.nss_reasons.specs.Seen.{seen};
 
 use crate::item::items;
-use crate::reason::Reason;
+use expression_reasons::reason::Reason;
 use nss_expressions::given::Given;
 use nss_scopes::{Heads, Sight};
 use nss_tree::{Item, Tree};

@@ -2,5 +2,4 @@ pub mod NameRows
 pub mod Judged
 pub mod StatementRows
 pub mod SameSight
-pub mod Nodes
 pub mod ReturnLemmas

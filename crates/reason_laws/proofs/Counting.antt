@@ -5,8 +5,8 @@ use Rattle.std.proofs.lemmas.Bool.{cases_eq, eq-eqb, ne_eqb}
 use Rattle.nss_symbols.specs.Symbols.{Symbol, Numbered, numbered_from}
 use Rattle.nss_symbols.specs.Symbols as symbols
 use Rattle.typing_rules.specs.declared.fault.FaultKind.{FaultKind}
-use Rattle.nss_reasons.specs.declared.reason.Reason.{Reason}
-use Rattle.nss_reasons.specs.Seen.{Node, first_of, own, seen}
+use Rattle.expression_reasons.specs.declared.reason.Reason.{Reason}
+use Rattle.expression_reasons.specs.Seen.{Node, first_of, own, seen}
 use Rattle.reason_laws.specs.Laws.{Tells}
 use Rattle.reason_laws.proofs.Told.{Has}
 

@@ -11,9 +11,10 @@ use Rattle.nss_parser.specs.Grammar.{Expression, Binary, Unary, Postfix, Primary
 use Rattle.nss_parser.specs.Unit as spelled
 use Rattle.nss_parser.specs.Unit.{Field, Fields, ParameterTokens, ParameterList, Parameters, Body, Item, Items}
 use Rattle.typing_rules.specs.Sight.{Head, Sight, Structure}
-use Rattle.nss_reasons.specs.declared.reason.Reason.{Reason}
-use Rattle.nss_reasons.specs.Reasons.{all_nodes, fields_nodes, item_nodes, items_nodes, names_nodes, nodes, nodes_there, params_nodes, stmt_nodes, stmts_nodes, value_nodes, variable_why}
-use Rattle.nss_reasons.specs.Seen.{own}
+use Rattle.expression_reasons.specs.declared.reason.Reason.{Reason}
+use Rattle.expression_reasons.specs.Reasons.{all_nodes, nodes, nodes_there, value_nodes}
+use Rattle.nss_reasons.specs.Reasons.{fields_nodes, item_nodes, items_nodes, names_nodes, params_nodes, stmt_nodes, stmts_nodes, variable_why}
+use Rattle.expression_reasons.specs.Seen.{own}
 use Rattle.reason_laws.proofs.Counting.{Within, within_alone, within_before, within_behind, within_condition, within_crossed, within_infix, within_join, within_node, within_none, within_own}
 use Rattle.reason_laws.proofs.Counting.{within_skip, within_suffix, within_tested}
 

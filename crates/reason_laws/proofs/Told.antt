@@ -4,9 +4,9 @@ use Rattle.typing_rules.specs.declared.fault.Fault.{Fault}
 use Rattle.typing_rules.specs.declared.fault.FaultKind.{FaultKind}
 use Rattle.typing_rules.specs.Nodes.{Rows, Among, asked, at, first_kind, ruled}
 use Rattle.typing_rules.specs.Rules.{when}
-use Rattle.nss_reasons.specs.declared.reason.Reason.{Reason}
-use Rattle.nss_reasons.specs.Seen.{Node, own}
-use Rattle.nss_reasons.specs.Why.{because, unless}
+use Rattle.expression_reasons.specs.declared.reason.Reason.{Reason}
+use Rattle.expression_reasons.specs.Seen.{Node, own}
+use Rattle.expression_reasons.specs.Why.{because, unless}
 use Rattle.reason_laws.specs.Laws.{Tells, is_joined, kind_of}
 
 -- the node of this token, with a reason of this kind

@@ -20,11 +20,12 @@ use Rattle.typing_rules.specs.Rules.{others, takes_action}
 use Rattle.typing_rules.specs.Verdicts.{after, after_item, after_line, after_then, all_faults, all_fine, body_faults, body_fine, constant_faults, constant_value, faults, field_added, fields_faults}
 use Rattle.typing_rules.specs.Verdicts.{head_verdict, in_body, in_function, item_faults, items_faults, late_after, line_type, lines_faults, lines_fine, names_faults, parameter_declared, params_faults}
 use Rattle.typing_rules.specs.Verdicts.{params_fine, stmt_faults, stmt_verdict, stmts_faults, stmts_fine, value, value_faults, verdict, constant_parts}
-use Rattle.nss_reasons.specs.Reasons.{all_nodes, fields_nodes, item_nodes, items_nodes, line_nodes, names_nodes, nodes, nodes_there, params_nodes, stmt_nodes, stmts_nodes, value_nodes}
-use Rattle.nss_reasons.specs.Seen.{Node, own}
-use Rattle.nss_reasons.specs.declared.reason.Reason.TheVariants as why
-use Rattle.nss_reasons.specs.Why.{assign_reason, case_reason, constant_reason, line_reason, line_why, member_reason, operands, parameter_reason, postfix_reason, prefix_reason, return_reason}
-use Rattle.nss_reasons.specs.Why.{variable_reason}
+use Rattle.expression_reasons.specs.Reasons.{all_nodes, nodes, nodes_there, value_nodes}
+use Rattle.nss_reasons.specs.Reasons.{fields_nodes, item_nodes, items_nodes, line_nodes, names_nodes, params_nodes, stmt_nodes, stmts_nodes}
+use Rattle.expression_reasons.specs.Seen.{Node, own}
+use Rattle.expression_reasons.specs.declared.reason.Reason.TheVariants as why
+use Rattle.expression_reasons.specs.Why.{assign_reason, member_reason, operands, postfix_reason, prefix_reason, return_reason}
+use Rattle.nss_reasons.specs.Why.{case_reason, constant_reason, line_reason, line_why, parameter_reason, variable_reason}
 use Rattle.reason_laws.proofs.Told.{Each, each_asked, each_both, each_join, each_left, each_none, each_right, each_silent}
 use Rattle.reason_laws.proofs.Fitting.{assign_fits, binary_fits, case_fits, constant_fits, constant_line_fits, constant_other, default_other, each_call, each_do, each_endless, each_for, each_if}
 use Rattle.reason_laws.proofs.Fitting.{each_if_else, each_switch, each_while, head_other, line_fits, member_fits, name_other, parameter_fits, postfix_fits, prefix_fits, redeclared_other, return_fits}

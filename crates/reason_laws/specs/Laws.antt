@@ -8,8 +8,8 @@ use Rattle.typing_rules.specs.declared.fault.Fault.{Fault}
 use Rattle.typing_rules.specs.declared.fault.FaultKind.{FaultKind}
 use Rattle.typing_rules.specs.declared.fault.FaultKind.TheVariants as fault
 use Rattle.typing_rules.specs.Meaning.{FaultInUnit}
-use Rattle.nss_reasons.specs.declared.reason.Reason.{Reason}
-use Rattle.nss_reasons.specs.declared.reason.Reason.TheVariants.{Operands, Operand, NoPlace, Uncallable, NoFunction, Arguments, Barred, Argument, NoMember, Condition, Returned, Taken, Value, Default, Cells, Again, Misplaced, Label, NoDefault, NoVariable, NoConstant, LeftOut, NoStruct}
+use Rattle.expression_reasons.specs.declared.reason.Reason.{Reason}
+use Rattle.expression_reasons.specs.declared.reason.Reason.TheVariants.{Operands, Operand, NoPlace, Uncallable, NoFunction, Arguments, Barred, Argument, NoMember, Condition, Returned, Taken, Value, Default, Cells, Again, Misplaced, Label, NoDefault, NoVariable, NoConstant, LeftOut, NoStruct}
 use Rattle.nss_reasons.specs.Reasons.{reason_at}
 
 -- the kind of fault whose row a reason speaks of

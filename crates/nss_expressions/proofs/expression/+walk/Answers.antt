@@ -10,8 +10,9 @@ use Rattle.typing_rules.specs.Rules.{call_rows, call_rule, member_rows, member_r
 use Rattle.typing_rules.specs.Sight.{callee, name_means, types_wanted, wanted}
 use Rattle.typing_rules.specs.Verdicts.{all_faults, all_fine, faults, value, value_faults, verdict}
 use Rattle.nss_expressions.specs.Views.{called_of, heads_in, sight_in}
-use Rattle.nss_expressions.proofs.ArgumentLemmas.{begin_value, next_value, next_least, end_value, end_least}
-use Rattle.nss_expressions.proofs.Nodes.{all_size, assign_is, binary_is, call_is, err_on, falls, member_is, next_falls, postfix_is, prefix_is, size}
+use Rattle.nss_expressions.specs.ArgumentLaws.{begin_value, next_value, end_value}
+use Rattle.nss_expressions.proofs.ArgumentLemmas.{next_least, end_least}
+use Rattle.nss_expressions.specs.Nodes.{all_size, assign_is, binary_is, call_is, err_on, falls, member_is, next_falls, postfix_is, prefix_is, size}
 use Rattle.nss_expressions.specs.Walked.{answered, one_value, one_least, two_value, two_least, call_least, node_value, node_least}
 use Rattle.nss_expressions.proofs.expression.+walk.Goals as goal
 

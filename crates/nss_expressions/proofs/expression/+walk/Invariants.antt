@@ -6,7 +6,7 @@ use Rattle.typing_rules.specs.Reading.{plain_all}
 use Rattle.typing_rules.specs.Verdicts.{all_faults, all_fine}
 use Rattle.nss_expressions.specs.Arguments.{with_others}
 use Rattle.nss_expressions.specs.Views.{heads_in, sight_in}
-use Rattle.nss_expressions.proofs.Nodes.{all_size, size}
+use Rattle.nss_expressions.specs.Nodes.{all_size, size}
 use Rattle.nss_expressions.proofs.expression.+walk.Given as goal
 
 abbrev pub invariant-arguments-loop-e : goal.invariant-arguments-loop-e

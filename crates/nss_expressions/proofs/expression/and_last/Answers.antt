@@ -1,6 +1,6 @@
 use Rattle.std.proofs.Common.{◌∙◌, ap, Some}
 use Rattle.typing_rules.specs.Reading.{plain_all}
-use Rattle.nss_expressions.proofs.ArgumentLemmas.{pushed}
+use Rattle.nss_expressions.specs.ArgumentLaws.{pushed}
 use Rattle.nss_expressions.proofs.expression.and_last.Goals as goal
 
 pub returns-in_ok-push-in-Some-one : goal.returns-in_ok-push-in-Some-one

@@ -1,5 +1,6 @@
 use Rattle.nss_expressions.specs.Views.{heads_in, sight_in}
-use Rattle.nss_reasons.proofs.NodeRows.{name_laws, row_found, row_sight}
+use Rattle.nss_reasons.proofs.NodeRows.{name_laws}
+use Rattle.expression_reasons.specs.Rows.{row_found, row_sight}
 use Rattle.nss_reasons.proofs.declared.names.Goals as goal
 
 pub loop-name-preserved : goal.loop-name-preserved

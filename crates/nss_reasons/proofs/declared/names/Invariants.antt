@@ -3,7 +3,7 @@ use Rattle.nss_tree.specs.Reading.{plain_names}
 use Rattle.typing_rules.specs.Verdicts.{after_names}
 use Rattle.nss_expressions.specs.Views.{heads_in, sight_in}
 use Rattle.nss_reasons.specs.Reasons.{names_nodes}
-use Rattle.nss_reasons.specs.Seen.{seen}
+use Rattle.expression_reasons.specs.Seen.{seen}
 use Rattle.nss_reasons.proofs.declared.names.Given as goal
 
 abbrev pub invariant-loop-name : goal.invariant-loop-name

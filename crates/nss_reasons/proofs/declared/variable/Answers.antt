@@ -2,9 +2,10 @@ use Rattle.std.proofs.Common.{◌∙◌, ap, sym}
 use Rattle.std.specs.Option.{option_map}
 use Rattle.nss_tree.specs.Reading.{plain_expr, plain_name}
 use Rattle.nss_expressions.specs.Views.{heads_in, sight_in}
-use Rattle.nss_reasons.specs.Reasons.{nodes_there, value_nodes, variable_why}
-use Rattle.nss_reasons.specs.Seen.{noted, own, seen_append}
-use Rattle.nss_reasons.proofs.Walked.{always}
+use Rattle.expression_reasons.specs.Reasons.{nodes_there, value_nodes}
+use Rattle.nss_reasons.specs.Reasons.{variable_why}
+use Rattle.expression_reasons.specs.Seen.{noted, own, seen_append}
+use Rattle.expression_reasons.specs.Walked.{always}
 use Rattle.nss_reasons.proofs.declared.variable.Goals as goal
 
 pub returns-clause-found : goal.returns-clause-found

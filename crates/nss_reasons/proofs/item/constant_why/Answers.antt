@@ -2,7 +2,7 @@ use Rattle.std.proofs.Common.{◌∙◌, ap, false}
 use Rattle.typing_rules.specs.Sight.{is_taken}
 use Rattle.typing_rules.specs.Types.{same_type}
 use Rattle.nss_scopes.specs.Views.{in_sight}
-use Rattle.nss_reasons.specs.declared.reason.Reason.TheVariants.{Value}
+use Rattle.expression_reasons.specs.declared.reason.Reason.TheVariants.{Value}
 use Rattle.nss_reasons.specs.Why.{declared_by}
 use Rattle.nss_reasons.proofs.JudgedNames.{constant_is}
 use Rattle.nss_reasons.proofs.item.constant_why.Goals as goal

@@ -5,10 +5,11 @@ use Rattle.nss_tree.specs.Reading.{plain_stmts}
 use Rattle.typing_rules.specs.Sight.{Sight, function_begun}
 use Rattle.typing_rules.specs.Verdicts.{after_body, after_params, in_body, in_function}
 use Rattle.nss_expressions.specs.Views.{heads_in, sight_in}
-use Rattle.nss_reasons.specs.Reasons.{nodes_there, params_nodes, stmts_nodes}
-use Rattle.nss_reasons.specs.Seen.{seen}
+use Rattle.expression_reasons.specs.Reasons.{nodes_there}
+use Rattle.nss_reasons.specs.Reasons.{params_nodes, stmts_nodes}
+use Rattle.expression_reasons.specs.Seen.{seen}
 use Rattle.nss_reasons.proofs.FunctionScope.{function_adds}
-use Rattle.nss_reasons.proofs.StatementNodes.{on_ok}
+use Rattle.nss_statements.specs.Nodes.{on_ok}
 use Rattle.nss_reasons.proofs.item.function.Goals as goal
 
 pub returns-clause-found : goal.returns-clause-found

@@ -1,5 +1,6 @@
 use Rattle.nss_expressions.specs.Views.{heads_in, sight_in}
-use Rattle.nss_reasons.proofs.NodeRows.{item_laws, row_found, row_sight}
+use Rattle.nss_reasons.proofs.NodeRows.{item_laws}
+use Rattle.expression_reasons.specs.Rows.{row_found, row_sight}
 use Rattle.nss_reasons.proofs.item.items.Goals as goal
 
 pub loop-x-preserved : goal.loop-x-preserved

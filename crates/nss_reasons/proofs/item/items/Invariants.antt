@@ -3,7 +3,7 @@ use Rattle.nss_tree.specs.Reading.{plain_item}
 use Rattle.typing_rules.specs.Verdicts.{after_items}
 use Rattle.nss_expressions.specs.Views.{heads_in, sight_in}
 use Rattle.nss_reasons.specs.Reasons.{items_nodes}
-use Rattle.nss_reasons.specs.Seen.{seen}
+use Rattle.expression_reasons.specs.Seen.{seen}
 use Rattle.nss_reasons.proofs.item.items.Given as goal
 
 abbrev pub invariant-loop-x : goal.invariant-loop-x

@@ -1,6 +1,7 @@
 use Rattle.nss_expressions.specs.Views.{sight_in}
 use Rattle.typing_rules.specs.Verdicts.{late_after, parameter_declared}
-use Rattle.nss_reasons.proofs.NodeRows.{pair_is, param_laws, params_sight, row_found}
+use Rattle.nss_reasons.proofs.NodeRows.{pair_is, param_laws, params_sight}
+use Rattle.expression_reasons.specs.Rows.{row_found}
 use Rattle.nss_reasons.proofs.item.parameters.Goals as goal
 
 pub loop-p-preserved : goal.loop-p-preserved

@@ -2,7 +2,7 @@ use Rattle.std.proofs.Common.{◌≡◌, drop, false}
 use Rattle.typing_rules.specs.Verdicts.{after_params}
 use Rattle.nss_expressions.specs.Views.{sight_in}
 use Rattle.nss_reasons.specs.Reasons.{params_nodes}
-use Rattle.nss_reasons.specs.Seen.{seen}
+use Rattle.expression_reasons.specs.Seen.{seen}
 use Rattle.nss_reasons.proofs.item.parameters.Given as goal
 
 abbrev pub invariant-loop-p : goal.invariant-loop-p

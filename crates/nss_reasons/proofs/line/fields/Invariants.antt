@@ -1,6 +1,6 @@
 use Rattle.std.proofs.Common.{◌≡◌, drop}
 use Rattle.nss_reasons.specs.Reasons.{fields_nodes}
-use Rattle.nss_reasons.specs.Seen.{seen}
+use Rattle.expression_reasons.specs.Seen.{seen}
 use Rattle.nss_reasons.proofs.line.fields.Given as goal
 
 abbrev pub invariant-loop-l : goal.invariant-loop-l

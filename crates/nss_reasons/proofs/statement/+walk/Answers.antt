@@ -8,11 +8,13 @@ use Rattle.nss_tree.specs.Statements.{map_stmt, more_stmts, no_stmt}
 use Rattle.typing_rules.specs.Sight.{scope_entered, inside, left, looped, switched}
 use Rattle.typing_rules.specs.Verdicts.{after, afters}
 use Rattle.nss_expressions.specs.Views.{heads_in, sight_in}
-use Rattle.nss_reasons.specs.Reasons.{condition_nodes, nodes_there, stmt_nodes, stmts_nodes, value_nodes}
-use Rattle.nss_reasons.specs.Seen.{own, seen}
-use Rattle.nss_reasons.proofs.NodeRows.{stmt_laws, row_found, row_sight, row_end_found, row_end_sight}
-use Rattle.nss_reasons.proofs.StatementNodes.{all_size, block_is, declaration_is, do_is, err_on, falls, for_is, if_else_is, if_only_is, next_falls, on_ok, size, switch_is, while_is}
-use Rattle.nss_reasons.proofs.Walked.{always, node_found, node_sight, none_found, one_found, three_found, two_found}
+use Rattle.expression_reasons.specs.Reasons.{condition_nodes, nodes_there, value_nodes}
+use Rattle.nss_reasons.specs.Reasons.{stmt_nodes, stmts_nodes}
+use Rattle.expression_reasons.specs.Seen.{own, seen}
+use Rattle.nss_reasons.proofs.NodeRows.{stmt_laws}
+use Rattle.expression_reasons.specs.Rows.{row_found, row_sight, row_end_found, row_end_sight}
+use Rattle.nss_statements.specs.Nodes.{all_size, block_is, declaration_is, do_is, err_on, falls, for_is, if_else_is, if_only_is, next_falls, on_ok, size, switch_is, while_is}
+use Rattle.expression_reasons.specs.Walked.{always, node_found, node_sight, none_found, one_found, three_found, two_found}
 use Rattle.nss_reasons.proofs.statement.+walk.Goals as goal
 
 pub statement-block-requires : goal.statement-block-requires

@@ -3,8 +3,8 @@ use Rattle.nss_tree.specs.Reading.{plain_stmt, plain_stmts}
 use Rattle.typing_rules.specs.Verdicts.{afters}
 use Rattle.nss_expressions.specs.Views.{heads_in, sight_in}
 use Rattle.nss_reasons.specs.Reasons.{stmts_nodes}
-use Rattle.nss_reasons.specs.Seen.{seen}
-use Rattle.nss_reasons.proofs.StatementNodes.{all_size, size}
+use Rattle.expression_reasons.specs.Seen.{seen}
+use Rattle.nss_statements.specs.Nodes.{all_size, size}
 use Rattle.nss_reasons.proofs.statement.+walk.Given as goal
 
 abbrev pub invariant-statements-loop-one : goal.invariant-statements-loop-one

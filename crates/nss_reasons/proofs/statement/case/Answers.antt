@@ -4,10 +4,11 @@ use Rattle.typing_rules.specs.Rules.{case_rule}
 use Rattle.typing_rules.specs.Sight.{case_seen}
 use Rattle.nss_scopes.specs.Views.{in_sight}
 use Rattle.nss_expressions.specs.Views.{sight_in}
-use Rattle.nss_reasons.specs.Seen.{noted}
-use Rattle.nss_reasons.specs.Why.{because, case_reason}
-use Rattle.nss_reasons.proofs.StatementNodes.{on_ok_at}
-use Rattle.nss_reasons.proofs.Walked.{none_noted}
+use Rattle.expression_reasons.specs.Seen.{noted}
+use Rattle.expression_reasons.specs.Why.{because}
+use Rattle.nss_reasons.specs.Why.{case_reason}
+use Rattle.nss_statements.specs.Nodes.{on_ok_at}
+use Rattle.expression_reasons.specs.Walked.{none_noted}
 use Rattle.nss_reasons.proofs.statement.case.Goals as goal
 
 pub returns-in-None-clause-found : goal.returns-in-None-clause-found

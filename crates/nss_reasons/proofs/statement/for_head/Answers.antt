@@ -3,8 +3,8 @@ use Rattle.std.specs.Option.{option_map}
 use Rattle.std.specs.Result.{OnOk}
 use Rattle.nss_tree.specs.Reading.{plain_expr}
 use Rattle.nss_expressions.specs.Views.{heads_in, sight_in}
-use Rattle.nss_reasons.specs.Reasons.{condition_nodes, nodes_there, value_nodes}
-use Rattle.nss_reasons.specs.Seen.{seen}
+use Rattle.expression_reasons.specs.Reasons.{condition_nodes, nodes_there, value_nodes}
+use Rattle.expression_reasons.specs.Seen.{seen}
 use Rattle.nss_reasons.proofs.statement.for_head.Goals as goal
 
 pub returns : goal.returns

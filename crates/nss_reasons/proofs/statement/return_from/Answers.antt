@@ -1,9 +1,9 @@
 use Rattle.std.specs.Option.{option_map}
 use Rattle.nss_tree.specs.Reading.{plain_expr}
 use Rattle.nss_expressions.specs.Views.{heads_in, sight_in}
-use Rattle.nss_reasons.specs.Reasons.{nodes_there, value_nodes}
-use Rattle.nss_reasons.specs.Seen.{own}
-use Rattle.nss_reasons.proofs.Walked.{one_found}
+use Rattle.expression_reasons.specs.Reasons.{nodes_there, value_nodes}
+use Rattle.expression_reasons.specs.Seen.{own}
+use Rattle.expression_reasons.specs.Walked.{one_found}
 use Rattle.nss_reasons.proofs.statement.return_from.Goals as goal
 
 pub returns : goal.returns

@@ -4,7 +4,7 @@ use Rattle.nss_tree.specs.Reading.{plain_item}
 use Rattle.typing_rules.specs.Sight.{start}
 use Rattle.typing_rules.specs.Verdicts.{heads}
 use Rattle.nss_reasons.specs.Reasons.{items_nodes}
-use Rattle.nss_reasons.specs.Seen.{seen}
+use Rattle.expression_reasons.specs.Seen.{seen}
 use Rattle.nss_reasons.proofs.unit.explain.Goals as goal
 
 pub returns : goal.returns

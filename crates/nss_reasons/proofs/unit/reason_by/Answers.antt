@@ -1,7 +1,7 @@
 use Rattle.std.proofs.Common.{◌≡◌, ◌∙◌, map, ap, None}
 use Rattle.nss_tree.specs.Reading.{plain_item}
 use Rattle.nss_reasons.specs.Reasons.{items_nodes}
-use Rattle.nss_reasons.specs.Seen.{seen}
+use Rattle.expression_reasons.specs.Seen.{seen}
 use Rattle.nss_reasons.proofs.unit.reason_by.Goals as goal
 
 pub returns-in-Ok : goal.returns-in-Ok

@@ -2,7 +2,7 @@ use Rattle.std.proofs.Common.{◌≡◌, ◌∙◌, sym, subst, Some}
 use Rattle.std.specs.Result.{OnOk}
 use Rattle.typing_rules.specs.Sight.{case_seen}
 use Rattle.nss_scopes.specs.Views.{in_sight}
-use Rattle.nss_statements.proofs.Nodes.{on_ok_at}
+use Rattle.nss_statements.specs.Nodes.{on_ok_at}
 use Rattle.nss_statements.proofs.label.case.Goals as goal
 
 pub returns-in-Some-clause-sight : goal.returns-in-Some-clause-sight

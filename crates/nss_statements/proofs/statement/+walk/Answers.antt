@@ -15,7 +15,7 @@ use Rattle.typing_rules.specs.Verdicts.{after, afters, stmt_faults, stmt_verdict
 use Rattle.nss_statements.specs.Faults.{switch_rows_by, switch_rule_by}
 use Rattle.nss_expressions.specs.Views.{heads_in, sight_in}
 use Rattle.nss_expressions.specs.RowLaws.{row_value, row_least, row_sight, row_end_value, row_end_least, row_end_sight}
-use Rattle.nss_statements.proofs.Nodes.{all_size, block_is, declaration_is, do_is, err_on, falls, for_is, if_else_is, if_only_is, next_falls, on_ok, size, switch_is, while_is}
+use Rattle.nss_statements.specs.Nodes.{all_size, block_is, declaration_is, do_is, err_on, falls, for_is, if_else_is, if_only_is, next_falls, on_ok, size, switch_is, while_is}
 use Rattle.nss_statements.proofs.SameSight.{same_faults, same_verdict}
 use Rattle.nss_statements.proofs.StatementRows.{stmt_laws, stmts_first}
 use Rattle.nss_expressions.specs.Walked.{always, answered, four_least, four_value, node_least, node_sight, node_value, three_least, three_value, two_least, two_value}

@@ -6,7 +6,7 @@ use Rattle.typing_rules.specs.UnitReading.{typed_stmts}
 use Rattle.typing_rules.specs.Verdicts.{afters, stmts_faults, stmts_fine}
 use Rattle.nss_expressions.specs.Rows.{stmts_with_rest}
 use Rattle.nss_expressions.specs.Views.{heads_in, sight_in}
-use Rattle.nss_statements.proofs.Nodes.{size, all_size}
+use Rattle.nss_statements.specs.Nodes.{size, all_size}
 use Rattle.nss_statements.proofs.statement.+walk.Given as goal
 
 abbrev pub invariant-statements-loop-one : goal.invariant-statements-loop-one

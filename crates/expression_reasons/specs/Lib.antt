@@ -1,0 +1,5 @@
+pub mod Why
+pub mod Seen
+pub mod Reasons
+pub mod Walked
+pub mod Rows

@@ -1,9 +1,0 @@
-use Rattle.std.proofs.Common.{◌≡◌, ◌≤◌, ◌+◌, ◌-◌, drop, length}
-use Rattle.nss_reasons.specs.Why.{without_default}
-use Rattle.nss_reasons.proofs.call.without_default.Given as goal
-
-abbrev pub invariant-loop-count : goal.invariant-loop-count
-invariant-loop-count l = (l.count ≤ length l.params) × (l.count + without_default (drop l.count l.params) ≡ without_default l.params)
-
-abbrev pub decreases-loop-count : goal.decreases-loop-count
-decreases-loop-count l = length l.params - l.count
