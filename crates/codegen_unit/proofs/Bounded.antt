@@ -3,7 +3,8 @@ use Rattle.std.proofs.Common.{◌≡◌, ◌≤◌, ◌+◌, ℕ, Bool, true, Li
 use Rattle.std.proofs.lemmas.List.{append-nil}
 use Rattle.nwq_value.specs.Limits.{struct_cell_limit}
 use Rattle.nwq_value.specs.declared.engine.Const.TheVariants as const
-use Rattle.nss_tree.specs.Statements.{block, empty, expression, if_only, if_else, while_loop, do_loop, for_loop, switch, break_off, continue_on, return_from, declaration, case_label, default_label, no_stmt, more_stmts}
+use Rattle.nss_tree.specs.Statements.{block, empty, expression, if_only, if_else, while_loop, do_loop, for_loop, switch, break_off, continue_on, return_from, declaration, case_label, default_label}
+use Rattle.nss_tree.specs.Statements.{no_stmt, more_stmts}
 use Rattle.ncs_emit.specs.Labelled.{Line, LabelledCode}
 use Rattle.typing_rules.specs.Typed.{TypedExpr, TypedName, TypedStmt, TypedStmts, type_of}
 use Rattle.typing_rules.specs.Cells.{cells}

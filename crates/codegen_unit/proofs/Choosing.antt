@@ -12,7 +12,8 @@ use Rattle.emission_rules.specs.Parts.{ExprsPlaceAbove, StmtPlacesAbove}
 use Rattle.emission_rules.specs.Layout.{Layout, declared_cells, all_declared_cells}
 use Rattle.emission_rules.specs.Operations.{dropped}
 use Rattle.emission_rules.specs.Expressions.{emit, labels}
-use Rattle.emission_rules.specs.Statements.{Exits, in_switch, is_label, is_default, count_labels, behind, placed, placed_on, test_of, tests, otherwise, evaluated, tested, some_labels, stmt_labels, all_stmt_labels, emit_stmt, emit_stmts}
+use Rattle.emission_rules.specs.Statements.{Exits, in_switch, is_label, is_default, count_labels, behind, placed, placed_on, test_of, tests, otherwise, evaluated, tested, some_labels, stmt_labels}
+use Rattle.emission_rules.specs.Statements.{all_stmt_labels, emit_stmt, emit_stmts}
 use Rattle.codegen_expr.specs.Emitted.{extended}
 
 -- ---- where a switch goes on

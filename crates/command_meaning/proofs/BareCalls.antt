@@ -20,7 +20,8 @@ use Rattle.world_rules.specs.Arguments.{int_at, text_at, object_at, effect_at, e
 use Rattle.world_rules.specs.Pure.{CellLookup}
 use Rattle.world_rules.specs.World.{World, is_valid, effects_of}
 use Rattle.world_rules.specs.Changes.{told, post, with_action, with_actions, with_busy, with_effects, with_variables, has_turn, without_turn, without_first, is_effect}
-use Rattle.world_rules.specs.Rows.{drawn_from, drawn, awake, appended, at_rest, cleared, changed_variables, applied, applied_to, removed, event_script, signalled, argument, NewItem, TheAction, AWait, ASpeech, queued, varied, Print, Say, Draw, Assign, Delay, Queue, Clear, Vary, Apply, Remove, Signal}
+use Rattle.world_rules.specs.Rows.{drawn_from, drawn, awake, appended, at_rest, cleared, changed_variables, applied, applied_to, removed, event_script, signalled, argument, NewItem, TheAction, AWait}
+use Rattle.world_rules.specs.Rows.{ASpeech, queued, varied, Print, Say, Draw, Assign, Delay, Queue, Clear, Vary, Apply, Remove, Signal}
 use Rattle.world_rules.specs.Engine.{engine}
 use Rattle.world_rules.specs.RowLaws.{EachKeeps, engine_keeps}
 

@@ -5,7 +5,8 @@ use Rattle.std.specs.List.{AllByRecursion}
 use Rattle.nss_tree.specs.declared.operators.BinaryOperator.{BinaryOperator}
 use Rattle.nss_tree.specs.declared.operators.BinaryOperator.TheVariants as bin
 use Rattle.nss_tree.specs.declared.operators.PrefixOperator.{PrefixOperator}
-use Rattle.nss_tree.specs.Statements.{block, empty, expression, if_only, if_else, while_loop, do_loop, for_loop, switch, break_off, continue_on, return_from, declaration, case_label, default_label, no_stmt, more_stmts}
+use Rattle.nss_tree.specs.Statements.{block, empty, expression, if_only, if_else, while_loop, do_loop, for_loop, switch, break_off, continue_on, return_from, declaration, case_label, default_label}
+use Rattle.nss_tree.specs.Statements.{no_stmt, more_stmts}
 use Rattle.nss_tree.specs.Units.{structure, constant, global, function}
 use Rattle.nwq_value.specs.declared.value.Ty.{Ty}
 use Rattle.nwq_value.specs.declared.value.Ty.TheVariants.{Int as IntTy}
@@ -27,9 +28,13 @@ use Rattle.world_rules.specs.Engine.{engine, may_run, no_script, too_deep}
 use Rattle.source_meaning.specs.Values.{constant_value, is_true, divides_by_zero, operate, parts_of, test_value, start_part, one_int, prefixed, postfixed, applied}
 use Rattle.source_meaning.specs.Evaluation.{Deferred, Progress, Outcome, Gives, Divides, OutOfSteps, bind, spend, spend_of, chosen, with_variable}
 use Rattle.source_meaning.specs.Spots.{Spot, OfLocal, OfGlobal, further, spot, read_at, written_at}
-use Rattle.source_meaning.specs.Expressions.{Running, Caller, Arguments, with_argument, all_parts, answered, runs_script, executed, asked, engine_called, made, unit_called, defaults, callee_called, named, member_of, stepped, is_step, before_operand, operated, unwritten, combined, write_there, read_there, assigned, argument, eval, evals}
-use Rattle.source_meaning.specs.Statements.{Flow, Next, Broke, Continued, Returned, on_next, on_body, on_switch, turns, looped, maybe, tested, initial, declared, after_stmt, exec, execs, selected, from_default}
-use Rattle.source_meaning.specs.Scripts.{Listed, Setting, Function, functions, bound, parameter_names, result_of, waiting_limit, body_run, calls, calling, global_names, no_functions, globals_made, without_variables, entry_called, unit_started, running, listed_started, script_named, Starter, resumed, starter_begun, executing, started, with_steps, run_script}
+use Rattle.source_meaning.specs.Expressions.{Running, Caller, Arguments, with_argument, all_parts, answered, runs_script, executed, asked, engine_called, made, unit_called, defaults, callee_called}
+use Rattle.source_meaning.specs.Expressions.{named, member_of, stepped, is_step, before_operand, operated, unwritten, combined, write_there, read_there, assigned, argument, eval, evals}
+use Rattle.source_meaning.specs.Statements.{Flow, Next, Broke, Continued, Returned, on_next, on_body, on_switch, turns, looped, maybe, tested, initial, declared, after_stmt, exec, execs, selected}
+use Rattle.source_meaning.specs.Statements.{from_default}
+use Rattle.source_meaning.specs.Scripts.{Listed, Setting, Function, functions, bound, parameter_names, result_of, waiting_limit, body_run, calls, calling, global_names, no_functions, globals_made}
+use Rattle.source_meaning.specs.Scripts.{without_variables, entry_called, unit_started, running, listed_started, script_named, Starter, resumed, starter_begun, executing, started, with_steps}
+use Rattle.source_meaning.specs.Scripts.{run_script}
 use Rattle.command_meaning.specs.WithoutActions.{HasNoAction, HaveValues, HasNoneThere, NamesHaveNone, StatementHasNone, StatementsHaveNone, ItemHasNone, UnitHasNoAction}
 use Rattle.command_meaning.proofs.BareCalls.{IsBare, told_bare, engine_bare}
 

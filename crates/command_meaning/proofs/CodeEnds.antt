@@ -14,12 +14,14 @@ use Rattle.stack_rules.specs.Fits.{Tables, IsListed, FitsOne, FitsAction}
 use Rattle.stack_rules.specs.Laws.{AllMeet, IsReached, Unchanged, ByCall, ByMissing, ByDepth, IsWellStackedHost, ScriptsAreSound, StatesAreSound, TablesTypeExecuteScript}
 use Rattle.world_rules.specs.World.{World}
 use Rattle.world_rules.specs.Turns.{Begun, begin, turn, turn_done, fault, new_world}
-use Rattle.world_rules.specs.Plays.{StoppedInside, Bounds, Progress, Played, Run, Entered, entry_entered, entered_as, event_entry, turn_entry, named_entry, finished, finished_as, further, full, after_entry, next_entry, plays, unplayed}
+use Rattle.world_rules.specs.Plays.{StoppedInside, Bounds, Progress, Played, Run, Entered, entry_entered, entered_as, event_entry, turn_entry, named_entry, finished, finished_as, further, full}
+use Rattle.world_rules.specs.Plays.{after_entry, next_entry, plays, unplayed}
 use Rattle.world_core.specs.Answers.{AnswersHaveTypes}
 use Rattle.ncs_machine.specs.Host.{EngineView, host, no_table}
 use Rattle.ncs_machine.specs.Stored.{StatesFit, KindFits, BegunFits, EngineKeepsFits, LinesKeepFits, BeginKeepsFits, TurnKeepsFits, TurnDoneKeepsFits, UnapplyKeepsFits}
 use Rattle.module_player.specs.CodePlays.{code_runner, ending_of, run_of}
-use Rattle.command_meaning.specs.CodeEnds.{CodeEnd, Ends, named_ending, event_ending, turn_ending, kind_ending, entry_ending, ends_after, next_ends, code_ends, AreStacked, CheckedPlaysGoOn, CheckedPlaysHaveNoFault}
+use Rattle.command_meaning.specs.CodeEnds.{CodeEnd, Ends, named_ending, event_ending, turn_ending, kind_ending, entry_ending, ends_after, next_ends, code_ends, AreStacked, CheckedPlaysGoOn}
+use Rattle.command_meaning.specs.CodeEnds.{CheckedPlaysHaveNoFault}
 use Rattle.ncs_machine.specs.HostLemmas.{host_is_sound, named_listed}
 use Rattle.ncs_machine.specs.FitLemmas.{new_fits}
 

@@ -14,7 +14,8 @@ use Rattle.nss_include.specs.declared.file.Source.{Source}
 use Rattle.nss_include.specs.Units.{Lookup, IsUnit, OneUnit}
 use Rattle.command_work.specs.declared.cause.Cause.TheVariants as cause
 use Rattle.command_work.specs.Outcomes.{IsSure}
-use Rattle.command_sources.specs.Units.{PlainScript, UnitFate, Whole, Lacks, Exceeds, Faulty, IsUnitFate, lacks, exceeds, bad, many, include, nested, syntax, whole, grammar_symbols, spot_at, unit_by, unit_of}
+use Rattle.command_sources.specs.Units.{PlainScript, UnitFate, Whole, Lacks, Exceeds, Faulty, IsUnitFate, lacks, exceeds, bad, many, include, nested, syntax, whole, grammar_symbols, spot_at, unit_by}
+use Rattle.command_sources.specs.Units.{unit_of}
 use Rattle.command_sources.specs.Laws.{SureUnits}
 
 abbrev gathered_fate : GatherFault → UnitFate

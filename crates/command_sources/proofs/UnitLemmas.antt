@@ -16,7 +16,8 @@ use Rattle.command_work.specs.declared.status.Status.TheVariants.{Memory}
 use Rattle.command_work.specs.Refusal.{Refusal, Absent, TooLong, line_of}
 use Rattle.command_work.specs.Work.{CutsShort, Does}
 use Rattle.command_work.specs.Parts.{Refuses, cut_here, finds_one, refused, took_nothing}
-use Rattle.command_sources.specs.Units.{PlainScript, UnitFate, Whole, Lacks, Exceeds, Faulty, IsUnitFate, lacks, exceeds, bad, many, include, nested, syntax, whole, grammar_symbols, spot_at, at_spot, unit_by, unit_of}
+use Rattle.command_sources.specs.Units.{PlainScript, UnitFate, Whole, Lacks, Exceeds, Faulty, IsUnitFate, lacks, exceeds, bad, many, include, nested, syntax, whole, grammar_symbols, spot_at, at_spot}
+use Rattle.command_sources.specs.Units.{unit_by, unit_of}
 use Rattle.command_sources.specs.Reading.{HasTree}
 
 -- want of memory before a line could be made

@@ -7,7 +7,8 @@ use Rattle.nss_tree.specs.declared.operators.PrefixOperator.TheVariants as pre
 use Rattle.nss_tree.specs.declared.operators.PostfixOperator.{PostfixOperator}
 use Rattle.nss_tree.specs.declared.operators.PostfixOperator.TheVariants as post
 use Rattle.nss_tree.specs.declared.operators.AssignOperator.{AssignOperator}
-use Rattle.nss_tree.specs.Statements.{block, empty, expression, if_only, if_else, while_loop, do_loop, for_loop, switch, break_off, continue_on, return_from, declaration, case_label, default_label, no_stmt, more_stmts}
+use Rattle.nss_tree.specs.Statements.{block, empty, expression, if_only, if_else, while_loop, do_loop, for_loop, switch, break_off, continue_on, return_from, declaration, case_label, default_label}
+use Rattle.nss_tree.specs.Statements.{no_stmt, more_stmts}
 use Rattle.nss_tree.specs.Units.{structure, constant, global, function}
 use Rattle.nss_tree.specs.declared.operators.AssignOperator.TheVariants as asg
 use Rattle.ncs_code.specs.Plain.{PlainOp}
@@ -25,8 +26,11 @@ use Rattle.typing_rules.specs.Typed.{TypedExpr, TypedExprs, TypedName, TypedStmt
 use Rattle.typing_rules.specs.Cells.{cell_types, cells, is_captured}
 use Rattle.emission_rules.specs.Layout.{Layout, declared_cells, all_declared_cells, params_cells, item_cells}
 use Rattle.emission_rules.specs.Operations.{started, dropped, combination, operation}
-use Rattle.emission_rules.specs.Expressions.{Home, increment, decrement, moved, home, at_home, read, write, name_code, member_code, prefix_code, postfix_code, Shortcut, WhereTrue, WhereFalse, Never, shortcut, shortcut_labels, binary_code, is_set, read_first, cells_first, constants, result_room, call_line, argument_labels, argument_code, count_arguments, arguments_cells, emit, emit_all, labels, all_labels}
-use Rattle.emission_rules.specs.Statements.{Exits, no_exits, in_loop, in_switch, some_labels, evaluated, tested, returned, initial, names_labels, emit_names, is_label, count_labels, behind, test_of, tests, placed, placed_on, stmt_labels, all_stmt_labels, emit_stmt, emit_stmts}
+use Rattle.emission_rules.specs.Expressions.{Home, increment, decrement, moved, home, at_home, read, write, name_code, member_code, prefix_code, postfix_code, Shortcut, WhereTrue, WhereFalse, Never}
+use Rattle.emission_rules.specs.Expressions.{shortcut, shortcut_labels, binary_code, is_set, read_first, cells_first, constants, result_room, call_line, argument_labels, argument_code}
+use Rattle.emission_rules.specs.Expressions.{count_arguments, arguments_cells, emit, emit_all, labels, all_labels}
+use Rattle.emission_rules.specs.Statements.{Exits, no_exits, in_loop, in_switch, some_labels, evaluated, tested, returned, initial, names_labels, emit_names, is_label, count_labels, behind, test_of}
+use Rattle.emission_rules.specs.Statements.{tests, placed, placed_on, stmt_labels, all_stmt_labels, emit_stmt, emit_stmts}
 use Rattle.emission_rules.specs.Units.{body_count, functions_labels, emit_function, emit_functions, globals_labels, emit_globals, entry_call, start_labels, emit_start}
 
 -- what can be written takes no label

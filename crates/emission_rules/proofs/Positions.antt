@@ -1,12 +1,14 @@
 -- There is a position for each number, and so the positions by number are the positions in order.
 use Rattle.std.proofs.Common.{◌≡◌, ℕ, zero, suc, ◌+◌, List, [], ◌∷◌, ◌++◌, length, map, get_or, arith, refl, ap, sym, ◌∙◌, Option, Some, None, append_assoc}
 use Rattle.std.proofs.lemmas.List.{length-append}
-use Rattle.nss_tree.specs.Statements.{block, empty, expression, if_only, if_else, while_loop, do_loop, for_loop, switch, break_off, continue_on, return_from, declaration, case_label, default_label, no_stmt, more_stmts}
+use Rattle.nss_tree.specs.Statements.{block, empty, expression, if_only, if_else, while_loop, do_loop, for_loop, switch, break_off, continue_on, return_from, declaration, case_label, default_label}
+use Rattle.nss_tree.specs.Statements.{no_stmt, more_stmts}
 use Rattle.nss_tree.specs.Units.{structure, constant, global, function}
 use Rattle.typing_rules.specs.Typed.{TypedName, TypedStmt, TypedStmts, TypedParameter, TypedItem, TypedUnit}
 use Rattle.typing_rules.specs.Numbers.{number_of, number_of_parameter, numbers, all_numbers, body_numbers, item_numbers, items_numbers, numbers_from}
 use Rattle.typing_rules.specs.Cells.{Structs, cells}
-use Rattle.emission_rules.specs.Layout.{params_cells, declared_cells, item_cells, params_positions, names_positions, positions, all_positions, body_positions, item_positions, items_positions, layout_of, position}
+use Rattle.emission_rules.specs.Layout.{params_cells, declared_cells, item_cells, params_positions, names_positions, positions, all_positions, body_positions, item_positions, items_positions}
+use Rattle.emission_rules.specs.Layout.{layout_of, position}
 
 -- ---- as many positions as numbers
 

@@ -13,7 +13,8 @@ use Rattle.nss_tree.specs.declared.operators.BinaryOperator.{BinaryOperator}
 use Rattle.nss_tree.specs.declared.operators.BinaryOperator.TheVariants as bin
 use Rattle.nss_tree.specs.declared.operators.AssignOperator.{AssignOperator}
 use Rattle.nss_tree.specs.declared.operators.AssignOperator.TheVariants as asg
-use Rattle.nss_tree.specs.Statements.{block, empty, expression, if_only, if_else, while_loop, do_loop, for_loop, switch, break_off, continue_on, return_from, declaration, case_label, default_label, no_stmt, more_stmts}
+use Rattle.nss_tree.specs.Statements.{block, empty, expression, if_only, if_else, while_loop, do_loop, for_loop, switch, break_off, continue_on, return_from, declaration, case_label, default_label}
+use Rattle.nss_tree.specs.Statements.{no_stmt, more_stmts}
 use Rattle.nss_tree.specs.Units.{structure, constant, global, function}
 use Rattle.nwq_value.specs.declared.value.Ty.{Ty}
 use Rattle.nwq_value.specs.declared.value.Ty.TheVariants.{Void, Int, Text, Object, Effect, Event, Action, Struct, Refused}
@@ -34,15 +35,20 @@ use Rattle.typing_rules.specs.declared.places.Callee.{Callee}
 use Rattle.typing_rules.specs.declared.places.Callee.TheVariants.{Unit as InUnit, Engine}
 use Rattle.typing_rules.specs.declared.places.EntryPoint.{EntryPoint}
 use Rattle.typing_rules.specs.declared.places.EntryPoint.TheVariants.{Main, Conditional}
-use Rattle.typing_rules.specs.Typed.{TypedExpr, TypedExprs, TypedName, TypedStmt, TypedStmts, TypedItem, TypedParameter, TypedUnit, literal, name, call, member, prefix, postfix, binary, assign, no_typed, more_typed, type_of}
+use Rattle.typing_rules.specs.Typed.{TypedExpr, TypedExprs, TypedName, TypedStmt, TypedStmts, TypedItem, TypedParameter, TypedUnit, literal, name, call, member, prefix, postfix, binary, assign}
+use Rattle.typing_rules.specs.Typed.{no_typed, more_typed, type_of}
 use Rattle.typing_rules.specs.Cells.{cell_types, cells, is_captured}
 use Rattle.emission_rules.specs.Layout.{Layout, layout_of, names_cells, declared_cells, all_declared_cells, params_cells, item_cells, global_cells}
 use Rattle.emission_rules.specs.Operations.{beneath, bytes_of, dropped, literal_of, cell_kind, started, sum_kind, operation, combination}
-use Rattle.emission_rules.specs.Expressions.{Home, InFrame, InGlobals, increment, decrement, moved, home, at_home, read, write, name_code, member_code, prefix_code, postfix_code, Shortcut, WhereTrue, WhereFalse, Never, shortcut, shortcut_labels, binary_code, is_set, read_first, cells_first, constants, result_room, call_line, argument_labels, argument_code, count_arguments, arguments_cells, emit, emit_all, labels, all_labels}
-use Rattle.emission_rules.specs.Statements.{Exits, no_exits, in_loop, in_switch, some_labels, evaluated, tested, returned, initial, names_labels, emit_names, is_label, count_labels, behind, test_of, tests, is_default, otherwise, placed, placed_on, stmt_labels, all_stmt_labels, emit_stmt, emit_stmts}
+use Rattle.emission_rules.specs.Expressions.{Home, InFrame, InGlobals, increment, decrement, moved, home, at_home, read, write, name_code, member_code, prefix_code, postfix_code, Shortcut, WhereTrue}
+use Rattle.emission_rules.specs.Expressions.{WhereFalse, Never, shortcut, shortcut_labels, binary_code, is_set, read_first, cells_first, constants, result_room, call_line, argument_labels}
+use Rattle.emission_rules.specs.Expressions.{argument_code, count_arguments, arguments_cells, emit, emit_all, labels, all_labels}
+use Rattle.emission_rules.specs.Statements.{Exits, no_exits, in_loop, in_switch, some_labels, evaluated, tested, returned, initial, names_labels, emit_names, is_label, count_labels, behind, test_of}
+use Rattle.emission_rules.specs.Statements.{tests, is_default, otherwise, placed, placed_on, stmt_labels, all_stmt_labels, emit_stmt, emit_stmts}
 use Rattle.emission_rules.specs.Units.{unit_code, has_globals, body_count, functions_labels, emit_function, emit_functions, globals_labels, emit_globals, entry_call, start_labels, emit_start}
 use Rattle.nwq_value.specs.Engine.{IsConstant}
-use Rattle.emission_rules.specs.Bounds.{frame_limit, weight, all_weight, some_weight, names_weight, stmt_weight, all_stmt_weight, globals_weight, IsCell, IsType, IsCallee, IsOperator, IsExpr, AreExprs, IsSome, AreNames, IsStmt, AreStmts, AreItems, IsEntry, IsBounded}
+use Rattle.emission_rules.specs.Bounds.{frame_limit, weight, all_weight, some_weight, names_weight, stmt_weight, all_stmt_weight, globals_weight, IsCell, IsType, IsCallee, IsOperator, IsExpr}
+use Rattle.emission_rules.specs.Bounds.{AreExprs, IsSome, AreNames, IsStmt, AreStmts, AreItems, IsEntry, IsBounded}
 use Rattle.emission_rules.specs.Laws.{IsWhole}
 use Rattle.emission_rules.proofs.Labels.{unit_placed}
 

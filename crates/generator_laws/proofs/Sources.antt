@@ -9,7 +9,10 @@ use Rattle.nss_symbols.specs.Symbols.{Symbol}
 use Rattle.play_generator.specs.Made.{source_text}
 use Rattle.command_sources.specs.Units.{grammar_symbols}
 use Rattle.generator_laws.proofs.Numbers.{EndsNumber, number_token, number_first, number_plain}
-use Rattle.generator_laws.proofs.Pieces.{Piece, IsPlain, are_plain, all_plain, put, put_some, joined, tokens_of, seen_both, plain_both, front_piece, smaller_piece, sum_piece, teller_piece, counter_piece, kept_piece, grown_piece, asked_piece, delayed_piece, assigned_piece, front, smaller, sum, teller, counter, kept, grown, asked, delayed, assigned, back, front_symbols, smaller_symbols, sum_symbols, teller_symbols, counter_symbols, kept_symbols, grown_symbols, asked_symbols, delayed_symbols, assigned_symbols, back_symbols, back_tokens, back_seen, back_plain}
+use Rattle.generator_laws.proofs.Pieces.{Piece, IsPlain, are_plain, all_plain, put, put_some, joined, tokens_of, seen_both, plain_both, front_piece, smaller_piece, sum_piece, teller_piece}
+use Rattle.generator_laws.proofs.Pieces.{counter_piece, kept_piece, grown_piece, asked_piece, delayed_piece, assigned_piece, front, smaller, sum, teller, counter, kept, grown, asked, delayed}
+use Rattle.generator_laws.proofs.Pieces.{assigned, back, front_symbols, smaller_symbols, sum_symbols, teller_symbols, counter_symbols, kept_symbols, grown_symbols, asked_symbols, delayed_symbols}
+use Rattle.generator_laws.proofs.Pieces.{assigned_symbols, back_symbols, back_tokens, back_seen, back_plain}
 use Rattle.generator_laws.proofs.Trees.{made_symbols}
 
 -- ---- what stands between the numbers

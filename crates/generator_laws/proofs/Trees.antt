@@ -20,7 +20,8 @@ use Rattle.nss_parser.specs.ReadUnit as unit
 use Rattle.nss_parser.specs.ReadWhole as whole
 use Rattle.nss_parser.specs.ReadWhole.{ReadingGivesTree}
 use Rattle.nss_parser.specs.Sentence.{Parses}
-use Rattle.generator_laws.proofs.Pieces.{front_symbols, smaller_symbols, sum_symbols, teller_symbols, counter_symbols, kept_symbols, grown_symbols, asked_symbols, delayed_symbols, assigned_symbols, back_symbols}
+use Rattle.generator_laws.proofs.Pieces.{front_symbols, smaller_symbols, sum_symbols, teller_symbols, counter_symbols, kept_symbols, grown_symbols, asked_symbols, delayed_symbols, assigned_symbols}
+use Rattle.generator_laws.proofs.Pieces.{back_symbols}
 
 -- what the grammar sees of the source of a number and so many creatures
 abbrev pub made_symbols : ℕ → ℕ → List Symbol

@@ -1,12 +1,14 @@
 -- The last cut of a text, the end of a line, and the parts of a line on a flaw.
-use Rattle.std.proofs.Common.{◌≡◌, ◌≢◌, ℕ, ◌+◌, ◌-◌, ◌^◌, ◌<◌, ◌≤◌, ◌==◌, nat_lt, Bool, true, false, cond, inl, inr, List, [], ◌∷◌, ◌++◌, length, get_or, take, drop, Some, None, MatchOption, refl, sym, ap, ◌∙◌, subst, arith, append-nil, length-drop}
+use Rattle.std.proofs.Common.{◌≡◌, ◌≢◌, ℕ, ◌+◌, ◌-◌, ◌^◌, ◌<◌, ◌≤◌, ◌==◌, nat_lt, Bool, true, false, cond, inl, inr, List, [], ◌∷◌, ◌++◌, length, get_or, take, drop, Some, None, MatchOption, refl}
+use Rattle.std.proofs.Common.{sym, ap, ◌∙◌, subst, arith, append-nil, length-drop}
 use Rattle.std.proofs.lemmas.List.{drop_more, drop_all, take_all, take-append-drop}
 use Rattle.std.proofs.lemmas.Bool.Decides.{nat_tests}
 use Rattle.nwq_text.specs.Cuts.{cut_at}
 use Rattle.nwq_text.specs.Number.{number_of}
 use Rattle.command_work.specs.declared.status.Status.{Status}
 use Rattle.command_work.specs.declared.status.Status.TheVariants as status
-use Rattle.message_sentences.specs.Told.{Tale, Nothing, Missing, Long, Place, without_newline, behind, last_cut_at, EndsName, fitting, place_at, name_in, offset_in, cause_in, place_told, or_nothing, TellsFlaw, IsTold, IsToldBy}
+use Rattle.message_sentences.specs.Told.{Tale, Nothing, Missing, Long, Place, without_newline, behind, last_cut_at, EndsName, fitting, place_at, name_in, offset_in, cause_in, place_told, or_nothing}
+use Rattle.message_sentences.specs.Told.{TellsFlaw, IsTold, IsToldBy}
 
 -- ---- the last cut
 

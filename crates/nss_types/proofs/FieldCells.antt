@@ -1,5 +1,6 @@
 -- The fields of a struct that is typed have no more cells than a struct may have.
-use Rattle.std.proofs.Common.{◌≡◌, ◌≤◌, ◌<◌, ℕ, suc, ◌+◌, min, Bool, true, false, not, ◌&&◌, nat_lt, List, [], ◌∷◌, ◌++◌, length, get_or, drop, drop-cons, Option, None, Some, refl, sym, ap, subst, ◌∙◌, arith}
+use Rattle.std.proofs.Common.{◌≡◌, ◌≤◌, ◌<◌, ℕ, suc, ◌+◌, min, Bool, true, false, not, ◌&&◌, nat_lt, List, [], ◌∷◌, ◌++◌, length, get_or, drop, drop-cons, Option, None, Some, refl, sym, ap, subst}
+use Rattle.std.proofs.Common.{◌∙◌, arith}
 use Rattle.std.specs.Prelude.{IfSome}
 use Rattle.std.specs.Option.{option_map}
 use Rattle.std.proofs.lemmas.Option.{same_Some, none-some}
@@ -14,7 +15,8 @@ use Rattle.typing_rules.specs.Nodes.{Rows, first_kind, fine, ruled, asked, two}
 use Rattle.typing_rules.specs.Typed.{TypedLine}
 use Rattle.typing_rules.specs.Sight.{Members, Structure, cells, cells_if, counted_to_limit, has_struct}
 use Rattle.typing_rules.specs.Rules.{Fields, crosses_fields, field_rows, field_rule, fields_with, is_among, no_fields, struct_rows, struct_rule, when}
-use Rattle.typing_rules.specs.Verdicts.{after_fields, after_line, field_added, field_verdict, fields_fine, line_fine, line_of, line_type, lines_fine, members_of_line, members_of_lines, no_members, one_more, struct_members, struct_verdict}
+use Rattle.typing_rules.specs.Verdicts.{after_fields, after_line, field_added, field_verdict, fields_fine, line_fine, line_of, line_type, lines_fine, members_of_line, members_of_lines, no_members}
+use Rattle.typing_rules.specs.Verdicts.{one_more, struct_members, struct_verdict}
 
 -- ---- what answers were made of
 

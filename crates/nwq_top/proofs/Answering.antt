@@ -22,7 +22,8 @@ use Rattle.table_2da.specs.Look.{cell_of}
 use Rattle.command_tables.specs.Tables.{tables_given}
 use Rattle.command_meaning.specs.Units.{UnitsPass}
 use Rattle.command_meaning.specs.Scripts.{ScriptsHaveUnits}
-use Rattle.command_words.specs.Words.{Form, Run, Compile, Tree, Check, Disassemble, Assemble, Play, Generate, Save, Resume, NoForm, is_option, run_form, compile_form, generate_form, save_form, command_form, form_of, list_of}
+use Rattle.command_words.specs.Words.{Form, Run, Compile, Tree, Check, Disassemble, Assemble, Play, Generate, Save, Resume, NoForm, is_option, run_form, compile_form, generate_form, save_form}
+use Rattle.command_words.specs.Words.{command_form, form_of, list_of}
 use Rattle.nwq_top.specs.Command.{work_of, work_with, whole_work}
 use Rattle.nwq_top.specs.Answers.{EachHasOutcome, EachWholeHasOutcome, IsPlainForm, PlainHaveOutcomes}
 use Rattle.nwq_top.proofs.Undeniable.{Undeniable, surely}

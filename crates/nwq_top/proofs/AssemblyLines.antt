@@ -1,6 +1,7 @@
 -- Whether a line of an assembler text stands for an instruction is decided: an opcode, a type byte,
 -- and the bytes of a string are searched below their bounds, and all else is computed.
-use Rattle.std.proofs.Common.{◌≡◌, ◌⊎◌, inl, inr, ℕ, ℤ, zero, suc, ◌<◌, ◌+◌, ◌*◌, ◌^◌, nat_lt, Bool, true, false, cond, List, [], ◌∷◌, ◌++◌, length, drop, Option, Some, None, refl, sym, ap, subst, ◌∙◌, arith, append_assoc, append-nil, length-append, drop_at}
+use Rattle.std.proofs.Common.{◌≡◌, ◌⊎◌, inl, inr, ℕ, ℤ, zero, suc, ◌<◌, ◌+◌, ◌*◌, ◌^◌, nat_lt, Bool, true, false, cond, List, [], ◌∷◌, ◌++◌, length, drop, Option, Some, None, refl, sym, ap, subst}
+use Rattle.std.proofs.Common.{◌∙◌, arith, append_assoc, append-nil, length-append, drop_at}
 use Rattle.std.specs.Prelude.{slice_index_or}
 use Rattle.std.specs.List.{AllByRecursion, flat_map}
 use Rattle.std.specs.Option.{option_map}
@@ -20,7 +21,8 @@ use Rattle.ncs_code.specs.Names.{name_at}
 use Rattle.ncs_code.specs.Laws.{SpellingLaws}
 use Rattle.ncs_text.specs.declared.argument.Argument.{Argument}
 use Rattle.ncs_text.specs.declared.argument.Argument.TheVariants.{Signed, Byte, Short, Word, Place, Float, Text}
-use Rattle.ncs_text.specs.Arguments.{arguments, argument_bytes, below, byte_of, hex_byte, hex_bytes, together, number_below, signed_number, target_place, offset_to, IsString, IsArgument, IsParted, AreFields, AreArguments}
+use Rattle.ncs_text.specs.Arguments.{arguments, argument_bytes, below, byte_of, hex_byte, hex_bytes, together, number_below, signed_number, target_place, offset_to, IsString, IsArgument, IsParted}
+use Rattle.ncs_text.specs.Arguments.{AreFields, AreArguments}
 use Rattle.ncs_text.specs.Assembly.{Writes, IsRemark, heading, hex_pair}
 use Rattle.nwq_top.proofs.Decoding.{Spelled, begins_spelled}
 

@@ -1,5 +1,6 @@
 -- Bytes that begin with an instruction spell it.
-use Rattle.std.proofs.Common.{◌≡◌, ◌≢◌, ℕ, ℤ, zero, suc, ◌+◌, ◌<◌, ◌≤◌, ◌^◌, ◌==◌, nat_lt, Bool, true, false, not, IsTrue, List, [], ◌∷◌, ◌++◌, length, take, drop, get_or, Some, None, refl, sym, ap, subst, ◌∙◌, arith, ◌*◌, le-ltb, ltb-false, append_assoc, length-take, take-append-drop}
+use Rattle.std.proofs.Common.{◌≡◌, ◌≢◌, ℕ, ℤ, zero, suc, ◌+◌, ◌<◌, ◌≤◌, ◌^◌, ◌==◌, nat_lt, Bool, true, false, not, IsTrue, List, [], ◌∷◌, ◌++◌, length, take, drop, get_or, Some, None, refl, sym, ap}
+use Rattle.std.proofs.Common.{subst, ◌∙◌, arith, ◌*◌, le-ltb, ltb-false, append_assoc, length-take, take-append-drop}
 use Rattle.std.specs.Prelude.{if◌then◌else◌, FitsSigned}
 use Rattle.std.specs.List.{AllByRecursion}
 use Rattle.std.specs.Int.{w16, w32, cast_signed, from_be_bytes}
@@ -9,7 +10,9 @@ use Rattle.std.proofs.lemmas.Bool.{eqb-true, eqb-false}
 use Rattle.std.proofs.lemmas.Bool.Decides.{nat_tests}
 use Rattle.std.proofs.lemmas.Nat.{be_bytes_2, be_bytes_4}
 use Rattle.std.proofs.lemmas.List.Elements.{All-from_recursion}
-use Rattle.ncs_code.specs.Plain.{PlainOp, Int, Float, Text, Object, CpDownSp, RsAdd, CpTopSp, Const, Action, LogAnd, LogOr, IncOr, ExcOr, BoolAnd, Equal, Nequal, Geq, Gt, Lt, Leq, ShLeft, ShRight, UshRight, Add, Sub, Mul, Div, Mod, Neg, Comp, MovSp, Jmp, Jsr, Jz, Retn, Destruct, Not, DecISp, IncISp, Jnz, CpDownBp, CpTopBp, DecIBp, IncIBp, SaveBp, RestoreBp, StoreState, Nop}
+use Rattle.ncs_code.specs.Plain.{PlainOp, Int, Float, Text, Object, CpDownSp, RsAdd, CpTopSp, Const, Action, LogAnd, LogOr, IncOr, ExcOr, BoolAnd, Equal, Nequal, Geq, Gt, Lt, Leq, ShLeft, ShRight}
+use Rattle.ncs_code.specs.Plain.{UshRight, Add, Sub, Mul, Div, Mod, Neg, Comp, MovSp, Jmp, Jsr, Jz, Retn, Destruct, Not, DecISp, IncISp, Jnz, CpDownBp, CpTopBp, DecIBp, IncIBp, SaveBp, RestoreBp}
+use Rattle.ncs_code.specs.Plain.{StoreState, Nop}
 use Rattle.ncs_code.specs.declared.fault.CodeFault.TheVariants.{Opcode, TypeByte, Short}
 use Rattle.ncs_code.specs.Spelling.{two, four, signed, run_size, spelling, is_opcode, is_between, has_type, args_size, lit_size, first_two, fault_of, IsOp, IsByte}
 
@@ -385,39 +388,61 @@ all_rows =
                                                           (
                                                             λ opcode. absurd cc,
                                                             (
-                                                              λ _ kind args small bytes type long. moved_row Jmp 0x1D 0x00 (λ n. refl) (λ n fits. record { row = record { kind = refl; sizes = tt }; fits = fits }) kind args bytes (eqb-true kind 0x00 type) long,
+                                                              λ _ kind args small bytes type long. moved_row Jmp 0x1D 0x00 (λ n. refl)
+                                                                  (λ n fits. record { row = record { kind = refl; sizes = tt }; fits = fits }) kind args bytes (eqb-true kind 0x00 type) long,
                                                               (
-                                                                λ _ kind args small bytes type long. moved_row Jsr 0x1E 0x00 (λ n. refl) (λ n fits. record { row = record { kind = refl; sizes = tt }; fits = fits }) kind args bytes (eqb-true kind 0x00 type) long,
+                                                                λ _ kind args small bytes type long. moved_row Jsr 0x1E 0x00 (λ n. refl)
+                                                                    (λ n fits. record { row = record { kind = refl; sizes = tt }; fits = fits }) kind args bytes (eqb-true kind 0x00 type) long,
                                                                 (
-                                                                  λ _ kind args small bytes type long. moved_row Jz 0x1F 0x00 (λ n. refl) (λ n fits. record { row = record { kind = refl; sizes = tt }; fits = fits }) kind args bytes (eqb-true kind 0x00 type) long,
+                                                                  λ _ kind args small bytes type long. moved_row Jz 0x1F 0x00 (λ n. refl)
+                                                                      (λ n fits. record { row = record { kind = refl; sizes = tt }; fits = fits }) kind args bytes (eqb-true kind 0x00 type) long,
                                                                   (
-                                                                    λ _ kind args small bytes type long. bare Retn 0x20 0x00 refl (record { row = record { kind = refl; sizes = tt }; fits = tt }) kind args type,
+                                                                    λ _ kind args small bytes type long. bare Retn 0x20 0x00 refl
+                                                                        (record { row = record { kind = refl; sizes = tt }; fits = tt }) kind args type,
                                                                     (
                                                                       λ _. destruct_row,
                                                                       (
-                                                                        λ _ kind args small bytes type long. bare Not 0x22 0x03 refl (record { row = record { kind = refl; sizes = tt }; fits = tt }) kind args type,
+                                                                        λ _ kind args small bytes type long. bare Not 0x22 0x03 refl
+                                                                            (record { row = record { kind = refl; sizes = tt }; fits = tt }) kind args type,
                                                                         (
-                                                                          λ _ kind args small bytes type long. moved_row DecISp 0x23 0x03 (λ n. refl) (λ n fits. record { row = record { kind = refl; sizes = tt }; fits = fits }) kind args bytes (eqb-true kind 0x03 type) long,
+                                                                          λ _ kind args small bytes type long. moved_row DecISp 0x23 0x03 (λ n. refl)
+                                                                              (λ n fits. record { row = record { kind = refl; sizes = tt }; fits = fits }) kind args bytes
+                                                                              (eqb-true kind 0x03 type) long,
                                                                           (
-                                                                            λ _ kind args small bytes type long. moved_row IncISp 0x24 0x03 (λ n. refl) (λ n fits. record { row = record { kind = refl; sizes = tt }; fits = fits }) kind args bytes (eqb-true kind 0x03 type) long,
+                                                                            λ _ kind args small bytes type long. moved_row IncISp 0x24 0x03 (λ n. refl)
+                                                                                (λ n fits. record { row = record { kind = refl; sizes = tt }; fits = fits }) kind args bytes
+                                                                                (eqb-true kind 0x03 type) long,
                                                                             (
-                                                                              λ _ kind args small bytes type long. moved_row Jnz 0x25 0x00 (λ n. refl) (λ n fits. record { row = record { kind = refl; sizes = tt }; fits = fits }) kind args bytes (eqb-true kind 0x00 type) long,
+                                                                              λ _ kind args small bytes type long. moved_row Jnz 0x25 0x00 (λ n. refl)
+                                                                                  (λ n fits. record { row = record { kind = refl; sizes = tt }; fits = fits }) kind args bytes
+                                                                                  (eqb-true kind 0x00 type) long,
                                                                               (
-                                                                                λ _ kind args small bytes type long. copied_row CpDownBp 0x26 0x01 (λ n size. refl) (λ n size fits few. record { row = record { kind = refl; sizes = tt }; fits = (fits, few) }) kind args bytes (eqb-true kind 0x01 type) long,
+                                                                                λ _ kind args small bytes type long. copied_row CpDownBp 0x26 0x01 (λ n size. refl)
+                                                                                    (λ n size fits few. record { row = record { kind = refl; sizes = tt }; fits = (fits, few) }) kind args
+                                                                                    bytes (eqb-true kind 0x01 type) long,
                                                                                 (
-                                                                                  λ _ kind args small bytes type long. copied_row CpTopBp 0x27 0x01 (λ n size. refl) (λ n size fits few. record { row = record { kind = refl; sizes = tt }; fits = (fits, few) }) kind args bytes (eqb-true kind 0x01 type) long,
+                                                                                  λ _ kind args small bytes type long. copied_row CpTopBp 0x27 0x01 (λ n size. refl)
+                                                                                      (λ n size fits few. record { row = record { kind = refl; sizes = tt }; fits = (fits, few) }) kind args
+                                                                                      bytes (eqb-true kind 0x01 type) long,
                                                                                   (
-                                                                                    λ _ kind args small bytes type long. moved_row DecIBp 0x28 0x03 (λ n. refl) (λ n fits. record { row = record { kind = refl; sizes = tt }; fits = fits }) kind args bytes (eqb-true kind 0x03 type) long,
+                                                                                    λ _ kind args small bytes type long. moved_row DecIBp 0x28 0x03 (λ n. refl)
+                                                                                        (λ n fits. record { row = record { kind = refl; sizes = tt }; fits = fits }) kind args bytes
+                                                                                        (eqb-true kind 0x03 type) long,
                                                                                     (
-                                                                                      λ _ kind args small bytes type long. moved_row IncIBp 0x29 0x03 (λ n. refl) (λ n fits. record { row = record { kind = refl; sizes = tt }; fits = fits }) kind args bytes (eqb-true kind 0x03 type) long,
+                                                                                      λ _ kind args small bytes type long. moved_row IncIBp 0x29 0x03 (λ n. refl)
+                                                                                          (λ n fits. record { row = record { kind = refl; sizes = tt }; fits = fits }) kind args bytes
+                                                                                          (eqb-true kind 0x03 type) long,
                                                                                       (
-                                                                                        λ _ kind args small bytes type long. bare SaveBp 0x2A 0x00 refl (record { row = record { kind = refl; sizes = tt }; fits = tt }) kind args type,
+                                                                                        λ _ kind args small bytes type long. bare SaveBp 0x2A 0x00 refl
+                                                                                            (record { row = record { kind = refl; sizes = tt }; fits = tt }) kind args type,
                                                                                         (
-                                                                                          λ _ kind args small bytes type long. bare RestoreBp 0x2B 0x00 refl (record { row = record { kind = refl; sizes = tt }; fits = tt }) kind args type,
+                                                                                          λ _ kind args small bytes type long. bare RestoreBp 0x2B 0x00 refl
+                                                                                              (record { row = record { kind = refl; sizes = tt }; fits = tt }) kind args type,
                                                                                           (
                                                                                             λ _. state_row,
                                                                                             (
-                                                                                              λ _ kind args small bytes type long. bare Nop 0x2D 0x00 refl (record { row = record { kind = refl; sizes = tt }; fits = tt }) kind args type,
+                                                                                              λ _ kind args small bytes type long. bare Nop 0x2D 0x00 refl
+                                                                                                  (record { row = record { kind = refl; sizes = tt }; fits = tt }) kind args type,
                                                                                               tt,
                                                                                             ),
                                                                                           ),

@@ -11,7 +11,8 @@ use Rattle.command_work.specs.Work.{Work, Refused, then, puts, writes, file_name
 use Rattle.command_work.specs.Parts.{then_ok, then_err}
 use Rattle.command_work.specs.Outcomes.{IsSure, agree}
 use Rattle.command_work.specs.Reading.{IsRead, IsUnread}
-use Rattle.command_work.specs.Comes.{Came, cut, gives_does, refused_does, refusal_not_cut, Follows, follows, ends, cuts, then_follows, given_comes, refusal_comes, then_comes, read_does, unread_does, file_comes}
+use Rattle.command_work.specs.Comes.{Came, cut, gives_does, refused_does, refusal_not_cut, Follows, follows, ends, cuts, then_follows, given_comes, refusal_comes, then_comes, read_does, unread_does}
+use Rattle.command_work.specs.Comes.{file_comes}
 use Rattle.command_sources.specs.Headers.{table_of_word}
 use Rattle.command_files.specs.Assemblies as assemblies
 use Rattle.command_files.specs.Assemblies.{assembly_in, assembly_named}

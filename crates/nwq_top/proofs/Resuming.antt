@@ -17,7 +17,8 @@ use Rattle.command_work.specs.Work.{IsCut, Does, Finished, file_named}
 use Rattle.command_work.specs.Parts.{then_ok, then_err}
 use Rattle.command_work.specs.Reading.{IsRead, IsUnread}
 use Rattle.command_work.specs.Sequences.{then_known}
-use Rattle.command_work.specs.Comes.{Came, cut, Follows, follows, ends, cuts, then_follows, then_comes, given_comes, refusal_comes, refusal_not_cut, gives_does, refused_does, read_does, unread_does, file_comes}
+use Rattle.command_work.specs.Comes.{Came, cut, Follows, follows, ends, cuts, then_follows, then_comes, given_comes, refusal_comes, refusal_not_cut, gives_does, refused_does, read_does, unread_does}
+use Rattle.command_work.specs.Comes.{file_comes}
 use Rattle.command_meaning.specs.CodeEnds.{CheckedPlaysGoOn}
 use Rattle.command_play.specs.Games.{tells}
 use Rattle.command_save.specs.Resumes as resuming

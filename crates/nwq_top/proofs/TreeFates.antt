@@ -12,7 +12,8 @@ use Rattle.gff_tree.specs.Tree as tree
 use Rattle.gff_tree.specs.Whole.{PlainGff}
 use Rattle.gff_read.specs.declared.kind.FieldKind.{FieldKind}
 use Rattle.gff_read.specs.declared.kind.FieldKind.TheVariants as kind
-use Rattle.gff_read.specs.Rows.{◌>>=◌, placed, bad_data, for_field, of_kind, kinds, number_in, bytes_for, number_for, counted_for, name_for, part_in, parts_in, localized_in, scalar_for, leaf_for, words_from, PlainShape, Value, One, Many, PlainRow, shape_for, has_label, row_for, field_number, rows_from, rows_of}
+use Rattle.gff_read.specs.Rows.{◌>>=◌, placed, bad_data, for_field, of_kind, kinds, number_in, bytes_for, number_for, counted_for, name_for, part_in, parts_in, localized_in, scalar_for, leaf_for}
+use Rattle.gff_read.specs.Rows.{words_from, PlainShape, Value, One, Many, PlainRow, shape_for, has_label, row_for, field_number, rows_from, rows_of}
 use Rattle.gff_read.specs.Walk.{Marks, Reading, struct_count, struct_entered, node_at, nodes_at, leaf_at, fields_at, tree_of}
 use Rattle.gff_read.specs.Stands.{Stands}
 use Rattle.gff_read.specs.Laws.{ReadTreesStand, TreesAreRead}

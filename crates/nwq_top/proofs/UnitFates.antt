@@ -12,7 +12,8 @@ use Rattle.nss_include.specs.declared.fault.GatherFault.TheVariants as fault
 use Rattle.nss_include.specs.declared.file.Source.{Source}
 use Rattle.nss_include.specs.Names.{file_name, spot_in}
 use Rattle.nss_include.specs.Pieces.{Piece, Token, Directive, BadDirective, BadByte, pieces, HasPieces}
-use Rattle.nss_include.specs.Units.{Lookup, Held, Unfolds, IsUnit, piece_fault, include_fault, reading_fault, is_among, source, with_token, with_directive, with_file, script_alone, ends, fails, gives, again, breaks_off, includes, unread, is_read}
+use Rattle.nss_include.specs.Units.{Lookup, Held, Unfolds, IsUnit, piece_fault, include_fault, reading_fault, is_among, source, with_token, with_directive, with_file, script_alone, ends, fails, gives}
+use Rattle.nss_include.specs.Units.{again, breaks_off, includes, unread, is_read}
 
 -- ---- faults that are told
 

@@ -16,7 +16,8 @@ use Rattle.saved_state.specs.declared.saved.Saved.{Saved}
 use Rattle.world_rules.specs.Pure.{CellLookup}
 use Rattle.world_rules.specs.World.{World, is_valid, queue_of, effects_of}
 use Rattle.world_rules.specs.Changes.{has_turn, is_effect, with_variables, with_action, with_actions}
-use Rattle.world_rules.specs.Rows.{Call, drawn, drawn_from, assigned, delayed, awake, appended, appended_do, at_rest, cleared, changed_variables, applied, NewItem, TheAction, AWait, ASpeech, queued, VariableChange, SetInt, SetText, DeleteInt, DeleteText, varied, Print, Say, Draw, Assign, Delay, Queue, Clear, Vary, Apply, Remove, Signal}
+use Rattle.world_rules.specs.Rows.{Call, drawn, drawn_from, assigned, delayed, awake, appended, appended_do, at_rest, cleared, changed_variables, applied, NewItem, TheAction, AWait, ASpeech, queued}
+use Rattle.world_rules.specs.Rows.{VariableChange, SetInt, SetText, DeleteInt, DeleteText, varied, Print, Say, Draw, Assign, Delay, Queue, Clear, Vary, Apply, Remove, Signal}
 use Rattle.world_rules.specs.Arguments.{int_at, text_at, object_at, effect_at}
 use Rattle.world_rules.specs.Engine.{engine}
 use Rattle.world_rules.specs.RowLaws.{EachKeeps, engine_keeps, engine_posts}

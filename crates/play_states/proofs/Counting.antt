@@ -22,7 +22,8 @@ use Rattle.world_rules.specs.Engine.{may_run}
 use Rattle.world_rules.specs.Turns as turning
 use Rattle.world_rules.specs.Turns.{Begun, begin, turn, turned, turn_done, next_turn, expired, fault}
 use Rattle.world_rules.specs.Plays as plays
-use Rattle.world_rules.specs.Plays.{Ending, Over, Stopped, Bounds, Progress, Played, Run, Entered, entry_entered, entered_as, event_entry, turn_entry, named_entry, finished_as, further, after_entry, next_entry, full}
+use Rattle.world_rules.specs.Plays.{Ending, Over, Stopped, Bounds, Progress, Played, Run, Entered, entry_entered, entered_as, event_entry, turn_entry, named_entry, finished_as, further, after_entry}
+use Rattle.world_rules.specs.Plays.{next_entry, full}
 use Rattle.ncs_machine.specs.Host.{EngineView, host}
 use Rattle.module_player.specs.CodePlays.{code_runner, run_of, played_before}
 use Rattle.play_states.specs.Resting.{PlaysCountFew}

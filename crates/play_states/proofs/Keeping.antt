@@ -20,7 +20,8 @@ use Rattle.world_rules.specs.Changes.{is_numbered}
 use Rattle.world_rules.specs.AlikeLaws.{call}
 use Rattle.world_rules.specs.Turns.{Begun, begin, entry_begun, turn, turned, turn_done, next_turn, expired, fault}
 use Rattle.world_rules.specs.Plays as plays
-use Rattle.world_rules.specs.Plays.{Ending, Over, Divided, Stopped, Bounds, Progress, Played, Run, Entered, entry_entered, entered_as, event_entry, turn_entry, named_entry, finished_as, further, after_entry, next_entry, full}
+use Rattle.world_rules.specs.Plays.{Ending, Over, Divided, Stopped, Bounds, Progress, Played, Run, Entered, entry_entered, entered_as, event_entry, turn_entry, named_entry, finished_as, further}
+use Rattle.world_rules.specs.Plays.{after_entry, next_entry, full}
 use Rattle.ncs_machine.specs.Host.{EngineView, host}
 use Rattle.ncs_machine.specs.Stored.{StatesFit, KindFits, BegunFits, EngineKeepsFits, LinesKeepFits, BeginKeepsFits, TurnKeepsFits, TurnDoneKeepsFits, UnapplyKeepsFits}
 use Rattle.module_player.specs.CodePlays.{code_runner, run_of}

@@ -10,7 +10,8 @@ use Rattle.typing_rules.specs.Types.{is_int}
 use Rattle.typing_rules.specs.Typed as typed
 use Rattle.typing_rules.specs.Nodes.{Rows, row, no_row}
 use Rattle.typing_rules.specs.Sight.{Structure, Sight, Meant, is_taken, value_type, cells, cells_if, crosses_with}
-use Rattle.typing_rules.specs.Rules.{when, name_rule, name_rows, value_fits, variable_rule, variable_rows, Fields, is_among, crosses_fields, field_rule, field_rows, is_refused, is_missing, is_behind, default_fits, parameter_of, parameter_rule, parameter_mismatch, parameter_rows, switch_rule, switch_rows}
+use Rattle.typing_rules.specs.Rules.{when, name_rule, name_rows, value_fits, variable_rule, variable_rows, Fields, is_among, crosses_fields, field_rule, field_rows, is_refused, is_missing, is_behind}
+use Rattle.typing_rules.specs.Rules.{default_fits, parameter_of, parameter_rule, parameter_mismatch, parameter_rows, switch_rule, switch_rows}
 use Rattle.typing_rules.proofs.Right.{Covered}
 
 pub name_covered : (at_file : Bool) → Covered name_rows (name_rule at_file)

@@ -7,7 +7,8 @@ use Rattle.nss_tree.specs.Source.{SourceDeclared}
 use Rattle.nwq_value.specs.declared.value.Ty.{Ty}
 use Rattle.nwq_value.specs.declared.value.Ty.TheVariants as ty
 use Rattle.nwq_value.specs.Engine.{EngineTable, routine_named, constant_named}
-use Rattle.typing_rules.specs.Sight.{constant, Entry, Members, Structure, Signature, Head, Sight, Meant, IsRefused, IsMissing, Is, Called, find_from, find, entry_means, name_means, has_body, find_head, types_of_head, first_types, body_number, is_of_struct, struct_means, type_means, of_signature, routine_called, callee, declared}
+use Rattle.typing_rules.specs.Sight.{constant, Entry, Members, Structure, Signature, Head, Sight, Meant, IsRefused, IsMissing, Is, Called, find_from, find, entry_means, name_means, has_body}
+use Rattle.typing_rules.specs.Sight.{find_head, types_of_head, first_types, body_number, is_of_struct, struct_means, type_means, of_signature, routine_called, callee, declared}
 use Rattle.typing_rules.specs.Verdicts.{after_names}
 
 abbrev pub Each : {A : Type 0} → (A → Type 0) → List A → Type 0

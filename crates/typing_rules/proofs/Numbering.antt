@@ -1,5 +1,6 @@
 -- The variables of a typed tree are numbered in a row.
-use Rattle.std.proofs.Common.{◌≡◌, ◌∙◌, refl, sym, ap, ℕ, zero, suc, ◌+◌, Bool, true, false, ap₂, List, [], ◌∷◌, ◌++◌, map, length, Option, None, Some, is_some, option_and_then, arith, zero-add, add-zero}
+use Rattle.std.proofs.Common.{◌≡◌, ◌∙◌, refl, sym, ap, ℕ, zero, suc, ◌+◌, Bool, true, false, ap₂, List, [], ◌∷◌, ◌++◌, map, length, Option, None, Some, is_some, option_and_then, arith, zero-add}
+use Rattle.std.proofs.Common.{add-zero}
 use Rattle.std.proofs.lemmas.Option.{none-some, same_Some}
 use Rattle.nss_tree.specs.Statements as stmt
 use Rattle.nss_tree.specs.Units as item

@@ -3,7 +3,8 @@ use Rattle.std.proofs.Common.{◌≤◌, ◌≡◌, refl, ap, subst, ℕ, true, 
 use Rattle.std.proofs.lemmas.Option.{none-some, same_Some}
 use Rattle.typing_rules.specs.declared.fault.Fault.{Fault}
 use Rattle.typing_rules.specs.declared.fault.FaultKind.{FaultKind}
-use Rattle.typing_rules.specs.Nodes.{Rows, rank, first_kind, Verdict, Fine, Wrong, Open, fine, ruled, asked, passed, two, three, four, no_parts, present_if, if_there, Fits, Own, There, absent, present, FaultThere, at, faults_there, Among}
+use Rattle.typing_rules.specs.Nodes.{Rows, rank, first_kind, Verdict, Fine, Wrong, Open, fine, ruled, asked, passed, two, three, four, no_parts, present_if, if_there, Fits, Own, There, absent}
+use Rattle.typing_rules.specs.Nodes.{present, FaultThere, at, faults_there, Among}
 use Rattle.typing_rules.proofs.FirstKind.{first_is, only_first}
 
 -- An answer, and a list of faults, that agree with a meaning: what is typed so, and what is at

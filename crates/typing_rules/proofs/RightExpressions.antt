@@ -16,7 +16,8 @@ use Rattle.typing_rules.specs.declared.fault.FaultKind.TheVariants.{RefusedType,
 use Rattle.typing_rules.specs.Typed.{TypedExpr, TypedExprs, literal, no_typed}
 use Rattle.typing_rules.specs.Nodes.{fine, Fits, at}
 use Rattle.typing_rules.specs.Sight.{Head, Structure, Sight, name_means, callee, wanted, type_means, value_type}
-use Rattle.typing_rules.specs.Rules.{name_rule, name_rows, float_rule, float_rows, call_rule, call_rows, takes_action, others, member_rule, member_rows, prefix_rule, prefix_rows, postfix_rule, postfix_rows, binary_rule, binary_rows, assign_rule, assign_rows, constant_named, constant_means, constant_rule, constant_rows, line_rows}
+use Rattle.typing_rules.specs.Rules.{name_rule, name_rows, float_rule, float_rows, call_rule, call_rows, takes_action, others, member_rule, member_rows, prefix_rule, prefix_rows, postfix_rule}
+use Rattle.typing_rules.specs.Rules.{postfix_rows, binary_rule, binary_rows, assign_rule, assign_rows, constant_named, constant_means, constant_rule, constant_rows, line_rows}
 use Rattle.typing_rules.specs.Verdicts.{verdict, all_fine, faults, all_faults, longer_typed, constant_value, constant_faults, line_verdict, line_type}
 use Rattle.typing_rules.specs.Meaning.{Types, AllTypes, CallParts, TwoParts, TypesValue, FaultIn, FaultAmong, TypesConstant, FaultInConstant, TypesLine, FaultOfLine}
 use Rattle.typing_rules.specs.Meaning as rules

@@ -13,11 +13,18 @@ use Rattle.typing_rules.specs.declared.places.EntryPoint.{EntryPoint}
 use Rattle.typing_rules.specs.Typed.{TypedName, TypedLine, TypedParameter, TypedItem, TypedUnit}
 use Rattle.typing_rules.specs.Nodes.{fine, two, three, if_there, faults_there, Fits, Own, FaultThere, at}
 use Rattle.typing_rules.specs.Sight.{Head, Structure, Sight, start, type_means, value_type, any_type, declared_type, result_type, first_types, declared}
-use Rattle.typing_rules.specs.Rules.{constant_type, line_rows, constant_name_rule, constant_name_rows, Fields, no_fields, field_rule, field_rows, struct_rule, struct_rows, parameter_of, parameter_rule, parameter_rows, signature_of, head_of, head_rule, head_rows, function_rule, function_rows, entry_rule, entry_rows}
-use Rattle.typing_rules.specs.Verdicts.{longer, after_names, line_type, line_verdict, constant_line_verdict, constant_value, constant_faults, names_faults, stmts_fine, stmts_faults, field_added, fields_fine, fields_faults, line_of, line_fine, line_faults, after_line, lines_fine, lines_faults, struct_verdict, struct_members, parameter_verdict, parameter_declared, late_after, after_params, params_fine, params_faults, in_function, in_body, head_verdict, head_faults, body_faults, function_verdict, constant_name_verdict, constant_item, global_item, constant_meaning, after_item, after_items, item_fine, item_faults, items_fine, items_faults, heads, unit_of, unit_typed, unit_faults}
-use Rattle.typing_rules.specs.Meaning.{NoParts, FaultInConstant, TypesLine, TypesNames, FaultInStmts, TypesFields, TypesFieldLine, TypesLines, FaultOfLine, FaultInFields, FaultInLines, ParameterParts, TypesParams, FaultInParams, TypesHead, FaultInHead, FunctionParts, ConstantNameParts, TypesItem, FaultInItem, TypesItems, FaultInItems, TypesUnit, FaultInUnit}
+use Rattle.typing_rules.specs.Rules.{constant_type, line_rows, constant_name_rule, constant_name_rows, Fields, no_fields, field_rule, field_rows, struct_rule, struct_rows, parameter_of}
+use Rattle.typing_rules.specs.Rules.{parameter_rule, parameter_rows, signature_of, head_of, head_rule, head_rows, function_rule, function_rows, entry_rule, entry_rows}
+use Rattle.typing_rules.specs.Verdicts.{longer, after_names, line_type, line_verdict, constant_line_verdict, constant_value, constant_faults, names_faults, stmts_fine, stmts_faults, field_added}
+use Rattle.typing_rules.specs.Verdicts.{fields_fine, fields_faults, line_of, line_fine, line_faults, after_line, lines_fine, lines_faults, struct_verdict, struct_members, parameter_verdict}
+use Rattle.typing_rules.specs.Verdicts.{parameter_declared, late_after, after_params, params_fine, params_faults, in_function, in_body, head_verdict, head_faults, body_faults, function_verdict}
+use Rattle.typing_rules.specs.Verdicts.{constant_name_verdict, constant_item, global_item, constant_meaning, after_item, after_items, item_fine, item_faults, items_fine, items_faults, heads, unit_of}
+use Rattle.typing_rules.specs.Verdicts.{unit_typed, unit_faults}
+use Rattle.typing_rules.specs.Meaning.{NoParts, FaultInConstant, TypesLine, TypesNames, FaultInStmts, TypesFields, TypesFieldLine, TypesLines, FaultOfLine, FaultInFields, FaultInLines, ParameterParts}
+use Rattle.typing_rules.specs.Meaning.{TypesParams, FaultInParams, TypesHead, FaultInHead, FunctionParts, ConstantNameParts, TypesItem, FaultInItem, TypesItems, FaultInItems, TypesUnit, FaultInUnit}
 use Rattle.typing_rules.specs.Meaning as rules
-use Rattle.typing_rules.proofs.Right.{Right, Image, said, under, given_by, node, leaf, looked, no_part, both, looked_and, and_two_looked, if_right, maps, always, none_split, asked_fine, two_is, three_is}
+use Rattle.typing_rules.proofs.Right.{Right, Image, said, under, given_by, node, leaf, looked, no_part, both, looked_and, and_two_looked, if_right, maps, always, none_split, asked_fine, two_is}
+use Rattle.typing_rules.proofs.Right.{three_is}
 use Rattle.typing_rules.proofs.Coverage.{field_covered, parameter_covered}
 use Rattle.typing_rules.proofs.InSight.{Each, each_last, IsThere, EntryTyped, StructTyped, HeadTyped, Sighted, Scoped, type_there, first_there, declared_sighted}
 use Rattle.typing_rules.proofs.RightExpressions.{right_constant, right_line}

@@ -10,9 +10,12 @@ use Rattle.typing_rules.specs.declared.fault.FaultKind.TheVariants.{Outside, Mis
 use Rattle.typing_rules.specs.Typed.{TypedName, TypedStmt, TypedStmts}
 use Rattle.typing_rules.specs.Nodes.{fine, Fits, There, at, if_there, faults_there, FaultThere}
 use Rattle.typing_rules.specs.Sight.{Head, Sight, scope_entered, inside, looped, switched, declared}
-use Rattle.typing_rules.specs.Rules.{variable_rule, variable_rows, if_rule, if_rows, if_else_rule, if_else_rows, while_rule, do_rule, do_rows, for_rule, for_rows, switch_rule, switch_rows, break_rule, continue_rule, outside_rows, return_rule, return_rows, case_rule, case_rows, default_rule, default_rows}
-use Rattle.typing_rules.specs.Verdicts.{value, value_faults, longer, longer_stmts, declaration_of, line_type, line_verdict, names_fine, names_faults, variable_verdict, after, after_then, stmt_verdict, stmts_fine, stmt_faults, stmts_faults}
-use Rattle.typing_rules.specs.Meaning.{TypesValue, FaultInValue, NoParts, TypesConstant, TypesLine, VariableParts, TypesNames, FaultInName, FaultInNames, TypesStmt, TypesStmts, IfParts, IfElseParts, DoParts, ForParts, SwitchParts, ReturnParts, FaultInStmt, FaultInStmts}
+use Rattle.typing_rules.specs.Rules.{variable_rule, variable_rows, if_rule, if_rows, if_else_rule, if_else_rows, while_rule, do_rule, do_rows, for_rule, for_rows, switch_rule, switch_rows, break_rule}
+use Rattle.typing_rules.specs.Rules.{continue_rule, outside_rows, return_rule, return_rows, case_rule, case_rows, default_rule, default_rows}
+use Rattle.typing_rules.specs.Verdicts.{value, value_faults, longer, longer_stmts, declaration_of, line_type, line_verdict, names_fine, names_faults, variable_verdict, after, after_then, stmt_verdict}
+use Rattle.typing_rules.specs.Verdicts.{stmts_fine, stmt_faults, stmts_faults}
+use Rattle.typing_rules.specs.Meaning.{TypesValue, FaultInValue, NoParts, TypesConstant, TypesLine, VariableParts, TypesNames, FaultInName, FaultInNames, TypesStmt, TypesStmts, IfParts, IfElseParts}
+use Rattle.typing_rules.specs.Meaning.{DoParts, ForParts, SwitchParts, ReturnParts, FaultInStmt, FaultInStmts}
 use Rattle.typing_rules.specs.Meaning as rules
 use Rattle.typing_rules.proofs.Right.{Right, Image, said, under, node, leaf, no_part, both, all_three, all_four, looked_and, if_right, passes, maps, always, none_split}
 use Rattle.typing_rules.proofs.Coverage.{variable_covered, switch_covered}

@@ -1,6 +1,7 @@
 use Rattle.std.proofs.Common.{◌≡◌, ◌∙◌, ◌+◌, ap, refl, arith, ℕ}
 use Rattle.std.specs.Option.{option_map}
-use Rattle.nss_tree.specs.Readings.{tree_block, tree_break_off, tree_case_label, tree_continue_on, tree_declaration, tree_default_label, tree_do_loop, tree_empty, tree_expression, tree_for_loop, tree_if_else, tree_if_only, tree_return_from, tree_switch, tree_while_loop}
+use Rattle.nss_tree.specs.Readings.{tree_block, tree_break_off, tree_case_label, tree_continue_on, tree_declaration, tree_default_label, tree_do_loop, tree_empty, tree_expression, tree_for_loop}
+use Rattle.nss_tree.specs.Readings.{tree_if_else, tree_if_only, tree_return_from, tree_switch, tree_while_loop}
 use Rattle.nss_tree.specs.Statements.{map_stmt}
 use Rattle.ncs_emit.specs.Labelled.{LabelledCode}
 use Rattle.typing_rules.specs.Reading.{plain}
@@ -8,7 +9,9 @@ use Rattle.typing_rules.specs.UnitReading.{typed_stmt, typed_stmts}
 use Rattle.emission_rules.specs.Expressions.{labels}
 use Rattle.emission_rules.specs.Statements as code
 use Rattle.codegen_unit.specs.Ready.{plain_exits}
-use Rattle.codegen_unit.proofs.Arms.{block_is, block_parts, body_of_switch_ready, break_leads, continue_leads, declaration_is, do_is, do_parts, effect_part, for_is, for_parts, if_else_is, if_else_parts, if_only_is, if_only_parts, falls_row, all_size, known_code, known_lines, known_none, names_part, plain_in_loop, plain_in_switch, return_part, small, switch_is, switch_parts, while_is, while_parts}
+use Rattle.codegen_unit.proofs.Arms.{block_is, block_parts, body_of_switch_ready, break_leads, continue_leads, declaration_is, do_is, do_parts, effect_part, for_is, for_parts, if_else_is}
+use Rattle.codegen_unit.proofs.Arms.{if_else_parts, if_only_is, if_only_parts, falls_row, all_size, known_code, known_lines, known_none, names_part, plain_in_loop, plain_in_switch, return_part, small}
+use Rattle.codegen_unit.proofs.Arms.{switch_is, switch_parts, while_is, while_parts}
 use Rattle.codegen_unit.proofs.Choosing.{choice_open, close_open, for_open, switch_code}
 use Rattle.codegen_unit.proofs.InRow.{cells_done, cells_step, code_done, code_step, next_falls, next_few, next_ready, open_after, open_at, open_known, rest_ready, stmts_few, switch_few}
 use Rattle.codegen_unit.proofs.Returns.{block_code, do_code, for_code, if_else_code, if_only_code, while_code}
@@ -129,41 +132,50 @@ pub statements-statement-requires : goal.statements-statement-requires
 statements-statement-requires t c = (
   next_falls c.args.layout.now c.args.exits c.args.stmts.now c.loop-stmt.stmt-index c.stmt-item.result c.stmt-item.is c.loop-stmt-test.true t c.decreases,
   rw c.place_label-at.ensures.placed
-      (next_ready c.args.layout.now c.args.exits c.args.stmts.now c.loop-stmt.stmt-index c.stmt-item.result c.stmt-item.is c.loop-stmt-test.true c.loop-stmt.out.labels c.loop-stmt.depth c.loop-stmt.invariant.0),
+      (next_ready c.args.layout.now c.args.exits c.args.stmts.now c.loop-stmt.stmt-index c.stmt-item.result c.stmt-item.is c.loop-stmt-test.true c.loop-stmt.out.labels c.loop-stmt.depth
+      c.loop-stmt.invariant.0),
 )
 
 pub statements-declared_cells-depth-requires : goal.statements-declared_cells-depth-requires
 statements-declared_cells-depth-requires t c =
-    let ready = next_ready c.args.layout.now c.args.exits c.args.stmts.now c.loop-stmt.stmt-index c.stmt-item.result c.stmt-item.is c.loop-stmt-test.true c.loop-stmt.out.labels c.loop-stmt.depth c.loop-stmt.invariant.0 in
+    let ready = next_ready c.args.layout.now c.args.exits c.args.stmts.now c.loop-stmt.stmt-index c.stmt-item.result c.stmt-item.is c.loop-stmt-test.true c.loop-stmt.out.labels
+    c.loop-stmt.depth c.loop-stmt.invariant.0 in
     record {
       few = omega (
         arith,
         ready.deep,
-        next_few c.args.layout.now c.args.exits c.args.stmts.now c.loop-stmt.stmt-index c.stmt-item.result c.stmt-item.is c.loop-stmt-test.true c.loop-stmt.out.labels c.loop-stmt.depth c.loop-stmt.invariant.0,
+        next_few c.args.layout.now c.args.exits c.args.stmts.now c.loop-stmt.stmt-index c.stmt-item.result c.stmt-item.is c.loop-stmt-test.true c.loop-stmt.out.labels c.loop-stmt.depth
+            c.loop-stmt.invariant.0,
       );
     }
 
 pub statements-overflow_add-depth : goal.statements-overflow_add-depth
 statements-overflow_add-depth t c =
-    let ready = next_ready c.args.layout.now c.args.exits c.args.stmts.now c.loop-stmt.stmt-index c.stmt-item.result c.stmt-item.is c.loop-stmt-test.true c.loop-stmt.out.labels c.loop-stmt.depth c.loop-stmt.invariant.0 in
+    let ready = next_ready c.args.layout.now c.args.exits c.args.stmts.now c.loop-stmt.stmt-index c.stmt-item.result c.stmt-item.is c.loop-stmt-test.true c.loop-stmt.out.labels
+    c.loop-stmt.depth c.loop-stmt.invariant.0 in
     omega (
       arith,
       ready.deep,
       c.declared_cells-depth.ensures,
-      next_few c.args.layout.now c.args.exits c.args.stmts.now c.loop-stmt.stmt-index c.stmt-item.result c.stmt-item.is c.loop-stmt-test.true c.loop-stmt.out.labels c.loop-stmt.depth c.loop-stmt.invariant.0,
+      next_few c.args.layout.now c.args.exits c.args.stmts.now c.loop-stmt.stmt-index c.stmt-item.result c.stmt-item.is c.loop-stmt-test.true c.loop-stmt.out.labels c.loop-stmt.depth
+          c.loop-stmt.invariant.0,
     )
 
 pub statements-loop-stmt-preserved : goal.statements-loop-stmt-preserved
 statements-loop-stmt-preserved t c =
     let deeper : c.loop-stmt.depth + c.declared_cells-depth.result ≡ _ = ap (λ k. c.loop-stmt.depth + k) c.declared_cells-depth.ensures in (
-      rest_ready c.args.layout.now c.args.exits c.args.stmts.now c.loop-stmt.stmt-index c.stmt-item.result c.stmt-item.is c.loop-stmt-test.true c.loop-stmt.out.labels _ c.loop-stmt.depth _ c.loop-stmt.invariant.0
+      rest_ready c.args.layout.now c.args.exits c.args.stmts.now c.loop-stmt.stmt-index c.stmt-item.result c.stmt-item.is c.loop-stmt-test.true c.loop-stmt.out.labels _ c.loop-stmt.depth _
+          c.loop-stmt.invariant.0
           (ap (λ (d : LabelledCode). d.labels) c.in_ok-statement.ensures
           ∙ ap (λ (d : LabelledCode). d.labels + code.stmt_labels
           (typed_stmt c.stmt-item.result)) c.place_label-at.ensures.placed) deeper,
-      open_after c.args.layout.now c.args.exits c.args.stmts.now c.loop-stmt.stmt-index c.stmt-item.result c.stmt-item.is c.loop-stmt-test.true c.part_laws.ensures.parts.placements c.places_above.ensures.above.stmt (plain_exits c.args.exits)
-          c.loop-stmt.out c.place_label-at.new.out c.statement.new.out c.loop-stmt.depth c.loop-stmt.at c.place_label-at.result c.place_label-at.ensures.placed c.in_ok-statement.ensures c.place_label-at.ensures.next
+      open_after c.args.layout.now c.args.exits c.args.stmts.now c.loop-stmt.stmt-index c.stmt-item.result c.stmt-item.is c.loop-stmt-test.true c.part_laws.ensures.parts.placements
+          c.places_above.ensures.above.stmt (plain_exits c.args.exits)
+          c.loop-stmt.out c.place_label-at.new.out c.statement.new.out c.loop-stmt.depth c.loop-stmt.at c.place_label-at.result c.place_label-at.ensures.placed c.in_ok-statement.ensures
+          c.place_label-at.ensures.next
           c.loop-stmt.invariant.1,
-      code_step c.args.layout.now c.args.exits c.args.stmts.now c.loop-stmt.stmt-index c.stmt-item.result c.stmt-item.is c.loop-stmt-test.true (plain_exits c.args.exits) c.loop-stmt.out c.place_label-at.new.out c.statement.new.out _
+      code_step c.args.layout.now c.args.exits c.args.stmts.now c.loop-stmt.stmt-index c.stmt-item.result c.stmt-item.is c.loop-stmt-test.true (plain_exits c.args.exits) c.loop-stmt.out
+          c.place_label-at.new.out c.statement.new.out _
           c.loop-stmt.depth _ c.loop-stmt.at c.place_label-at.result c.place_label-at.ensures.placed c.in_ok-statement.ensures deeper c.place_label-at.ensures.next c.loop-stmt.invariant.2,
       cells_step c.args.layout.now c.args.exits c.args.stmts.now c.loop-stmt.stmt-index c.stmt-item.result c.stmt-item.is c.loop-stmt-test.true c.loop-stmt.depth _ _ deeper c.loop-stmt.invariant.3,
     )
@@ -221,7 +233,8 @@ for_loop-returns t c =
     (option_map plain c.args.start.now) (option_map plain c.args.condition.now) (option_map plain c.args.step.now)
     (typed_stmt c.args.body.now) c.in_ok-top.top _ _ _ _ _ _
     c.in_ok-top.ensures.first
-    (plain_in_loop c.in_loop-exits.result _ _ _ c.in_loop-exits.ensures.breaks c.in_loop-exits.ensures.continues) c.in_ok-top.ensures.made c.in_ok-emit_evaluated.ensures c.in_ok-emit_turn.ensures c.in_ok-statement.ensures c.in_ok-emit_again.ensures c.place.ensures.placed
+    (plain_in_loop c.in_loop-exits.result _ _ _ c.in_loop-exits.ensures.breaks c.in_loop-exits.ensures.continues) c.in_ok-top.ensures.made c.in_ok-emit_evaluated.ensures
+    c.in_ok-emit_turn.ensures c.in_ok-statement.ensures c.in_ok-emit_again.ensures c.place.ensures.placed
 
 -- ---- a `for`, and a switch
 
@@ -229,7 +242,8 @@ pub for_loop-place-requires-clause-unplaced : goal.for_loop-place-requires-claus
 for_loop-place-requires-clause-unplaced t c =
     let made = ap (λ (d : LabelledCode). d.labels) c.in_ok-top.ensures.made in
     let top = c.in_ok-top.top in
-    for_open c.part_laws.ensures.parts.placements c.places_above.ensures.above.exprs c.places_above.ensures.above.stmt c.args.layout.now (plain_exits c.in_loop-exits.result) c.args.depth top (top + 1) (top + 2) (top + 2)
+    for_open c.part_laws.ensures.parts.placements c.places_above.ensures.above.exprs c.places_above.ensures.above.stmt c.args.layout.now (plain_exits c.in_loop-exits.result) c.args.depth top
+    (top + 1) (top + 2) (top + 2)
     (option_map plain c.args.start.now) (option_map plain c.args.condition.now) (option_map plain c.args.step.now) (typed_stmt c.args.body.now) _ _ _ _ _
     c.in_ok-emit_evaluated.ensures c.in_ok-emit_turn.ensures c.in_ok-statement.ensures c.in_ok-emit_again.ensures
     (omega (arith, made, c.in_ok-top.ensures.first)) (omega arith) (omega arith)
@@ -249,7 +263,8 @@ switch-statements-requires t c =
         record {
           inside = omega (arith, made, after, c.count_labels.ensures, c.in_ok-end.ensures.first);
           unplaced = λ label from to.
-              choice_open c.part_laws.ensures.parts.placements c.places_above.ensures.above.exprs c.args.layout.now c.args.depth c.in_ok-end.end _ (plain c.args.value.now) (typed_stmts c.args.body.now) _ _ c.in_ok-emit_choice.ensures label
+              choice_open c.part_laws.ensures.parts.placements c.places_above.ensures.above.exprs c.args.layout.now c.args.depth c.in_ok-end.end _ (plain c.args.value.now)
+              (typed_stmts c.args.body.now) _ _ c.in_ok-emit_choice.ensures label
               (omega (arith, made, from, to, c.count_labels.ensures, c.in_ok-end.ensures.first))
               (c.in_ok-end.ensures.unplaced label (omega (arith, from, c.in_ok-end.ensures.first)) (omega (arith, to, c.count_labels.ensures, c.in_ok-end.ensures.first)));
         },
@@ -267,7 +282,8 @@ switch-close_switch-requires-clause-unplaced t c =
     (plain_exits c.in_switch-exits.result) (c.args.depth + 1) (c.in_ok-end.end + 1) c.in_ok-end.end
     (typed_stmts c.args.body.now) _ _
     c.in_ok-behind.ensures.code (omega (arith, made, after, c.in_ok-end.ensures.first)) (omega arith)
-    (choice_open c.part_laws.ensures.parts.placements c.places_above.ensures.above.exprs c.args.layout.now c.args.depth c.in_ok-end.end _ (plain c.args.value.now) (typed_stmts c.args.body.now) _ _ c.in_ok-emit_choice.ensures c.in_ok-end.end
+    (choice_open c.part_laws.ensures.parts.placements c.places_above.ensures.above.exprs c.args.layout.now c.args.depth c.in_ok-end.end _ (plain c.args.value.now)
+    (typed_stmts c.args.body.now) _ _ c.in_ok-emit_choice.ensures c.in_ok-end.end
     (omega (arith, made, c.in_ok-end.ensures.first))
     (c.in_ok-end.ensures.unplaced c.in_ok-end.end (omega (arith, c.in_ok-end.ensures.first)) (omega (arith, c.in_ok-end.ensures.first))))
 

@@ -28,7 +28,8 @@ loop-stmt-preserved c = (
     c.behind-at.ensures,
     ap (λ (d : LabelledCode). d.labels) c.in_ok-emit_test.ensures,
   ),
-  tests_step _ _ _ c.args.stmts.now c.loop-stmt.stmt-index c.loop-stmt.at _ c.stmt-item.result c.stmt-item.is c.loop-stmt-test.true c.in_ok-emit_test.ensures c.behind-at.ensures c.loop-stmt.invariant.1,
+  tests_step _ _ _ c.args.stmts.now c.loop-stmt.stmt-index c.loop-stmt.at _ c.stmt-item.result c.stmt-item.is c.loop-stmt-test.true c.in_ok-emit_test.ensures c.behind-at.ensures
+      c.loop-stmt.invariant.1,
 )
 
 pub returns : goal.returns

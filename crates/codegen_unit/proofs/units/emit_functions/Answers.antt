@@ -7,8 +7,10 @@ use Rattle.codegen_unit.proofs.units.emit_functions.Goals as goal
 
 pub loop-item-preserved : goal.loop-item-preserved
 loop-item-preserved c = (
-  functions_rest c.args.layout.now c.args.items.now c.loop-item.item-index c.item-item.result c.item-item.is c.loop-item-test.true c.loop-item.out.labels _ c.loop-item.invariant.0 c.in_ok-number.ensures.labels,
-  functions_open c.args.layout.now c.args.items.now c.loop-item.item-index c.item-item.result c.item-item.is c.loop-item-test.true c.loop-item.out.labels _ c.loop-item.number _ c.loop-item.out.lines _ c.loop-item.invariant.1
+  functions_rest c.args.layout.now c.args.items.now c.loop-item.item-index c.item-item.result c.item-item.is c.loop-item-test.true c.loop-item.out.labels _ c.loop-item.invariant.0
+      c.in_ok-number.ensures.labels,
+  functions_open c.args.layout.now c.args.items.now c.loop-item.item-index c.item-item.result c.item-item.is c.loop-item-test.true c.loop-item.out.labels _ c.loop-item.number _
+      c.loop-item.out.lines _ c.loop-item.invariant.1
       (omega (arith, c.in_ok-number.ensures.labels)) c.in_ok-number.ensures.number c.in_ok-number.ensures.others,
   sym (c.in_ok-number.ensures.code (typed_items (drop (c.loop-item.item-index + 1) c.args.items.now)))
       ∙ (sym (items_next (λ ys. extended c.loop-item.out

@@ -34,7 +34,8 @@ emit_functions-requires-clause-ready c =
 pub emit_functions-requires-clause-open : goal.emit_functions-requires-clause-open
 emit_functions-requires-clause-open c =
     rw c.as_slice-items.ensures.items
-    (unit_open (typed_unit c.args.unit.now) c.args.layout.now c.requires.bounded c.requires.few c.requires.laid c.part_laws.ensures.parts.placements c.places_above.ensures.above.names c.make_labels.new.out.labels _ c.make_labels.new.out.lines _
+    (unit_open (typed_unit c.args.unit.now) c.args.layout.now c.requires.bounded c.requires.few c.requires.laid c.part_laws.ensures.parts.placements c.places_above.ensures.above.names
+    c.make_labels.new.out.labels _ c.make_labels.new.out.lines _
     (omega (
       arith,
       ap (λ (d : LabelledCode). d.labels) c.in_ok-make_labels.ensures.made,

@@ -45,7 +45,9 @@ returns-in-Ok-clause-value c =
     (c.is_some.ensures ∙ there_is plain_stmts c.args.body.now)))
     (ap (λ k. params_fine k false c.args.ps.now)
     (c.begin-mark.ensures.begun c.args.given.now.table.now
-    ∙ ap (function_begun (sight_in c.args.given.now c.args.c.now)) c.result_type-ty.ensures.typed)) c.type_means.ensures.meaning (ap (λ k. first_types c.args.name.now k.seen) (c.begin-mark.ensures.begun c.args.given.now.table.now ∙ ap (function_begun (sight_in c.args.given.now c.args.c.now)) c.result_type-ty.ensures.typed))))
+    ∙ ap (function_begun (sight_in c.args.given.now c.args.c.now)) c.result_type-ty.ensures.typed)) c.type_means.ensures.meaning
+    (ap (λ k. first_types c.args.name.now k.seen) (c.begin-mark.ensures.begun c.args.given.now.table.now ∙ ap (function_begun (sight_in c.args.given.now c.args.c.now))
+    c.result_type-ty.ensures.typed))))
     (c.in-Ok.ensures.body ∙ ap
     (λ k. body_fine (heads_in c.args.given.now) (after_params k c.args.ps.now)
     (option_map plain_stmts c.args.body.now))
@@ -99,7 +101,9 @@ returns-in-Ok-clause-least c =
     (c.is_some.ensures ∙ there_is plain_stmts c.args.body.now)))
     (ap (λ k. params_fine k false c.args.ps.now)
     (c.begin-mark.ensures.begun c.args.given.now.table.now
-    ∙ ap (function_begun (sight_in c.args.given.now c.args.c.now)) c.result_type-ty.ensures.typed)) c.type_means.ensures.meaning (ap (λ k. first_types c.args.name.now k.seen) (c.begin-mark.ensures.begun c.args.given.now.table.now ∙ ap (function_begun (sight_in c.args.given.now c.args.c.now)) c.result_type-ty.ensures.typed))))
+    ∙ ap (function_begun (sight_in c.args.given.now c.args.c.now)) c.result_type-ty.ensures.typed)) c.type_means.ensures.meaning
+    (ap (λ k. first_types c.args.name.now k.seen) (c.begin-mark.ensures.begun c.args.given.now.table.now ∙ ap (function_begun (sight_in c.args.given.now c.args.c.now))
+    c.result_type-ty.ensures.typed))))
     (c.in-Ok.ensures.body ∙ ap
     (λ k. body_fine (heads_in c.args.given.now) (after_params k c.args.ps.now)
     (option_map plain_stmts c.args.body.now))
@@ -151,7 +155,9 @@ returns-in-Ok-clause-least c =
     (c.is_some.ensures ∙ there_is plain_stmts c.args.body.now)))
     (ap (λ k. params_fine k false c.args.ps.now)
     (c.begin-mark.ensures.begun c.args.given.now.table.now
-    ∙ ap (function_begun (sight_in c.args.given.now c.args.c.now)) c.result_type-ty.ensures.typed)) c.type_means.ensures.meaning (ap (λ k. first_types c.args.name.now k.seen) (c.begin-mark.ensures.begun c.args.given.now.table.now ∙ ap (function_begun (sight_in c.args.given.now c.args.c.now)) c.result_type-ty.ensures.typed))))) c.close.ensures.least
+    ∙ ap (function_begun (sight_in c.args.given.now c.args.c.now)) c.result_type-ty.ensures.typed)) c.type_means.ensures.meaning
+    (ap (λ k. first_types c.args.name.now k.seen) (c.begin-mark.ensures.begun c.args.given.now.table.now ∙ ap (function_begun (sight_in c.args.given.now c.args.c.now))
+    c.result_type-ty.ensures.typed))))) c.close.ensures.least
 
 pub returns-in-Ok-clause-sight : goal.returns-in-Ok-clause-sight
 returns-in-Ok-clause-sight c =
@@ -161,7 +167,9 @@ returns-in-Ok-clause-sight c =
     (option_map plain_stmts c.args.body.now)) (head_of c.in-Ok.walked.declared)
     (head (sight_in c.args.given.now c.args.c.now) c.args.ty.now c.args.name.now c.args.ps.now
     (is_some (option_map plain_stmts c.args.body.now)))
-    (c.scopes_are_left.ensures.left c.args.given.now.table.now c.args.c.now c.parts-walked.new.c c.leave.new.self c.begin-mark.result (in_function (sight_in c.args.given.now c.args.c.now) c.args.ty.now) (after_body (in_body (sight_in c.args.given.now c.args.c.now) c.args.ty.now c.args.ps.now) (option_map plain_stmts c.args.body.now)) refl refl refl refl
+    (c.scopes_are_left.ensures.left c.args.given.now.table.now c.args.c.now c.parts-walked.new.c c.leave.new.self c.begin-mark.result
+    (in_function (sight_in c.args.given.now c.args.c.now) c.args.ty.now) (after_body (in_body (sight_in c.args.given.now c.args.c.now) c.args.ty.now c.args.ps.now)
+    (option_map plain_stmts c.args.body.now)) refl refl refl refl
     (function_adds c.scopes_only_add.ensures.parameters c.scopes_only_add.ensures.statements
     (in_function (sight_in c.args.given.now c.args.c.now) c.args.ty.now) c.args.ps.now
     (option_map plain_stmts c.args.body.now)) c.leave.ensures.left c.begin-mark.ensures.mark
@@ -190,7 +198,9 @@ returns-in-Ok-clause-sight c =
     (c.is_some.ensures ∙ there_is plain_stmts c.args.body.now)))
     (ap (λ k. params_fine k false c.args.ps.now)
     (c.begin-mark.ensures.begun c.args.given.now.table.now
-    ∙ ap (function_begun (sight_in c.args.given.now c.args.c.now)) c.result_type-ty.ensures.typed)) c.type_means.ensures.meaning (ap (λ k. first_types c.args.name.now k.seen) (c.begin-mark.ensures.begun c.args.given.now.table.now ∙ ap (function_begun (sight_in c.args.given.now c.args.c.now)) c.result_type-ty.ensures.typed))))
+    ∙ ap (function_begun (sight_in c.args.given.now c.args.c.now)) c.result_type-ty.ensures.typed)) c.type_means.ensures.meaning
+    (ap (λ k. first_types c.args.name.now k.seen) (c.begin-mark.ensures.begun c.args.given.now.table.now ∙ ap (function_begun (sight_in c.args.given.now c.args.c.now))
+    c.result_type-ty.ensures.typed))))
     ∙ ap {A = Bool} {B = Head}
     (λ w. record {
       called = c.args.name.now;
