@@ -1,5 +1,6 @@
 -- The function that a byte lies in.
-use Rattle.std.proofs.Common.{◌≡◌, ◌∙◌, ◌<◌, ◌≤◌, ap, sym, refl, ℕ, zero, suc, ◌+◌, ◌-◌, Bool, true, false, ltb, cond, ltb-true, ltb-false, List, [], ◌∷◌, ◌++◌, map, length, drop, slice_get, arith, subst, None, Some, ◌⊎◌, inl, inr, append_assoc}
+use Rattle.std.proofs.Common.{◌≡◌, ◌∙◌, ◌<◌, ◌≤◌, ap, sym, refl, ℕ, zero, suc, ◌+◌, ◌-◌, Bool, true, false, ltb, cond, ltb-true, ltb-false, List, [], ◌∷◌, ◌++◌, map, length, drop, slice_get}
+use Rattle.std.proofs.Common.{arith, subst, None, Some, ◌⊎◌, inl, inr, append_assoc}
 use Rattle.std.proofs.lemmas.List.{append-nil}
 use Rattle.std.proofs.lemmas.Option.{same_Some}
 use Rattle.nss_tree.specs.Units.{structure, constant, global, function}
@@ -235,7 +236,8 @@ module _ (l : Layout) (items : List TypedItem) where
   -- an item without code
   passed_by : (k : Number) (j : ℕ) (i : TypedItem) (is : List TypedItem) (left r : ℕ) → item_marks l k i ≡ []
       → function_among l k j (i ∷ is) (Ahead left) ≡ Some r → function_among l (behind_item k i) (j + 1) is (Ahead left) ≡ Some r
-  passed_by k j i is left r none e = sym (ap (λ s. cond (is_found s) (Some j) (function_among l (behind_item k i) (j + 1) is s)) (ap (λ ms. sought ms (Ahead left)) none ∙ sought_none (Ahead left))) ∙ e
+  passed_by k j i is left r none e = sym (ap (λ s. cond (is_found s) (Some j) (function_among l (behind_item k i) (j + 1) is s))
+      (ap (λ ms. sought ms (Ahead left)) none ∙ sought_none (Ahead left))) ∙ e
 
   among : (n f : ℕ) (k : Number) (j : ℕ) (is : List TypedItem) (left r : ℕ) → drop j items ≡ is
       → function_among l k j is (Ahead left) ≡ Some r → Lies l items (emit_functions l n f is) left r

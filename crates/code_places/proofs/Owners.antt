@@ -1,5 +1,6 @@
 -- The code of each node has its marks.
-use Rattle.std.proofs.Common.{◌≡◌, ◌∙◌, ◌<◌, ◌≤◌, ap, sym, refl, subst, ℕ, zero, suc, ◌+◌, ◌-◌, Bool, true, false, ltb, cond, ◌||◌, List, [], ◌∷◌, ◌++◌, length, drop, add-one, append_assoc, slice_get, arith, Option, None, Some}
+use Rattle.std.proofs.Common.{◌≡◌, ◌∙◌, ◌<◌, ◌≤◌, ap, sym, refl, subst, ℕ, zero, suc, ◌+◌, ◌-◌, Bool, true, false, ltb, cond, ◌||◌, List, [], ◌∷◌, ◌++◌, length, drop, add-one, append_assoc}
+use Rattle.std.proofs.Common.{slice_get, arith, Option, None, Some}
 use Rattle.std.proofs.lemmas.List.{append-nil}
 use Rattle.std.proofs.lemmas.Option.{same_Some}
 use Rattle.std.specs.Option.{option_map}
@@ -22,20 +23,29 @@ use Rattle.typing_rules.specs.declared.places.Callee.TheVariants.{Unit as InUnit
 use Rattle.typing_rules.specs.declared.places.EntryPoint.{EntryPoint}
 use Rattle.typing_rules.specs.declared.places.EntryPoint.TheVariants.{Main, Conditional}
 use Rattle.nss_tree.specs.declared.units.Identifier.{Identifier}
-use Rattle.nss_tree.specs.Statements.{block, empty, expression, if_only, if_else, while_loop, do_loop, for_loop, switch, break_off, continue_on, return_from, declaration, case_label, default_label, no_stmt, more_stmts}
+use Rattle.nss_tree.specs.Statements.{block, empty, expression, if_only, if_else, while_loop, do_loop, for_loop, switch, break_off, continue_on, return_from, declaration, case_label}
+use Rattle.nss_tree.specs.Statements.{default_label, no_stmt, more_stmts}
 use Rattle.nss_tree.specs.Units as item
-use Rattle.typing_rules.specs.Typed.{TypedName, TypedStmt, TypedStmts, TypedLine, TypedParameter, TypedItem, TypedExpr, TypedExprs, literal, name, call, member, prefix, postfix, binary, assign, no_typed, more_typed, type_of, is_place}
+use Rattle.typing_rules.specs.Typed.{TypedName, TypedStmt, TypedStmts, TypedLine, TypedParameter, TypedItem, TypedExpr, TypedExprs, literal, name, call, member, prefix, postfix, binary, assign}
+use Rattle.typing_rules.specs.Typed.{no_typed, more_typed, type_of, is_place}
 use Rattle.typing_rules.specs.Cells.{cell_types, cells, is_captured}
 use Rattle.emission_rules.specs.Layout.{Layout, declared_cells, all_declared_cells, params_cells, item_cells}
-use Rattle.emission_rules.specs.Statements.{Exits, no_exits, in_loop, in_switch, some_labels, evaluated, tested, stored, returned, initial, names_labels, emit_names, is_label, count_labels, test_of, tests, placed, placed_on, stmt_labels, all_stmt_labels, otherwise, emit_stmt, emit_stmts}
+use Rattle.emission_rules.specs.Statements.{Exits, no_exits, in_loop, in_switch, some_labels, evaluated, tested, stored, returned, initial, names_labels, emit_names, is_label, count_labels}
+use Rattle.emission_rules.specs.Statements.{test_of, tests, placed, placed_on, stmt_labels, all_stmt_labels, otherwise, emit_stmt, emit_stmts}
 use Rattle.emission_rules.specs.Statements as code
 use Rattle.emission_rules.specs.Units.{emit_function, emit_functions, emit_globals, entry_call, emit_start}
 use Rattle.emission_rules.specs.Operations.{started, dropped, constant, combination, operation}
-use Rattle.emission_rules.specs.Expressions.{Home, InFrame, InGlobals, moved, home, at_home, read, write, increment, decrement, name_code, member_code, prefix_code, postfix_code, Shortcut, WhereTrue, WhereFalse, Never, shortcut, shortcut_labels, binary_code, is_set, read_first, cells_first, constants, result_room, call_line, argument_labels, argument_code, count_arguments, arguments_cells, labels, all_labels, emit, emit_all}
-use Rattle.code_places.specs.Nodes.{Node, AnExpression, AStatement, AName, AnItem, nodes_expr, nodes_exprs, nodes_if, nodes_names, nodes_stmt, nodes_stmts, nodes_fields, nodes_lines, nodes_default, nodes_parameters, nodes_body, nodes_item, nodes_items}
+use Rattle.emission_rules.specs.Expressions.{Home, InFrame, InGlobals, moved, home, at_home, read, write, increment, decrement, name_code, member_code, prefix_code, postfix_code, Shortcut}
+use Rattle.emission_rules.specs.Expressions.{WhereTrue, WhereFalse, Never, shortcut, shortcut_labels, binary_code, is_set, read_first, cells_first, constants, result_room, call_line}
+use Rattle.emission_rules.specs.Expressions.{argument_labels, argument_code, count_arguments, arguments_cells, labels, all_labels, emit, emit_all}
+use Rattle.code_places.specs.Nodes.{Node, AnExpression, AStatement, AName, AnItem, nodes_expr, nodes_exprs, nodes_if, nodes_names, nodes_stmt, nodes_stmts, nodes_fields, nodes_lines}
+use Rattle.code_places.specs.Nodes.{nodes_default, nodes_parameters, nodes_body, nodes_item, nodes_items}
 use Rattle.code_places.specs.declared.frame.Frame.{Frame}
-use Rattle.code_places.specs.Numbers.{Number, next, behind, behind_all, behind_if, behind_names, behind_stmt, behind_stmts, behind_fields, behind_lines, behind_default, behind_parameters, behind_body, behind_item}
-use Rattle.code_places.specs.Marks.{Mark, mark, mark_if, some, dropped_marks, started_marks, constant_mark, constants_marks, name_mark, member_marks, before_prefix, behind_prefix, binary_marks, assign_marks, call_mark, argument_marks, marks, marks_all, first_frame, deeper, loop_frame, switch_frame, evaluated_marks, tested_marks, returned_marks, initial_marks, names_marks, test_marks, tests_marks, stmt_marks, stmts_marks, function_marks, functions_marks, globals_marks, entry_marks, start_marks}
+use Rattle.code_places.specs.Numbers.{Number, next, behind, behind_all, behind_if, behind_names, behind_stmt, behind_stmts, behind_fields, behind_lines, behind_default, behind_parameters}
+use Rattle.code_places.specs.Numbers.{behind_body, behind_item}
+use Rattle.code_places.specs.Marks.{Mark, mark, mark_if, some, dropped_marks, started_marks, constant_mark, constants_marks, name_mark, member_marks, before_prefix, behind_prefix, binary_marks}
+use Rattle.code_places.specs.Marks.{assign_marks, call_mark, argument_marks, marks, marks_all, first_frame, deeper, loop_frame, switch_frame, evaluated_marks, tested_marks, returned_marks}
+use Rattle.code_places.specs.Marks.{initial_marks, names_marks, test_marks, tests_marks, stmt_marks, stmts_marks, function_marks, functions_marks, globals_marks, entry_marks, start_marks}
 use Rattle.code_places.specs.Laws.{HasCode, of_expression, of_statement, of_name, of_function}
 use Rattle.code_places.proofs.Owned as owned
 use Rattle.code_places.proofs.Owned.{Marked}

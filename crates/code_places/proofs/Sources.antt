@@ -1,7 +1,8 @@
 -- The nodes of a typed tree are those of its source, number by number.
 use Rattle.std.proofs.Common.{◌≡◌, ap, refl, subst, slice_get, ℕ, zero, suc, ◌&&◌, not, Bool, true, false, cond, List, [], ◌∷◌, ◌++◌, Option, None, Some, is_some, option_map, option_and_then}
 use Rattle.std.proofs.lemmas.Option.{none-some, same_Some}
-use Rattle.nss_tree.specs.Places.{places, places_if, places_each, of_constant, places_declared, places_expr, places_exprs, places_identifier, places_item, places_line, places_parameter, places_stmt, places_stmts}
+use Rattle.nss_tree.specs.Places.{places, places_if, places_each, of_constant, places_declared, places_expr, places_exprs, places_identifier, places_item, places_line, places_parameter}
+use Rattle.nss_tree.specs.Places.{places_stmt, places_stmts}
 use Rattle.nss_tree.specs.Source.{SourceDeclared, SourceItem, SourceLine, SourceParameter, SourceStmt, SourceStmts}
 use Rattle.nss_tree.specs.Expressions.{PlainExpr, PlainExprs}
 use Rattle.nss_tree.specs.declared.constants.Constant.{Constant}
@@ -17,7 +18,8 @@ use Rattle.typing_rules.specs.Rules.{call_of, filled, filled_call, is_barred, al
 use Rattle.typing_rules.specs.Types.{assigned_type, binary_type}
 use Rattle.typing_rules.specs.Meaning.{AllTypes, Types, TypesFields, TypesItem, TypesItems, TypesLines, TypesNames, TypesParams, TypesStmt, TypesStmts, TypesUnit, TypesValue}
 use Rattle.typing_rules.specs.Meaning as rules
-use Rattle.code_places.specs.Nodes.{Node, nodes_body, nodes_default, nodes_expr, nodes_exprs, nodes_fields, nodes_if, nodes_item, nodes_items, nodes_lines, nodes_names, nodes_parameters, nodes_stmt, nodes_stmts, unit_nodes}
+use Rattle.code_places.specs.Nodes.{Node, nodes_body, nodes_default, nodes_expr, nodes_exprs, nodes_fields, nodes_if, nodes_item, nodes_items, nodes_lines, nodes_names, nodes_parameters}
+use Rattle.code_places.specs.Nodes.{nodes_stmt, nodes_stmts, unit_nodes}
 use Rattle.code_places.specs.Seeking.{node_at}
 use Rattle.code_places.proofs.Found.{places_hold}
 use Rattle.code_places.specs.Sources.{AreOf, IsOf, IsTyping, TokensAgree, TokensHold, expr_token}

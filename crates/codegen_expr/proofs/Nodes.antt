@@ -16,7 +16,8 @@ use Rattle.typing_rules.specs.Typed.{TypedExpr, TypedExprs, more_typed, literal,
 use Rattle.typing_rules.specs.Cells.{is_captured}
 use Rattle.emission_rules.specs.Layout.{Layout}
 use Rattle.emission_rules.specs.Operations.{bytes_of, constant, int_constant, top_again}
-use Rattle.emission_rules.specs.Expressions.{Home, home, moved, read, labels, all_labels, constants, member_code, prefix_code, WhereFalse, WhereTrue, binary_code, emit, emit_all, argument_labels, argument_code, arguments_cells}
+use Rattle.emission_rules.specs.Expressions.{Home, home, moved, read, labels, all_labels, constants, member_code, prefix_code, WhereFalse, WhereTrue, binary_code, emit, emit_all, argument_labels}
+use Rattle.emission_rules.specs.Expressions.{argument_code, arguments_cells}
 use Rattle.codegen_expr.specs.Emitted.{extended}
 use Rattle.codegen_expr.specs.Parts.{prefix_before, prefix_behind}
 

@@ -12,7 +12,8 @@ use Rattle.delay_agenda.specs.declared.entry.Kind.{Kind}
 use Rattle.delay_agenda.specs.declared.entry.Kind.TheVariants.{Event, Stored, Turn, Unapply}
 use Rattle.delay_agenda.specs.Order.{is_before, put_entry, HasNone, AreDistinct}
 use Rattle.delay_agenda.specs.Waiting.{is_turn_kind, is_turn_of, turn_count, without_turns}
-use Rattle.delay_agenda.specs.Queues.{QueuesByTime, AreQueues, in_row, queue_at, row_without, numbered, without_number, listed, turns_in, turns_of, turning, IsIndexed, IsNew, HasTurnMore, HasTurnLess, HasEntryMore, HasEntryLess, HasNoTurn}
+use Rattle.delay_agenda.specs.Queues.{QueuesByTime, AreQueues, in_row, queue_at, row_without, numbered, without_number, listed, turns_in, turns_of, turning, IsIndexed, IsNew, HasTurnMore}
+use Rattle.delay_agenda.specs.Queues.{HasTurnLess, HasEntryMore, HasEntryLess, HasNoTurn}
 use Rattle.delay_agenda.proofs.StampLemmas.{not_eq, put_swap, long_put, at_other, at_same, without_put}
 use Rattle.delay_agenda.proofs.OrderLemmas.{distinct_put, distinct_left}
 use Rattle.delay_agenda.proofs.Turns.{without_none, same_object}

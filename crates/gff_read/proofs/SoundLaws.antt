@@ -10,7 +10,8 @@ use Rattle.gff_bytes.specs.declared.rows.StructRow.{StructRow}
 use Rattle.gff_bytes.specs.File.{data_at, count_of, start_of}
 use Rattle.gff_read.specs.declared.kind.FieldKind.{FieldKind}
 use Rattle.gff_read.specs.declared.kind.FieldKind.TheVariants as kind
-use Rattle.gff_tree.specs.Tree.{Scalar, PlainNode, PlainFields, PlainLeaf, PlainNodes, Struct, NoField, MoreFields, Holds, Child, Children, NoNode, MoreNodes, labels_of, are_distinct, is_sound_scalar, is_sound_node, are_sound_fields, is_sound_leaf, are_sound_nodes, is_sound}
+use Rattle.gff_tree.specs.Tree.{Scalar, PlainNode, PlainFields, PlainLeaf, PlainNodes, Struct, NoField, MoreFields, Holds, Child, Children, NoNode, MoreNodes, labels_of, are_distinct}
+use Rattle.gff_tree.specs.Tree.{is_sound_scalar, is_sound_node, are_sound_fields, is_sound_leaf, are_sound_nodes, is_sound}
 use Rattle.gff_read.specs.Rows.{PlainShape, PlainRow, Value, One, Many}
 use Rattle.gff_read.specs.Stands.{ScalarStands, ShapeStands, RowsStand, Meaning, NodesStand, LeafStands, FieldsStand, NodeStands}
 use Rattle.gff_read.proofs.RowLaws.{labels}

@@ -4,7 +4,8 @@ use Rattle.std.proofs.Common.{◌≡◌, ℕ, Bool, true, false, cond, not, ◌&
 use Rattle.std.specs.List.{list_any}
 use Rattle.std.specs.Str.{bytes_eq}
 use Rattle.std.proofs.lemmas.List.Folds.{list_any-append}
-use Rattle.gff_tree.specs.Tree.{PlainNode, PlainFields, PlainLeaf, PlainNodes, PlainField, Struct, NoField, MoreFields, Holds, Child, Children, NoNode, MoreNodes, fields_in, fields_from, nodes_in, nodes_from, differ_after, are_distinct, labels_of, is_sound_node, are_sound_fields, is_sound_leaf}
+use Rattle.gff_tree.specs.Tree.{PlainNode, PlainFields, PlainLeaf, PlainNodes, PlainField, Struct, NoField, MoreFields, Holds, Child, Children, NoNode, MoreNodes, fields_in, fields_from}
+use Rattle.gff_tree.specs.Tree.{nodes_in, nodes_from, differ_after, are_distinct, labels_of, is_sound_node, are_sound_fields, is_sound_leaf}
 use Rattle.gff_tree.specs.Fields.{found, replaced, appended, ReplacedIsSound, AppendedIsSound, FoundIsSound, ListIsSound, NodeIsItsFields, FieldsAreTheNodes, ListIsItsNodes, NodesAreTheLists}
 
 -- there and back

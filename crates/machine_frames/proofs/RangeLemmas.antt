@@ -1,5 +1,6 @@
 -- Ranges of cells, as instructions read and write them.
-use Rattle.std.proofs.Common.{arith, ◌≡◌, ◌≢◌, ◌<◌, ◌≤◌, ◌+◌, ◌-◌, ℕ, zero, suc, List, [], ◌∷◌, ◌++◌, length, take, drop, Option, Some, None, Bool, true, false, sym, ap, ◌∙◌, refl, subst, length-append}
+use Rattle.std.proofs.Common.{arith, ◌≡◌, ◌≢◌, ◌<◌, ◌≤◌, ◌+◌, ◌-◌, ℕ, zero, suc, List, [], ◌∷◌, ◌++◌, length, take, drop, Option, Some, None, Bool, true, false, sym, ap, ◌∙◌, refl, subst}
+use Rattle.std.proofs.Common.{length-append}
 use Rattle.std.specs.Prelude.{ℤ, slice_get, slice_set, IfSome, IsTrue, ◌↔◌, ◌&&◌, nat_le, nat_lt, if◌then◌else◌}
 use Rattle.std.specs.Option.{option_map, option_and_then}
 use Rattle.std.proofs.lemmas.Option.{slice_get_within}
@@ -16,7 +17,8 @@ use Rattle.saved_state.specs.Cells.{StackView}
 use Rattle.stack_shape.specs.declared.range.CellRange.{CellRange}
 use Rattle.stack_shape.specs.Ranges.{cell_count, depth_of, range_of, range_at}
 use Rattle.stack_shape.specs.Laws.{DepthOfOffset, RangeOfNumbers, offset_to}
-use Rattle.machine_rules.specs.Cells.{values_on, values_at, value_types, with_values, overwritten, from_bp, range_pushed, values_written, range_written, int_written, int_changed, values_dropped, values_kept, runs_eq, runs_compared, pair_eq, pair_compared}
+use Rattle.machine_rules.specs.Cells.{values_on, values_at, value_types, with_values, overwritten, from_bp, range_pushed, values_written, range_written, int_written, int_changed, values_dropped}
+use Rattle.machine_rules.specs.Cells.{values_kept, runs_eq, runs_compared, pair_eq, pair_compared}
 use Rattle.machine_rules.specs.Act.{bp_range}
 use Rattle.machine_rules.specs.Laws.{EqualityIsTested}
 use Rattle.machine_frames.specs.Tops.{HasValue, HasInt, AreValues, answer_of, int_at, reached}

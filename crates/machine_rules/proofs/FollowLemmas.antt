@@ -11,7 +11,8 @@ use Rattle.nwq_value.specs.declared.value.Value.{Value}
 use Rattle.nwq_value.specs.declared.value.Value.TheVariants.{Int, Text, Object, Effect, Event}
 use Rattle.nwq_value.specs.Values.{type_of, start_value}
 use Rattle.nwq_value.specs.Roles.{ty_eq, tys_eq}
-use Rattle.nwq_value.specs.Operators.{as_int, both, either, negation, bits_and, bits_or, bits_xor, complement, shift_left, shift_right, shift_right_unsigned, sum, difference, product, quotient, remainder, opposite, less, less_or_equal, greater, greater_or_equal, values_eq, joined_texts}
+use Rattle.nwq_value.specs.Operators.{as_int, both, either, negation, bits_and, bits_or, bits_xor, complement, shift_left, shift_right, shift_right_unsigned, sum, difference, product, quotient}
+use Rattle.nwq_value.specs.Operators.{remainder, opposite, less, less_or_equal, greater, greater_or_equal, values_eq, joined_texts}
 use Rattle.ncs_code.specs.Plain.{PlainOp, PlainLit}
 use Rattle.ncs_code.specs.Plain as ops
 use Rattle.saved_state.specs.declared.cell.Cell.{Cell}
@@ -23,7 +24,8 @@ use Rattle.stack_shape.specs.Ranges.{cell_count, depth_of, range_at}
 use Rattle.stack_shape.specs.TopFirst.{types_on, types_at}
 use Rattle.stack_shape.specs.StackEffects as rules
 use Rattle.machine_rules.specs.Values.{literal_value, starting_value}
-use Rattle.machine_rules.specs.Cells.{values_on, values_at, value_types, with_values, overwritten, from_bp, of_int, of_ints, of_texts, value_pushed, range_pushed, values_written, range_written, int_written, int_changed, values_dropped, values_kept, range_kept, runs_eq, runs_compared, pair_eq, pair_compared}
+use Rattle.machine_rules.specs.Cells.{values_on, values_at, value_types, with_values, overwritten, from_bp, of_int, of_ints, of_texts, value_pushed, range_pushed, values_written, range_written}
+use Rattle.machine_rules.specs.Cells.{int_written, int_changed, values_dropped, values_kept, range_kept, runs_eq, runs_compared, pair_eq, pair_compared}
 use Rattle.machine_rules.specs.Act.{cells_after, if_ints, compared, added, int_dropped, one_more, one_less}
 use Rattle.machine_rules.specs.Outlines.{Outline, Typed, outline, outlines, slots, slots_under, outlines_after}
 use Rattle.machine_rules.specs.Laws.{EffectsAreFollowed}

@@ -1,5 +1,6 @@
 -- What can follow tokens, by what is known of them.
-use Rattle.std.proofs.Common.{◌≡◌, ℕ, zero, suc, ◌+◌, ◌<◌, ◌≤◌, Bool, true, false, ◌↔◌, IsTrue, List, [], ◌∷◌, ◌++◌, None, Some, length, map, take, drop, get_or, sym, ap, subst, refl, ◌∙◌, arith, append_assoc, Option, Result, Ok, Err, IfOk, ◌-◌}
+use Rattle.std.proofs.Common.{◌≡◌, ℕ, zero, suc, ◌+◌, ◌<◌, ◌≤◌, Bool, true, false, ◌↔◌, IsTrue, List, [], ◌∷◌, ◌++◌, None, Some, length, map, take, drop, get_or, sym, ap, subst, refl, ◌∙◌, arith}
+use Rattle.std.proofs.Common.{append_assoc, Option, Result, Ok, Err, IfOk, ◌-◌}
 use Rattle.std.specs.List.{AllByRecursion}
 use Rattle.std.proofs.lemmas.List.{take_all, take_more, take-append-drop, append-nil, length-take-le, length-drop}
 use Rattle.nss_lexer.specs.declared.token.Token.{Token}
@@ -165,5 +166,6 @@ pub one_more : (walk : Walk) (count : ℕ) (rest : List Symbol) (tried old now :
 one_more walk count rest tried old now i d inside so adds before known =
     subst (λ ts. Lists before ts now) (sym (take_more tried i d inside)) (more_by before (take i tried) old (get_or tried i d) now (so before known) (adds before known))
 
-pub all_tried : (walk : Walk) (count : ℕ) (rest : List Symbol) (tried listed : List Token) (i : ℕ) → length tried ≤ i → ListsBehind walk count rest (take i tried) listed → ListsBehind walk count rest tried listed
+pub all_tried : (walk : Walk) (count : ℕ) (rest : List Symbol) (tried listed : List Token) (i : ℕ) → length tried ≤ i → ListsBehind walk count rest (take i tried) listed →
+    ListsBehind walk count rest tried listed
 all_tried walk count rest tried listed i past so = subst (λ ts. ListsBehind walk count rest ts listed) (take_all i tried past) so

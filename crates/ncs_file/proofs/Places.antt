@@ -1,5 +1,6 @@
 -- The table of a file tells where instructions begin, and what begins at a place is spelled there.
-use Rattle.std.proofs.Common.{◌≡◌, ◌<◌, ◌≤◌, ◌+◌, ◌-◌, ◌++◌, ◌∷◌, [], ℕ, suc, zero, List, length, drop, get_or, sym, ◌∙◌, ap, arith, refl, subst, true, false, replicate, Bool, eqb, Some, None, inl, inr, append_assoc}
+use Rattle.std.proofs.Common.{◌≡◌, ◌<◌, ◌≤◌, ◌+◌, ◌-◌, ◌++◌, ◌∷◌, [], ℕ, suc, zero, List, length, drop, get_or, sym, ◌∙◌, ap, arith, refl, subst, true, false, replicate, Bool, eqb, Some, None}
+use Rattle.std.proofs.Common.{inl, inr, append_assoc}
 use Rattle.std.specs.Prelude.{is_some}
 use Rattle.std.specs.List.{flat_map, AllByRecursion}
 use Rattle.std.proofs.lemmas.Bool.{ne_eqb, cases_lt}

@@ -24,12 +24,15 @@ use Rattle.world_rules.specs.declared.data.Told.TheVariants as line
 use Rattle.world_rules.specs.Arguments.{int_at, text_at, object_at, effect_at, event_at}
 use Rattle.world_rules.specs.AlikeLaws.{call}
 use Rattle.world_rules.specs.World.{World, is_valid, queue_in, queue_of, effects_of, things_at}
-use Rattle.world_rules.specs.Changes.{told, post, later, changed_at, changed_object, with_queue, with_effects, with_actions, with_busy, with_action, with_variables, has_turn, without_turn, without_first, is_effect, is_numbered}
-use Rattle.world_rules.specs.Rows.{Call, drawn_from, drawn, assigned, delayed, awake, appended, appended_do, at_rest, cleared, changed_variables, applied, applied_to, removed, event_script, signalled, argument, NewItem, TheAction, AWait, ASpeech, queued, varied, Print, Say, Draw, Assign, Delay, Queue, Clear, Vary, Apply, Remove, Signal}
+use Rattle.world_rules.specs.Changes.{told, post, later, changed_at, changed_object, with_queue, with_effects, with_actions, with_busy, with_action, with_variables, has_turn, without_turn}
+use Rattle.world_rules.specs.Changes.{without_first, is_effect, is_numbered}
+use Rattle.world_rules.specs.Rows.{Call, drawn_from, drawn, assigned, delayed, awake, appended, appended_do, at_rest, cleared, changed_variables, applied, applied_to, removed, event_script}
+use Rattle.world_rules.specs.Rows.{signalled, argument, NewItem, TheAction, AWait, ASpeech, queued, varied, Print, Say, Draw, Assign, Delay, Queue, Clear, Vary, Apply, Remove, Signal}
 use Rattle.world_rules.specs.RowLaws.{EachKeeps, engine_keeps as engine_keeps_all}
 use Rattle.world_rules.specs.Turns.{entry_begun, turned, next_turn, turn_done, expired, with_entries, user_number}
 use Rattle.ncs_machine.specs.Host.{EngineView, engine_answer}
-use Rattle.ncs_machine.specs.Stored.{KindFits, ItemFits, EntryFits, ItemsFit, ThingsFit, StatesFit, EngineKeepsFits, BegunFits, BeginKeepsFits, TurnedFits, TurnKeepsFits, TurnDoneKeepsFits, UnapplyKeepsFits, LinesKeepFits}
+use Rattle.ncs_machine.specs.Stored.{KindFits, ItemFits, EntryFits, ItemsFit, ThingsFit, StatesFit, EngineKeepsFits, BegunFits, BeginKeepsFits, TurnedFits, TurnKeepsFits, TurnDoneKeepsFits}
+use Rattle.ncs_machine.specs.Stored.{UnapplyKeepsFits, LinesKeepFits}
 
 module _ (scripts : List Script) (tables : Tables) where
   abbrev Entries : List (Entry Saved) → Type 0

@@ -16,7 +16,8 @@ use Rattle.stack_shape.specs.Ranges.{cell_count}
 use Rattle.machine_rules.specs.Frames.{Frame, started}
 use Rattle.machine_rules.specs.Cells.{zero_on_top}
 use Rattle.machine_rules.specs.Calls.{Taken, arguments, is_execute_script}
-use Rattle.machine_rules.specs.Act.{Act, Moves, Asks, Executes, Returns, Divides, act, moved, returned, restored, stored, stored_cells, asked, behind_call, engine_called, is_division, place_after, next_place, cells_after}
+use Rattle.machine_rules.specs.Act.{Act, Moves, Asks, Executes, Returns, Divides, act, moved, returned, restored, stored, stored_cells, asked, behind_call, engine_called, is_division}
+use Rattle.machine_rules.specs.Act.{place_after, next_place, cells_after}
 use Rattle.machine_rules.specs.Act as acts
 use Rattle.machine_rules.specs.Machine.{Script, Host, State, Next, Goes, waiting_limit, script_begun, executed, followed, next_op, over, script_named, step, with_answer}
 use Rattle.world_rules.specs.World.{World, count}

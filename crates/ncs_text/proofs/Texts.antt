@@ -1,5 +1,6 @@
 -- The text of an instruction is a line that stands for it.
-use Rattle.std.proofs.Common.{◌≡◌, ◌≢◌, ℕ, ℤ, pos, negsuc, suc, ◌/◌, ◌%◌, ◌^◌, ◌<◌, ◌≤◌, ◌==◌, ◌&&◌, Bool, true, false, cond, nat_lt, nat_le, List, [], ◌∷◌, ◌++◌, length, get_or, drop, Some, None, refl, ap, ◌∙◌, arith}
+use Rattle.std.proofs.Common.{◌≡◌, ◌≢◌, ℕ, ℤ, pos, negsuc, suc, ◌/◌, ◌%◌, ◌^◌, ◌<◌, ◌≤◌, ◌==◌, ◌&&◌, Bool, true, false, cond, nat_lt, nat_le, List, [], ◌∷◌, ◌++◌, length, get_or, drop, Some}
+use Rattle.std.proofs.Common.{None, refl, ap, ◌∙◌, arith}
 use Rattle.std.specs.Prelude.{All, FitsSigned}
 use Rattle.std.specs.List.{flat_map}
 use Rattle.std.specs.Option.{option_map}
@@ -14,7 +15,8 @@ use Rattle.std.proofs.lemmas.Bool.Decides.{nat_tests}
 use Rattle.nwq_text.specs.Number.{number_of}
 use Rattle.nwq_text.specs.Escape.{AreBytes, quoted, hex_digit, hex_spelling, is_plain}
 use Rattle.nwq_text.specs.Escape as escape
-use Rattle.ncs_code.specs.Plain.{PlainLit, PlainOp, Int, Float as FloatLit, Text as TextLit, Object, CpDownSp, CpTopSp, Const, Action, Equal, Nequal, MovSp, Jmp, Jsr, Jz, Destruct, DecISp, IncISp, Jnz, CpDownBp, CpTopBp, DecIBp, IncIBp, StoreState}
+use Rattle.ncs_code.specs.Plain.{PlainLit, PlainOp, Int, Float as FloatLit, Text as TextLit, Object, CpDownSp, CpTopSp, Const, Action, Equal, Nequal, MovSp, Jmp, Jsr, Jz, Destruct, DecISp}
+use Rattle.ncs_code.specs.Plain.{IncISp, Jnz, CpDownBp, CpTopBp, DecIBp, IncIBp, StoreState}
 use Rattle.ncs_code.specs.Spelling.{two, four, signed, spelling, opcode, type_byte, IsByte, IsOp, LitFits, HasTextSize, lit_spelling}
 use Rattle.ncs_code.specs.File.{jump_place}
 use Rattle.ncs_code.specs.Laws.{SizeLaws}

@@ -8,7 +8,8 @@ use Rattle.nss_include.specs.declared.fault.GatherFault.{GatherFault}
 use Rattle.nss_include.specs.declared.file.Source.{Source}
 use Rattle.nss_include.specs.Names.{file_name}
 use Rattle.nss_include.specs.Pieces.{Piece, Token, Directive, pieces, HasPieces}
-use Rattle.nss_include.specs.Units.{Lookup, Held, Unfolds, piece_fault, reading_fault, is_among, source, with_token, with_directive, with_file, script_alone, ends, fails, gives, again, breaks_off, includes, unread, is_read, OneUnit}
+use Rattle.nss_include.specs.Units.{Lookup, Held, Unfolds, piece_fault, reading_fault, is_among, source, with_token, with_directive, with_file, script_alone, ends, fails, gives, again}
+use Rattle.nss_include.specs.Units.{breaks_off, includes, unread, is_read, OneUnit}
 
 one_pieces : (one : OneSplit) (bytes : List ℕ) (file at : ℕ) (ps qs : List Piece) → HasPieces bytes file at ps → HasPieces bytes file at qs → ps ≡ qs
 one_pieces one bytes file at ps qs p q =

@@ -12,7 +12,8 @@ use Rattle.nss_include.specs.declared.step.Step.TheVariants as step
 use Rattle.nss_include.specs.Names.{file_name, is_include_name}
 use Rattle.nss_include.specs.Pieces.{Piece, Token, Directive, BadDirective, BadByte, is_hash, is_include, is_string, directive, pieces, HasPieces}
 use Rattle.nss_include.specs.Steps.{IsStep, lexeme_in, begins_include, named_step, directive_step, ends as step_ends, breaks, other, sign, begins}
-use Rattle.nss_include.specs.Units.{Lookup, Held, source, Unfolds, ends as no_piece, fails as piece_fails, gives as piece_gives, again as piece_again, breaks_off as piece_breaks_off, includes as piece_includes}
+use Rattle.nss_include.specs.Units.{Lookup, Held, source, Unfolds, ends as no_piece, fails as piece_fails, gives as piece_gives, again as piece_again, breaks_off as piece_breaks_off}
+use Rattle.nss_include.specs.Units.{includes as piece_includes}
 use Rattle.nss_include.specs.Walks.{Walks, step_fault, ends, fails, gives, again, breaks_off, includes}
 
 -- ---- the pieces at a step

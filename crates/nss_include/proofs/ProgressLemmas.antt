@@ -1,4 +1,5 @@
-use Rattle.std.proofs.Common.{◌≡◌, ℕ, ◌+◌, ◌<◌, ◌≤◌, Bool, true, false, nat_lt, nat_le, List, [], ◌∷◌, ◌++◌, length, Option, Some, None, IsSomeAnd, IsTrue, take, refl, sym, ap, subst, ◌∙◌, arith, append_assoc, append-nil, length-append, lit<, zero, suc, get_or, map as list_map, ◌&&◌, codes, Err}
+use Rattle.std.proofs.Common.{◌≡◌, ℕ, ◌+◌, ◌<◌, ◌≤◌, Bool, true, false, nat_lt, nat_le, List, [], ◌∷◌, ◌++◌, length, Option, Some, None, IsSomeAnd, IsTrue, take, refl, sym, ap, subst, ◌∙◌, arith}
+use Rattle.std.proofs.Common.{append_assoc, append-nil, length-append, lit<, zero, suc, get_or, map as list_map, ◌&&◌, codes, Err}
 use Rattle.std.proofs.lemmas.Bool.Decides.{nat_tests}
 use Rattle.std.proofs.lemmas.Option.{same_Some, none-some}
 use Rattle.std.proofs.lemmas.List.{take_all, length-map}
@@ -28,7 +29,8 @@ use Rattle.nss_include.proofs.PieceLemmas.{reads, of_file}
 use Rattle.nss_include.proofs.UnitLemmas.{bytes_stay, all_map, all_push, distinct_more}
 use Rattle.nwq_outside.specs.declared.counts.FileCounts.{FileCounts}
 use Rattle.nss_include.specs.Gather.{HoldsFiles, Claims, CountsGathered}
-use Rattle.nss_include.specs.Progress.{Rest, closed, stops, goes, Ends, Leads, Stops, HasStep, Explains, ExplainsRead, IsReadFault, ReadFails, Includes, IsOpen, IsOrderly, IsOwnFault, BeginsWithScript, ComesTo, Extends, RunSoFar, Advances, StopsBy, Halts, passed, reopened}
+use Rattle.nss_include.specs.Progress.{Rest, closed, stops, goes, Ends, Leads, Stops, HasStep, Explains, ExplainsRead, IsReadFault, ReadFails, Includes, IsOpen, IsOrderly, IsOwnFault}
+use Rattle.nss_include.specs.Progress.{BeginsWithScript, ComesTo, Extends, RunSoFar, Advances, StopsBy, Halts, passed, reopened}
 
 -- an open file at a place
 abbrev pub file_at : ℕ → ℕ → Open

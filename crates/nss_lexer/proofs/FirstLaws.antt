@@ -10,7 +10,8 @@ use Rattle.nss_lexer.specs.declared.token.TokenKind.TheVariants.{Name, Word, Int
 use Rattle.nss_lexer.specs.declared.scan.Scanned.{Scanned}
 use Rattle.nss_lexer.specs.Bytes.{is_blank, is_letter, is_decimal}
 use Rattle.nss_lexer.specs.Lexemes.{HasForm, IsWithin, signs}
-use Rattle.nss_lexer.specs.Splitting.{Skips, Gap, nothing, more, begins_comment, BeginsWithToken, IsStuck, Lexeme, Found, AtEnd, BadAt, IsFirstToken, IsFirstBad, Splits, whole, broken, token, OneFirst, OneSplit}
+use Rattle.nss_lexer.specs.Splitting.{Skips, Gap, nothing, more, begins_comment, BeginsWithToken, IsStuck, Lexeme, Found, AtEnd, BadAt, IsFirstToken, IsFirstBad, Splits, whole, broken, token}
+use Rattle.nss_lexer.specs.Splitting.{OneFirst, OneSplit}
 use Rattle.nss_lexer.specs.Reading.{scanned, limited, within, form, lexeme, comment, pass, first_prefix}
 use Rattle.nss_lexer.proofs.FormLaws.{AtLeast, reads, any_passes, form_sign}
 use Rattle.nss_lexer.proofs.FoundLaws.{IsFound, IsFoundIf, form_found, length_taken, first_found, signs_some}

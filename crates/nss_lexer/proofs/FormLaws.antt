@@ -8,7 +8,8 @@ use Rattle.std.proofs.lemmas.List.{take_at, append_assoc, append-nil, get_or_at}
 use Rattle.std.proofs.Math.Seq.{drop-append-add}
 use Rattle.std.proofs.lemmas.Slice.Eq.{bytes_eq-Decides}
 use Rattle.std.proofs.Math.Numerals.{one-add}
-use Rattle.std.proofs.lemmas.Bool.{cases_Bool, and_parts, and_from, and_left, and_right, or_cases, or_left, false≢true, cond_both, eqb-true, eq-eqb, leb-true, not-true, not_from_true, cond-true, cond-false, lt-ltb}
+use Rattle.std.proofs.lemmas.Bool.{cases_Bool, and_parts, and_from, and_left, and_right, or_cases, or_left, false≢true, cond_both, eqb-true, eq-eqb, leb-true, not-true, not_from_true, cond-true}
+use Rattle.std.proofs.lemmas.Bool.{cond-false, lt-ltb}
 use Rattle.nss_lexer.specs.declared.bytes.Class.TheVariants.{Name as InName, Decimal, Hexadecimal}
 use Rattle.nss_lexer.specs.declared.token.TokenKind.{TokenKind}
 use Rattle.nss_lexer.specs.declared.token.TokenKind.TheVariants.{Name, Word, Int, Float, Text, Sign}
@@ -16,7 +17,8 @@ use Rattle.nss_lexer.specs.declared.scan.Scanned.{Scanned}
 use Rattle.nss_lexer.specs.Bytes.{is_letter, is_decimal, is_hexadecimal, is_name_byte}
 use Rattle.nss_lexer.specs.Lexemes.{IsIdentifier, IsInt, decimal, hexadecimal, IsSuffix, none, suffix, IsFloat, pointed, fraction, marked, HasForm, is_word, is_sign, words, signs}
 use Rattle.nss_lexer.specs.Strings.{StandsFor, quoted}
-use Rattle.nss_lexer.specs.Reading.{is_in, class_run, scanned, name_form, fraction_length, float_form, decimal_form, begins_hexadecimal, hexadecimal_form, number_form, string_form, is_prefix, first_prefix, sign_form, form}
+use Rattle.nss_lexer.specs.Reading.{is_in, class_run, scanned, name_form, fraction_length, float_form, decimal_form, begins_hexadecimal, hexadecimal_form, number_form, string_form, is_prefix}
+use Rattle.nss_lexer.specs.Reading.{first_prefix, sign_form, form}
 use Rattle.nss_lexer.proofs.StringLaws.{inside_read}
 
 -- ---- the cases of reading

@@ -8,7 +8,8 @@ use Rattle.nss_lexer.specs.declared.string.Escape.TheVariants.{Outside, AfterBac
 use Rattle.nss_lexer.specs.declared.string.Step.{Step}
 use Rattle.nss_lexer.specs.declared.string.Step.TheVariants.{Gives, Leads, Closes, Fails}
 use Rattle.nss_lexer.specs.Bytes.{newline, is_hexadecimal}
-use Rattle.nss_lexer.specs.Strings.{Spelling, plain, escaped, line_end, hexadecimal, Inside, closed, more, quoted, IsString, inside_value, escape_value, string_value, is_plain, is_escaped, quote, backslash, small_n, small_x, OneValue}
+use Rattle.nss_lexer.specs.Strings.{Spelling, plain, escaped, line_end, hexadecimal, Inside, closed, more, quoted, IsString, inside_value, escape_value, string_value, is_plain, is_escaped, quote}
+use Rattle.nss_lexer.specs.Strings.{backslash, small_n, small_x, OneValue}
 use Rattle.nss_lexer.specs.Reading.{step, value_from, closing, length_after}
 
 option_same : (m n : ℕ) → Some m ≡ Some n → m ≡ n

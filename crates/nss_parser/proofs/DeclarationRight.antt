@@ -17,7 +17,8 @@ use Rattle.nss_parser.specs.Grammar.{Expression, TypeTokens, ConstantTokens, Dec
 use Rattle.nss_parser.specs.Grammar as grammar
 use Rattle.nss_parser.specs.ReadExpression.{level}
 use Rattle.nss_parser.specs.ReadDeclaration.{type_by, type_name, typed, negated_by, constant_value, identifier, declared_after, declared, more_declared, declared_names}
-use Rattle.nss_parser.proofs.Right.{Right, right_got, right_pure, right_stuck, right_deep, further, then, right_as, right_choice, after_take, terminal_same, Viable, viable_as, viable_under, rest_length}
+use Rattle.nss_parser.proofs.Right.{Right, right_got, right_pure, right_stuck, right_deep, further, then, right_as, right_choice, after_take, terminal_same, Viable, viable_as, viable_under}
+use Rattle.nss_parser.proofs.Right.{rest_length}
 use Rattle.nss_parser.proofs.ExpressionRight.{right_level}
 use Rattle.nss_parser.proofs.Completions.{by_name, by_zero, some_name}
 

@@ -16,7 +16,9 @@ use Rattle.nss_symbols.specs.Outcome.{Outcome, Got, and_then, same_terminal, see
 use Rattle.nss_parser.specs.ReadExpression.{prefix_of, assign_of, suffix_of, suffixes, arguments_from, arguments, primary, prefix, climb, level}
 use Rattle.nss_parser.specs.Grammar.{Expression, Binary, Unary, Postfix, Primary, Expressions}
 use Rattle.nss_parser.specs.Grammar as grammar
-use Rattle.nss_parser.proofs.ExpressionFacts.{NoOperator, Apart, Ends, ends_more, apart_at_binary, assign_set, IsSet, IsStep, postfix_step, ends_at, close_ends, comma_ends, Starts, begins_expression, starts_append, starts_length, starts_expression, starts_binary, starts_unary, starts_primary, starts_expressions, no_terminal, level_below}
+use Rattle.nss_parser.proofs.ExpressionFacts.{NoOperator, Apart, Ends, ends_more, apart_at_binary, assign_set, IsSet, IsStep, postfix_step, ends_at, close_ends, comma_ends, Starts}
+use Rattle.nss_parser.proofs.ExpressionFacts.{begins_expression, starts_append, starts_length, starts_expression, starts_binary, starts_unary, starts_primary, starts_expressions, no_terminal}
+use Rattle.nss_parser.proofs.ExpressionFacts.{level_below}
 use Rattle.nss_parser.proofs.ExpressionSteps as step
 
 -- what follows a part that isn't empty is shorter

@@ -14,7 +14,8 @@ use Rattle.nss_symbols.specs.Symbols as symbol
 use Rattle.nss_symbols.specs.Symbols.{Symbol}
 use Rattle.nss_parser.specs.Operators.{level_of, unary_level}
 use Rattle.nss_symbols.specs.Outcome.{Parser, is_terminal}
-use Rattle.nss_parser.specs.ReadExpression.{prefix_of, binary_of, assign_of, suffix_of, suffix, suffixes, suffixes_by, after_argument, arguments_from, arguments, after_name, primary_by, primary, prefix, prefix_by, operation, climb, climb_by, assigned, assigned_by, after_first, level}
+use Rattle.nss_parser.specs.ReadExpression.{prefix_of, binary_of, assign_of, suffix_of, suffix, suffixes, suffixes_by, after_argument, arguments_from, arguments, after_name, primary_by, primary}
+use Rattle.nss_parser.specs.ReadExpression.{prefix, prefix_by, operation, climb, climb_by, assigned, assigned_by, after_first, level}
 use Rattle.nss_parser.proofs.Local.{Local, local_pure, local_stuck, local_deep, local_take, local_bind, local_peek, local_branch, local_choice, local_expect, local_name}
 
 local_suffix : (k : Suffix) (x : PlainExpr) → Local (suffix k x) (suffix k x)

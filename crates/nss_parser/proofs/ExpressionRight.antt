@@ -1,5 +1,6 @@
 -- What is read as an expression is spelled so, what stops is a prefix of one, and the depth lasts.
-use Rattle.std.proofs.Common.{◌≡◌, ℕ, zero, suc, ◌+◌, ◌-◌, ◌<◌, ◌≤◌, Bool, true, false, ◌⊎◌, inl, inr, List, [], ◌∷◌, ◌++◌, length, Option, None, Some, refl, sym, ap, subst, ◌∙◌, arith, append_assoc, append-nil, nat_lt, add-one}
+use Rattle.std.proofs.Common.{◌≡◌, ℕ, zero, suc, ◌+◌, ◌-◌, ◌<◌, ◌≤◌, Bool, true, false, ◌⊎◌, inl, inr, List, [], ◌∷◌, ◌++◌, length, Option, None, Some, refl, sym, ap, subst, ◌∙◌, arith}
+use Rattle.std.proofs.Common.{append_assoc, append-nil, nat_lt, add-one}
 use Rattle.std.proofs.lemmas.Bool.{ltb-true, ltb-false, ne_eqb}
 use Rattle.std.specs.Int.{cast_signed, w32}
 use Rattle.nss_tree.specs.declared.operators.PrefixOperator.{PrefixOperator}
@@ -16,12 +17,14 @@ use Rattle.nss_symbols.specs.Symbols as symbol
 use Rattle.nss_symbols.specs.Symbols.{Symbol, Numbered, at, fixed}
 use Rattle.nss_parser.specs.Operators.{binary_operator, level_of, unary_level, assign_operator, prefix_operator, postfix_operator}
 use Rattle.nss_symbols.specs.Outcome.{Got, Parser, and_then, ◌>>=◌, branch, first, take}
-use Rattle.nss_parser.specs.ReadExpression.{prefix_of, binary_of, assign_of, suffix_of, step_of, suffix, suffixes, suffixes_by, arguments_from, arguments, after_name, primary_by, primary, prefix, prefix_by, operation, climb, climb_by, assigned, assigned_by, after_first, level}
+use Rattle.nss_parser.specs.ReadExpression.{prefix_of, binary_of, assign_of, suffix_of, step_of, suffix, suffixes, suffixes_by, arguments_from, arguments, after_name, primary_by, primary, prefix}
+use Rattle.nss_parser.specs.ReadExpression.{prefix_by, operation, climb, climb_by, assigned, assigned_by, after_first, level}
 use Rattle.nss_parser.specs.Grammar.{Expression, Binary, Unary, Postfix, Primary, Expressions}
 use Rattle.nss_parser.specs.Grammar as grammar
 use Rattle.nss_parser.proofs.ExpressionFacts.{NoOperator, level_positive, level_below, begins_expression, starts_length, starts_expression, starts_unary, starts_primary}
 use Rattle.nss_parser.proofs.ExpressionComplete.{joined_step}
-use Rattle.nss_parser.proofs.Right.{Right, right_got, right_pure, right_stuck, right_deep, further, then, then_fixed, right_as, right_same, right_choice, after_take, then_expect, then_name, Viable, viable_then, viable_as, viable_done, viable_under, rest_length}
+use Rattle.nss_parser.proofs.Right.{Right, right_got, right_pure, right_stuck, right_deep, further, then, then_fixed, right_as, right_same, right_choice, after_take, then_expect, then_name}
+use Rattle.nss_parser.proofs.Right.{Viable, viable_then, viable_as, viable_done, viable_under, rest_length}
 use Rattle.nss_parser.proofs.Completions.{by_name, by_terminal, by_zero, some_name}
 
 -- level 0 is an expression, and then come the operators' levels

@@ -17,7 +17,8 @@ use Rattle.nss_symbols.specs.Symbols as symbol
 use Rattle.nss_symbols.specs.Symbols.{Numbered, at, fixed}
 use Rattle.nss_parser.specs.Operators.{binary_operator, level_of, unary_level, assign_operator, prefix_operator}
 use Rattle.nss_symbols.specs.Outcome.{Outcome, Got, Parser, and_then, ◌>>=◌, branch, same_terminal, sees, first, take, expect}
-use Rattle.nss_parser.specs.ReadExpression.{prefix_of, binary_of, assign_of, suffix_of, suffix, suffixes, suffixes_by, after_argument, arguments_from, arguments, after_name, primary, prefix, prefix_by, operation, climb, climb_by, assigned, assigned_by, after_first, level}
+use Rattle.nss_parser.specs.ReadExpression.{prefix_of, binary_of, assign_of, suffix_of, suffix, suffixes, suffixes_by, after_argument, arguments_from, arguments, after_name, primary, prefix}
+use Rattle.nss_parser.specs.ReadExpression.{prefix_by, operation, climb, climb_by, assigned, assigned_by, after_first, level}
 use Rattle.nss_parser.proofs.ExpressionFacts.{NoOperator}
 
 module _ (d : ℕ) (inner : ℕ → Parser PlainExpr) where

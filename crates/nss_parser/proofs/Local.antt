@@ -4,7 +4,8 @@ use Rattle.std.proofs.Common.{◌≡◌, Bool, true, false, List, [], ◌∷◌,
 use Rattle.nss_symbols.specs.Symbols as symbol
 use Rattle.nss_symbols.specs.Symbols.{Symbol, Numbered}
 use Rattle.nss_symbols.specs.declared.terminal.Terminal.{Terminal}
-use Rattle.nss_symbols.specs.Outcome.{Outcome, Got, Stuck, Deep, Parser, and_then, ◌>>=◌, pure, stuck, deep, next, first, number_of, here, take, peek, branch, choice, is_terminal, expect, name_by, name}
+use Rattle.nss_symbols.specs.Outcome.{Outcome, Got, Stuck, Deep, Parser, and_then, ◌>>=◌, pure, stuck, deep, next, first, number_of, here, take, peek, branch, choice, is_terminal, expect}
+use Rattle.nss_symbols.specs.Outcome.{name_by, name}
 
 -- What p made of i, q makes of each list with the same tokens up to the next one.
 abbrev pub Same : {A : Type 0} → List Numbered → Outcome A → Parser A → Type 0

@@ -8,7 +8,8 @@ use Rattle.nss_symbols.specs.Symbols.{Numbered}
 use Rattle.nss_symbols.specs.Outcome.{Outcome, Got, Stuck, Deep, Parser, and_then, ◌>>=◌, pure, branch, choice, is_terminal, sees, take, expect, first}
 use Rattle.nss_symbols.specs.declared.terminal.Terminal.{Terminal}
 use Rattle.nss_parser.specs.declared.statement.ForHead.{ForHead}
-use Rattle.nss_parser.specs.ReadStatement.{condition, optional, declaration, case_label, default_label, type_begins, labelled, entry, after_then, if_statement, do_statement, for_statement, switch_body, switch_statement}
+use Rattle.nss_parser.specs.ReadStatement.{condition, optional, declaration, case_label, default_label, type_begins, labelled, entry, after_then, if_statement, do_statement, for_statement}
+use Rattle.nss_parser.specs.ReadStatement.{switch_body, switch_statement}
 use Rattle.nss_parser.specs.ReadParts.{else_part, if_of, if_rest, do_end, do_rest, for_part, for_head, for_rest}
 
 module _ (n : ℕ) (x : PlainExpr) (s : SourceStmt) where

@@ -14,7 +14,9 @@ use Rattle.nss_parser.specs.Operators.{type_word}
 use Rattle.nss_symbols.specs.Outcome.{Outcome, Got, Parser, same_terminal, sees, first, take, here}
 use Rattle.nss_parser.specs.ReadExpression.{level}
 use Rattle.nss_parser.specs.ReadDeclaration.{typed, constant_value, declared_names}
-use Rattle.nss_parser.specs.ReadStatement.{type_begins, condition, optional, declaration, case_label, default_label, expression_statement, break_statement, continue_statement, return_statement, labelled, entry, entries_from, entries, block, after_then, if_statement, while_statement, do_statement, for_statement, switch_statement, statement_by, some_statement, statement}
+use Rattle.nss_parser.specs.ReadStatement.{type_begins, condition, optional, declaration, case_label, default_label, expression_statement, break_statement, continue_statement, return_statement}
+use Rattle.nss_parser.specs.ReadStatement.{labelled, entry, entries_from, entries, block, after_then, if_statement, while_statement, do_statement, for_statement, switch_statement, statement_by}
+use Rattle.nss_parser.specs.ReadStatement.{some_statement, statement}
 use Rattle.nss_parser.specs.Grammar.{Expression, Optional, TypeTokens, DeclaredNames, ends_open, Statement, Entry, Entries}
 use Rattle.nss_parser.specs.Grammar as grammar
 use Rattle.nss_parser.proofs.ExpressionFacts.{IsEnd, ends_at, close_ends, semicolon_ends, Starts, begins_expression, starts_append, starts_length, starts_expression, no_terminal}

@@ -10,7 +10,9 @@ use Rattle.nss_symbols.specs.declared.terminal.Terminal.TheVariants as terminal
 use Rattle.nss_symbols.specs.Symbols as symbol
 use Rattle.nss_symbols.specs.Symbols.{Symbol}
 use Rattle.nss_symbols.specs.Outcome.{Parser, is_terminal}
-use Rattle.nss_parser.specs.ReadStatement.{type_begins, condition, optional, declaration, case_label, default_label, expression_statement, break_statement, continue_statement, return_statement, labelled, entry, entries_from, entries, block, after_then, if_statement, while_statement, do_statement, for_statement, switch_statement, statement_by, some_statement, statement}
+use Rattle.nss_parser.specs.ReadStatement.{type_begins, condition, optional, declaration, case_label, default_label, expression_statement, break_statement, continue_statement, return_statement}
+use Rattle.nss_parser.specs.ReadStatement.{labelled, entry, entries_from, entries, block, after_then, if_statement, while_statement, do_statement, for_statement, switch_statement, statement_by}
+use Rattle.nss_parser.specs.ReadStatement.{some_statement, statement}
 use Rattle.nss_parser.proofs.Local.{Local, local_pure, local_deep, local_take, local_here, local_bind, local_peek, local_branch, local_choice, local_expect}
 use Rattle.nss_parser.proofs.ExpressionLocal.{local_level}
 use Rattle.nss_parser.proofs.DeclarationLocal.{local_typed, local_constant, local_declared_names}

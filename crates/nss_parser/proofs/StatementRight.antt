@@ -12,14 +12,17 @@ use Rattle.nss_symbols.specs.declared.terminal.Terminal.TheVariants as terminal
 use Rattle.nss_symbols.specs.Symbols as symbol
 use Rattle.nss_symbols.specs.Symbols.{Symbol, Numbered, at, fixed}
 use Rattle.nss_symbols.specs.Outcome.{Parser, branch, same_terminal, sees, first, take, here}
-use Rattle.nss_parser.specs.ReadStatement.{type_begins, condition, optional, declaration, case_label, default_label, expression_statement, break_statement, continue_statement, return_statement, labelled, entry, entries_from, entries, block, after_then, if_statement, while_statement, do_statement, for_statement, switch_statement, statement_by, some_statement, statement}
+use Rattle.nss_parser.specs.ReadStatement.{type_begins, condition, optional, declaration, case_label, default_label, expression_statement, break_statement, continue_statement, return_statement}
+use Rattle.nss_parser.specs.ReadStatement.{labelled, entry, entries_from, entries, block, after_then, if_statement, while_statement, do_statement, for_statement, switch_statement, statement_by}
+use Rattle.nss_parser.specs.ReadStatement.{some_statement, statement}
 use Rattle.nss_parser.specs.Grammar.{Expression, Optional, ConstantTokens, DeclaredNames, ends_open, Statement, Entry, Entries}
 use Rattle.nss_parser.specs.Grammar as grammar
 use Rattle.nss_parser.proofs.ExpressionFacts.{starts_length, starts_expression}
 use Rattle.nss_parser.proofs.ExpressionRight.{right_level, zero_expression}
 use Rattle.nss_parser.proofs.DeclarationRight.{then_typed, right_constant, right_declared_names}
 use Rattle.nss_parser.proofs.StatementComplete.{begins_entry, starts_entry, joined_none, joined_next}
-use Rattle.nss_parser.proofs.Right.{Right, right_got, right_pure, right_stuck, right_deep, then, then_fixed, right_as, right_choice, after_take, then_expect, Viable, viable_then, viable_as, viable_done, viable_under, rest_length}
+use Rattle.nss_parser.proofs.Right.{Right, right_got, right_pure, right_stuck, right_deep, then, then_fixed, right_as, right_choice, after_take, then_expect, Viable, viable_then, viable_as}
+use Rattle.nss_parser.proofs.Right.{viable_done, viable_under, rest_length}
 use Rattle.nss_parser.proofs.Completions.{by_name, by_terminal, by_zero, some_name}
 
 -- A statement that ends in an `if` without `else` is not followed by `else`: reading takes each

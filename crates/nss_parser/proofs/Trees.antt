@@ -13,7 +13,8 @@ use Rattle.nss_parser.specs.Grammar as grammar
 use Rattle.nss_parser.specs.Grammar.{Expression, Binary, Unary, Postfix, Primary, Expressions, Optional, ConstantTokens, Declared, DeclaredNames, Statement, Entry, Entries}
 use Rattle.nss_parser.specs.Unit as spelled
 use Rattle.nss_parser.specs.Unit.{ParameterTokens, ParameterList, Parameters, Body, Item, Items}
-use Rattle.nss_parser.specs.Sizes.{EachTreeIsKnown, size, all_size, some_size, names_size, stmt_size, all_stmt_size, body_size, item_size, items_size, IsKnown, AreKnown, IsSomeKnown, IsKnownConstant, AreKnownNames, IsKnownStmt, AreKnownStmts, IsKnownDefault, AreKnownParams, IsKnownBody, IsKnownItem, AreKnownItems}
+use Rattle.nss_parser.specs.Sizes.{EachTreeIsKnown, size, all_size, some_size, names_size, stmt_size, all_stmt_size, body_size, item_size, items_size, IsKnown, AreKnown, IsSomeKnown}
+use Rattle.nss_parser.specs.Sizes.{IsKnownConstant, AreKnownNames, IsKnownStmt, AreKnownStmts, IsKnownDefault, AreKnownParams, IsKnownBody, IsKnownItem, AreKnownItems}
 use Rattle.nss_parser.proofs.Covers.{AreLiterals, Covers, nothing, node, skip, join, before, after, behind, between, ended, covers_as}
 
 fits : (v : ℕ) → v < 2 ^ 32 → FitsSigned w32 (cast_signed w32 v)

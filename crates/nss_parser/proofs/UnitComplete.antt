@@ -16,7 +16,8 @@ use Rattle.nss_parser.specs.Grammar as grammar
 use Rattle.nss_parser.specs.Unit.{FieldNames, Field, Fields, ParameterTokens, ParameterList, Parameters, Body, Item, Items}
 use Rattle.nss_parser.specs.Unit as spelled
 use Rattle.nss_parser.specs.ReadDeclaration.{typed, constant_value, identifier, declared_after, declared, more_declared}
-use Rattle.nss_parser.specs.ReadUnit.{more_fields, field, fields_from, structure, constant_line, default, parameter, parameters_from, parameters, global, body, function, after_type, after_struct, item, items_from, items}
+use Rattle.nss_parser.specs.ReadUnit.{more_fields, field, fields_from, structure, constant_line, default, parameter, parameters_from, parameters, global, body, function, after_type, after_struct}
+use Rattle.nss_parser.specs.ReadUnit.{item, items_from, items}
 use Rattle.nss_parser.proofs.ExpressionFacts.{Starts, starts_append, starts_length}
 use Rattle.nss_parser.proofs.DeclarationComplete.{begins_type, is_type, starts_type, no_fixed, complete_typed, complete_constant, identifier_step, declared_step, complete_names, tail_length}
 

@@ -8,7 +8,8 @@ use Rattle.nss_tree.specs.declared.units.Identifier.{Identifier}
 use Rattle.nss_symbols.specs.declared.terminal.Terminal.TheVariants as terminal
 use Rattle.nss_symbols.specs.Symbols.{Symbol}
 use Rattle.nss_symbols.specs.Outcome.{Parser, is_terminal}
-use Rattle.nss_parser.specs.ReadUnit.{more_fields, field, fields_from, structure, constant_line, default, parameter, parameters_from, parameters, global, body, function, after_type, after_struct, item, items_by, items_from, items}
+use Rattle.nss_parser.specs.ReadUnit.{more_fields, field, fields_from, structure, constant_line, default, parameter, parameters_from, parameters, global, body, function, after_type, after_struct}
+use Rattle.nss_parser.specs.ReadUnit.{item, items_by, items_from, items}
 use Rattle.nss_parser.proofs.Local.{Local, local_pure, local_deep, local_take, local_bind, local_peek, local_choice, local_expect, local_name}
 use Rattle.nss_parser.proofs.DeclarationLocal.{local_typed, local_constant, local_identifier, local_declared_after, local_more_declared}
 

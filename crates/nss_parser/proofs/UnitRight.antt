@@ -17,8 +17,10 @@ use Rattle.nss_parser.specs.Grammar as grammar
 use Rattle.nss_parser.specs.Unit.{FieldNames, Field, Fields, ParameterTokens, ParameterList, Parameters, Body, Item, Items}
 use Rattle.nss_parser.specs.Unit as spelled
 use Rattle.nss_parser.specs.ReadDeclaration.{typed, constant_value, identifier}
-use Rattle.nss_parser.specs.ReadUnit.{more_fields, field, fields_from, structure, constant_line, default, parameter, parameters_from, parameters, global, body, function, after_type, after_struct, item, items_from, items}
-use Rattle.nss_parser.proofs.Right.{Right, right_pure, right_deep, then, then_fixed, then_expect, then_name, right_as, right_choice, after_take, Viable, viable_then, viable_as, viable_done, viable_under, rest_length}
+use Rattle.nss_parser.specs.ReadUnit.{more_fields, field, fields_from, structure, constant_line, default, parameter, parameters_from, parameters, global, body, function, after_type, after_struct}
+use Rattle.nss_parser.specs.ReadUnit.{item, items_from, items}
+use Rattle.nss_parser.proofs.Right.{Right, right_pure, right_deep, then, then_fixed, then_expect, then_name, right_as, right_choice, after_take, Viable, viable_then, viable_as, viable_done}
+use Rattle.nss_parser.proofs.Right.{viable_under, rest_length}
 use Rattle.nss_parser.proofs.Closed.{Closed, closed_prefix, closed_after}
 use Rattle.nss_parser.proofs.DeclarationRight.{then_identifier, then_typed, right_constant, right_declared_after, right_more_declared}
 use Rattle.nss_parser.proofs.Completions.{by_name, by_terminal, by_zero, some_name}
@@ -135,7 +137,8 @@ right_structure d a n b f i r is =
 right_constant_line : (a : ℕ) (i r : List Numbered) (E : Type 0) → i ≡ fixed a terminal.Const ∷ r → Right (λ y ys rest. Item y ys) (Viable Item) E i (constant_line i)
 unfolding constant_line
 right_constant_line a i r E is =
-    after_take (λ a. typed >>= λ p. identifier >>= λ x. expect terminal.Assign >>= λ b. constant_value >>= λ c. expect terminal.Semicolon >>= λ k. pure (unit.constant p.0 p.1 x c)) a (symbol.Fixed terminal.Const) r is
+    after_take (λ a. typed >>= λ p. identifier >>= λ x. expect terminal.Assign >>= λ b. constant_value >>= λ c. expect terminal.Semicolon >>= λ k. pure (unit.constant p.0 p.1 x c)) a
+    (symbol.Fixed terminal.Const) r is
     (then_type (λ x ys. Item x (fixed a terminal.Const ∷ ys))
     (λ p. identifier >>= λ x. expect terminal.Assign >>= λ b. constant_value >>= λ c. expect terminal.Semicolon >>= λ k. pure (unit.constant p.0 p.1 x c)) r
     (λ n t ts rest typ e. then_identifier (λ x. expect terminal.Assign >>= λ b. constant_value >>= λ c. expect terminal.Semicolon >>= λ k. pure (unit.constant n t x c)) rest

@@ -8,7 +8,8 @@ use Rattle.nss_tree.specs.Expressions.{PlainExpr, PlainExprs}
 use Rattle.nss_tree.specs.Statements as stmt
 use Rattle.nss_tree.specs.Units as unit
 use Rattle.nss_tree.specs.Counts.{bodies_of, in_all, one_if, structs_of, variables_in, variables_in_all, variables_in_body, variables_of}
-use Rattle.nss_tree.specs.Places.{of_constant, places, places_declared, places_each, places_expr, places_exprs, places_identifier, places_if, places_item, places_line, places_parameter, places_stmt, places_stmts}
+use Rattle.nss_tree.specs.Places.{of_constant, places, places_declared, places_each, places_expr, places_exprs, places_identifier, places_if, places_item, places_line, places_parameter}
+use Rattle.nss_tree.specs.Places.{places_stmt, places_stmts}
 use Rattle.nss_symbols.specs.Symbols.{Symbol, Numbered, numbered_from}
 use Rattle.nss_parser.specs.Grammar as grammar
 use Rattle.nss_parser.specs.Grammar.{Expression, Binary, Unary, Postfix, Primary, Expressions, Optional, TypeTokens, ConstantTokens, Declared, DeclaredNames, Statement, Entry, Entries}

@@ -42,7 +42,8 @@ closed_of : {all : SourceStmts} {xs : List Numbered} → Braced false all xs →
 closed_of (braced {xs = xs} k es) = record { tokens = xs; number = k; is = refl; holds = es }
 
 -- the rest of a body
-right_body : (d : ℕ) (j : List Numbered) → Right (λ all xs rest. Closed (Entries false) terminal.CloseBrace all xs) (Viable (Closed (Entries false) terminal.CloseBrace)) (d ≤ suc (length j)) j (entries d (statement d) false j)
+right_body : (d : ℕ) (j : List Numbered) → Right (λ all xs rest. Closed (Entries false) terminal.CloseBrace all xs) (Viable (Closed (Entries false) terminal.CloseBrace))
+    (d ≤ suc (length j)) j (entries d (statement d) false j)
 right_body d j =
     right_as (right_entries d (statement d) (λ k. right_statement d k) false j)
     (λ all xs rest b. closed_of b)

@@ -14,7 +14,8 @@ use Rattle.expression_reasons.specs.declared.reason.Reason.{Reason}
 use Rattle.expression_reasons.specs.declared.reason.Reason.TheVariants.{NoDefault, NoVariable, Taken, Value}
 use Rattle.nss_reasons.specs.Reasons.{parameter_by}
 use Rattle.expression_reasons.specs.Why.{because, unless}
-use Rattle.nss_reasons.specs.Why.{constant_reason, const_type_there, declared_by, declared_why, default_by, default_fits_type, default_reason, fits_type, parameter_by_tests, parameter_named, value_reason, variable_reason}
+use Rattle.nss_reasons.specs.Why.{constant_reason, const_type_there, declared_by, declared_why, default_by, default_fits_type, default_reason, fits_type, parameter_by_tests, parameter_named}
+use Rattle.nss_reasons.specs.Why.{value_reason, variable_reason}
 
 tested : {B : Type 0} (taken fits crosses : Bool) (made : B) (r : Reason)
     → declared_by taken fits crosses r ≡ unless (when (not taken && (fits && not crosses)) made) (if taken then Taken else r)

@@ -3,7 +3,8 @@ use Rattle.std.proofs.Common.{◌≡◌, ℕ, ◌+◌, ◌<◌, ◌≤◌, Bool,
 use Rattle.std.proofs.lemmas.List.{at_drop_more, at_drop_all}
 use Rattle.nss_tree.specs.declared.statements.Stmt.{Stmt}
 use Rattle.nss_tree.specs.Readings.{map_stmts_none, stmts_more}
-use Rattle.nss_tree.specs.Statements.{PlainStmt, PlainStmts, map_stmts, block, empty, expression, if_only, if_else, while_loop, do_loop, for_loop, switch, break_off, continue_on, return_from, declaration, case_label, default_label, more_stmts, no_stmt}
+use Rattle.nss_tree.specs.Statements.{PlainStmt, PlainStmts, map_stmts, block, empty, expression, if_only, if_else, while_loop, do_loop, for_loop, switch, break_off, continue_on, return_from}
+use Rattle.nss_tree.specs.Statements.{declaration, case_label, default_label, more_stmts, no_stmt}
 use Rattle.nwq_value.specs.declared.value.Ty.{Ty}
 use Rattle.nwq_value.specs.declared.engine.Const.{Const}
 use Rattle.typing_rules.specs.declared.expressions.Expression.{Expression}

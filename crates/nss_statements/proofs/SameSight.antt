@@ -3,7 +3,8 @@ use Rattle.std.proofs.Common.{◌≡◌, ℕ, Bool, false, List, ◌++◌, refl,
 use Rattle.nwq_value.specs.declared.engine.Param.{Param}
 use Rattle.nss_tree.specs.Expressions.{PlainExpr, PlainExprs, int, float, text, object_self, object_invalid, name, call, member, prefix, postfix, binary, assign, no_expr, more_exprs}
 use Rattle.typing_rules.specs.Nodes.{asked, at, fine, two}
-use Rattle.typing_rules.specs.Rules.{call_rows, call_rule, member_rows, member_rule, prefix_rows, prefix_rule, postfix_rows, postfix_rule, binary_rows, binary_rule, assign_rows, assign_rule, takes_action, others}
+use Rattle.typing_rules.specs.Rules.{call_rows, call_rule, member_rows, member_rule, prefix_rows, prefix_rule, postfix_rows, postfix_rule, binary_rows, binary_rule, assign_rows, assign_rule}
+use Rattle.typing_rules.specs.Rules.{takes_action, others}
 use Rattle.typing_rules.specs.Sight.{Head, Sight, callee, wanted}
 use Rattle.typing_rules.specs.Verdicts.{verdict, all_fine, faults, all_faults, one_more_typed}
 

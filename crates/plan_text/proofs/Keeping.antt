@@ -1,5 +1,6 @@
 -- What every plan keeps, from what each line gives.
-use Rattle.std.proofs.Common.{◌≡◌, ℕ, ◌+◌, ◌<◌, ◌≤◌, ◌⊎◌, inl, inr, Bool, true, false, ◌||◌, cond, nat_lt, IsTrue, List, [], ◌∷◌, ◌++◌, length, Option, Some, None, Result, Ok, Err, refl, sym, ap, ◌∙◌, subst, arith, length-append}
+use Rattle.std.proofs.Common.{◌≡◌, ℕ, ◌+◌, ◌<◌, ◌≤◌, ◌⊎◌, inl, inr, Bool, true, false, ◌||◌, cond, nat_lt, IsTrue, List, [], ◌∷◌, ◌++◌, length, Option, Some, None, Result, Ok, Err, refl, sym, ap}
+use Rattle.std.proofs.Common.{◌∙◌, subst, arith, length-append}
 use Rattle.std.proofs.lemmas.Bool.Decides.{nat_tests}
 use Rattle.std.proofs.lemmas.Option.{none-some}
 use Rattle.std.proofs.lemmas.Slice.Eq.{bytes_eq-Decides}
@@ -13,7 +14,9 @@ use Rattle.plan_text.specs.Words.{Word}
 use Rattle.plan_text.specs.Fields.{within, number_between, greatest_nth, greatest_random}
 use Rattle.nwq_text.specs.Names.{is_script_name}
 use Rattle.nwq_text.specs.Number.{number_of}
-use Rattle.plan_text.specs.Plans.{Draft, Adds, one, more, one_more, with_number, given_once, IsEvent, IsStart, IsFreeStart, Plans, Lists, is_listed, ReadsBehind, Reads, empty, remark, says, Comes, whole, more, stops, Gives, headed, headless, nothing, plan_of, or_default, IsVersion, IsBetween, AreRandoms, AreListed, IsLine, IsPlan, PlansKeep, IsLineOf, FaultsLieInside}
+use Rattle.plan_text.specs.Plans.{Draft, Adds, one, more, one_more, with_number, given_once, IsEvent, IsStart, IsFreeStart, Plans, Lists, is_listed, ReadsBehind, Reads, empty, remark, says}
+use Rattle.plan_text.specs.Plans.{Comes, whole, more, stops, Gives, headed, headless, nothing, plan_of, or_default, IsVersion, IsBetween, AreRandoms, AreListed, IsLine, IsPlan, PlansKeep}
+use Rattle.plan_text.specs.Plans.{IsLineOf, FaultsLieInside}
 use Rattle.plan_text.specs.Plans as plans
 
 -- ---- one line

@@ -5,7 +5,8 @@ use Rattle.plan_text.specs.declared.plan.Line.{Line}
 use Rattle.plan_text.specs.declared.plan.Line.TheVariants.{Event, Start, Free}
 use Rattle.plan_text.specs.Fields.{parted}
 use Rattle.plan_text.specs.Words.{Word, Limit, Entries, Until, Random, Script, Binary, Event as EventWord, Start as StartWord, head_of, spelled}
-use Rattle.plan_text.specs.Plans.{Draft, IsEvent, IsStart, IsFreeStart, Spells, ReadsBehind, Reads, empty, remark, says, Baffles, Comes, whole, more, stops, Gives, headed, headless, IsHeaded, heading, OnePlan, nothing, plan_of}
+use Rattle.plan_text.specs.Plans.{Draft, IsEvent, IsStart, IsFreeStart, Spells, ReadsBehind, Reads, empty, remark, says, Baffles, Comes, whole, more, stops, Gives, headed, headless, IsHeaded}
+use Rattle.plan_text.specs.Plans.{heading, OnePlan, nothing, plan_of}
 use Rattle.plan_text.proofs.AddsLemmas.{one_adds}
 use Rattle.plan_text.proofs.PlannedLemmas.{FourFields, event_four, start_four, free_two, same_four, same_two, apart}
 use Rattle.plan_text.proofs.WordLemmas.{head_spelled}

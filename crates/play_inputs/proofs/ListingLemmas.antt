@@ -1,6 +1,7 @@
 -- Scripts are listed one after the other: what is left, from here, does what the whole does from
 -- the start.
-use Rattle.std.proofs.Common.{◌≡◌, ◌<◌, ◌≤◌, ◌+◌, ℕ, zero, suc, Bool, inl, inr, List, [], ◌∷◌, ◌++◌, length, get_or, drop, take, Some, Result, Ok, Err, IsTrue, refl, sym, ap, ◌∙◌, subst, arith, append_assoc}
+use Rattle.std.proofs.Common.{◌≡◌, ◌<◌, ◌≤◌, ◌+◌, ℕ, zero, suc, Bool, inl, inr, List, [], ◌∷◌, ◌++◌, length, get_or, drop, take, Some, Result, Ok, Err, IsTrue, refl, sym, ap, ◌∙◌, subst, arith}
+use Rattle.std.proofs.Common.{append_assoc}
 use Rattle.std.proofs.Math.Seq.{drop-cons}
 use Rattle.std.proofs.lemmas.List.{drop_all, map_push, length-append, take_more, take_all}
 use mathlib.Core.List.{append-nil}

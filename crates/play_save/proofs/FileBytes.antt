@@ -6,7 +6,9 @@ use Rattle.std.specs.List.{AllByRecursion, list_all}
 use Rattle.std.specs.Int.{w32, byte_at, bytes_high_first, cast_unsigned}
 use Rattle.std.proofs.lemmas.Bool.Decides.{nat_tests}
 use Rattle.nwq_text.specs.Names.{is_script_byte, is_script_name}
-use Rattle.ncs_code.specs.Plain.{PlainLit, PlainOp, Int, Float, Text, Object, CpDownSp, RsAdd, CpTopSp, Const, Action, LogAnd, LogOr, IncOr, ExcOr, BoolAnd, Equal, Nequal, Geq, Gt, Lt, Leq, ShLeft, ShRight, UshRight, Add, Sub, Mul, Div, Mod, Neg, Comp, MovSp, Jmp, Jsr, Jz, Retn, Destruct, Not, DecISp, IncISp, Jnz, CpDownBp, CpTopBp, DecIBp, IncIBp, SaveBp, RestoreBp, StoreState, Nop}
+use Rattle.ncs_code.specs.Plain.{PlainLit, PlainOp, Int, Float, Text, Object, CpDownSp, RsAdd, CpTopSp, Const, Action, LogAnd, LogOr, IncOr, ExcOr, BoolAnd, Equal, Nequal, Geq, Gt, Lt, Leq}
+use Rattle.ncs_code.specs.Plain.{ShLeft, ShRight, UshRight, Add, Sub, Mul, Div, Mod, Neg, Comp, MovSp, Jmp, Jsr, Jz, Retn, Destruct, Not, DecISp, IncISp, Jnz, CpDownBp, CpTopBp, DecIBp, IncIBp}
+use Rattle.ncs_code.specs.Plain.{SaveBp, RestoreBp, StoreState, Nop}
 use Rattle.ncs_code.specs.Spelling.{two, four, signed, run_size, lit_spelling, spelling, LitFits, Fits, IsOp}
 use Rattle.ncs_code.specs.File.{IsCode, magic, spellings, file_bytes, file_length}
 use Rattle.ncs_code.specs.Laws.{FileLength}

@@ -123,7 +123,8 @@ pub given_whole : (first area : PlainArea) (ps : List Object) (i : ℕ) → area
 given_whole first area ps i is h = is ∙ ap (λ (l : List Object). record first { objects = with_variables first.objects l }) (take_all i ps h)
 
 -- what is asked of an object's variables, and what is made of them
-pub lent_distinct : (ps : List Object) (i : ℕ) (p : Object) (lent : List VariablePart) → AllByRecursion (λ (o : Object). IsDistinct same_variable (variables_of o)) ps → i < length ps → p ≡ get_or ps i p
+pub lent_distinct : (ps : List Object) (i : ℕ) (p : Object) (lent : List VariablePart) → AllByRecursion (λ (o : Object). IsDistinct same_variable (variables_of o)) ps → i < length ps →
+    p ≡ get_or ps i p
     → lent ≡ p.variables → IsDistinct same_variable (map variable_of lent)
 lent_distinct ps i p lent all h at same =
     subst (λ (l : List VariablePart). IsDistinct same_variable (map variable_of l)) (sym same) (all_at (λ (o : Object). IsDistinct same_variable (variables_of o)) ps i p all h at)

@@ -27,7 +27,8 @@ both_ways true false n m e = ap once_more e
 both_ways false true n m e = e
 both_ways false false n m e = e
 
-count_end : (places place : ℕ) (vs : List Part) (v : Part) → count_at places place (vs ++ v ∷ []) ≡ (if nat_eq place (place_of places v) then once_more (count_at places place vs) else count_at places place vs)
+count_end : (places place : ℕ) (vs : List Part) (v : Part) →
+    count_at places place (vs ++ v ∷ []) ≡ (if nat_eq place (place_of places v) then once_more (count_at places place vs) else count_at places place vs)
 count_end places place [] v = refl
 count_end places place (x ∷ vs) v =
     both_ways (nat_eq place (place_of places x)) (nat_eq place (place_of places v)) (count_at places place vs) (count_at places place (vs ++ v ∷ [])) (count_end places place vs v)
@@ -110,7 +111,8 @@ count_grows places place v vs = by_test (nat_eq place (place_of places v)) (coun
 
 -- a variable at its own place
 count_own : (places : ℕ) (v : Part) (vs : List Part) → count_at places (place_of places v) (v ∷ vs) ≡ once_more (count_at places (place_of places v) vs)
-count_own places v vs = ap (λ (b : Bool). if b then once_more (count_at places (place_of places v) vs) else count_at places (place_of places v) vs) (eq_same (place_of places v) (place_of places v) refl)
+count_own places v vs = ap (λ (b : Bool). if b then once_more (count_at places (place_of places v) vs) else count_at places (place_of places v) vs)
+    (eq_same (place_of places v) (place_of places v) refl)
 
 -- where none has a place, none is there
 none_there : (places : ℕ) (v : Part) (vs : List Part) → count_at places (place_of places v) vs ≡ 0 → AllByRecursion (λ (w : Variable). same_variable (variable_of v) w ≡ false) (map variable_of vs)

@@ -14,7 +14,8 @@ use Rattle.state_format.specs.declared.parts.Item.TheVariants as item
 use Rattle.state_format.specs.declared.parts.Object.{Object}
 use Rattle.state_format.specs.declared.parts.Parts.{Parts}
 use Rattle.state_format.specs.Parts.{AreStateBytes, IsBlob, IsCaptured, IsCell, IsEffect, IsEntry, IsItem, IsList, IsMaybe, IsNumber, IsObject, IsSigned, IsStanding, IsVariable}
-use Rattle.state_format.specs.Fields.{Fields, joined, number, signed, blob, tag, list_of, signed_fields, number_fields, effect_fields, cell_fields, captured_fields, variable_fields, maybe_fields, standing_fields, item_fields, busy_fields, object_fields, entry_fields, first_fields, last_fields, kind_fields, parts_fields, parts_bytes}
+use Rattle.state_format.specs.Fields.{Fields, joined, number, signed, blob, tag, list_of, signed_fields, number_fields, effect_fields, cell_fields, captured_fields, variable_fields, maybe_fields}
+use Rattle.state_format.specs.Fields.{standing_fields, item_fields, busy_fields, object_fields, entry_fields, first_fields, last_fields, kind_fields, parts_fields, parts_bytes}
 
 -- the fields are no more bytes than a file may have
 abbrev pub AreSmall : Fields → Type 0

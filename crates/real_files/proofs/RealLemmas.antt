@@ -1,5 +1,6 @@
 -- What files over a disk tell, where the disk tells its names, and where it doesn't.
-use Rattle.std.proofs.Common.{◌≡◌, ◌≢◌, ◌<◌, ◌≤◌, ◌+◌, ℕ, Bool, true, false, List, take, length, All, Option, Some, None, IsSomeAnd, true≢false, refl, sym, ap, subst, ◌∙◌, arith, take_all, length-take}
+use Rattle.std.proofs.Common.{◌≡◌, ◌≢◌, ◌<◌, ◌≤◌, ◌+◌, ℕ, Bool, true, false, List, take, length, All, Option, Some, None, IsSomeAnd, true≢false, refl, sym, ap, subst, ◌∙◌, arith, take_all}
+use Rattle.std.proofs.Common.{length-take}
 use Rattle.std.specs.Prelude.{IsTrue}
 use Rattle.std.specs.FinMap.{get, empty}
 use Rattle.nwq_value.specs.Limits.{file_limit}

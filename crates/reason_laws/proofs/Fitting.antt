@@ -27,7 +27,8 @@ use Rattle.typing_rules.specs.Rules.{line_rows, member_rows, member_rule, name_r
 use Rattle.typing_rules.specs.Rules.{assign_rows, assign_rule, return_rows, return_rule, do_rows, do_rule, while_rule, switch_rows, switch_rule, takes, value_fits, variable_rows, variable_rule, when}
 use Rattle.expression_reasons.specs.declared.reason.Reason.TheVariants as why
 use Rattle.expression_reasons.specs.Seen.{Node, own}
-use Rattle.expression_reasons.specs.Why.{assign_reason, because, call_why, condition_reason, condition_rule, counts, member_reason, operands, postfix_reason, prefix_reason, return_reason, step_reason, unless, untaken}
+use Rattle.expression_reasons.specs.Why.{assign_reason, because, call_why, condition_reason, condition_rule, counts, member_reason, operands, postfix_reason, prefix_reason, return_reason}
+use Rattle.expression_reasons.specs.Why.{step_reason, unless, untaken}
 use Rattle.nss_reasons.specs.Why.{case_reason, const_type_there, constant_reason, default_by, line_reason, parameter_reason, value_reason, variable_reason}
 use Rattle.reason_laws.specs.Laws.{Tells, is_joined, kind_of}
 use Rattle.reason_laws.proofs.Told.{Each, Fitting, each_none, each_other, each_tested, each_wrong}

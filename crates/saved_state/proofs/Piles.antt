@@ -1,6 +1,7 @@
 -- Two lists of cells in a row: the lower ones, and those on top.
 use Rattle.std.proofs.Common.{◌≡◌, ◌<◌, ◌≤◌, ◌+◌, ◌-◌, ◌++◌, ◌∷◌, [], ℕ, zero, suc, List, length, take, drop, set, slice_get, get_or, Some, refl, sym, ap, ◌∙◌, arith, append_assoc}
-use Rattle.std.proofs.lemmas.List.{length-append, length-drop, append-nil, drop_at, drop-drop, drop-take, take-append-le, take_at, set-append_left, set-append_right, length-take-le, take_all, take_more, take-take}
+use Rattle.std.proofs.lemmas.List.{length-append, length-drop, append-nil, drop_at, drop-drop, drop-take, take-append-le, take_at, set-append_left, set-append_right, length-take-le, take_all}
+use Rattle.std.proofs.lemmas.List.{take_more, take-take}
 use Rattle.std.proofs.lemmas.Option.{slice_get-get_or}
 use Rattle.std.proofs.Math.Seq.{take-append-add}
 use Rattle.saved_state.proofs.Lists.{get_dropped, get_front, get_behind}

@@ -1,6 +1,8 @@
 -- Pieces in a row: the list that they stand for, and where its cells are.
-use Rattle.std.proofs.Common.{◌≡◌, ◌<◌, ◌≤◌, ◌+◌, ◌-◌, ◌++◌, ◌∷◌, [], ℕ, zero, suc, List, length, take, drop, set, get_or, slice_get, min, Some, Result, Ok, Err, refl, sym, ap, subst, ◌∙◌, arith, append_assoc}
-use Rattle.std.proofs.lemmas.List.{length-append, append-nil, take_more, length-set, get_or_default, set-append_left, set-append_right, drop_all, length_push, take-append-le, take-append-drop, take-take, take_all, length-take, length-take-le, get_or-take, take_min, set-get_or}
+use Rattle.std.proofs.Common.{◌≡◌, ◌<◌, ◌≤◌, ◌+◌, ◌-◌, ◌++◌, ◌∷◌, [], ℕ, zero, suc, List, length, take, drop, set, get_or, slice_get, min, Some, Result, Ok, Err, refl, sym, ap, subst, ◌∙◌, arith}
+use Rattle.std.proofs.Common.{append_assoc}
+use Rattle.std.proofs.lemmas.List.{length-append, append-nil, take_more, length-set, get_or_default, set-append_left, set-append_right, drop_all, length_push, take-append-le, take-append-drop}
+use Rattle.std.proofs.lemmas.List.{take-take, take_all, length-take, length-take-le, get_or-take, take_min, set-get_or}
 use Rattle.std.proofs.lemmas.Option.{slice_get-get_or}
 use Rattle.std.proofs.Math.Seq.{take-append-add}
 use Rattle.std.specs.Prelude.{OnOk, OnErr}

@@ -1,5 +1,6 @@
 -- Runs of cells that are written onto others, from the lowest one on.
-use Rattle.std.proofs.Common.{arith, ◌≡◌, ◌<◌, ◌≤◌, ◌+◌, ◌-◌, ◌++◌, ◌∷◌, [], ℕ, zero, suc, List, length, take, drop, reverse, get_or, Some, Result, Ok, Err, Bool, true, false, refl, sym, ap, ◌∙◌, subst, append_assoc, if◌then◌else◌}
+use Rattle.std.proofs.Common.{arith, ◌≡◌, ◌<◌, ◌≤◌, ◌+◌, ◌-◌, ◌++◌, ◌∷◌, [], ℕ, zero, suc, List, length, take, drop, reverse, get_or, Some, Result, Ok, Err, Bool, true, false, refl, sym, ap, ◌∙◌}
+use Rattle.std.proofs.Common.{subst, append_assoc, if◌then◌else◌}
 use Rattle.std.specs.Prelude.{IfSome, IfOk, slice_get, slice_set}
 use Rattle.std.proofs.lemmas.List.{length-append, length-take-le, length-drop, length-reverse, take-append-drop, drop-drop, drop_at, reverse-append, reverse-reverse}
 use Rattle.std.proofs.lemmas.Option.{slice_get-get_or}

@@ -117,7 +117,8 @@ within_still header code a b facts n p held callee g k r i w =
   where
     window_still : (a b : Heap) (trial : Trial) → HeapGrows a b → TrialIn a trial → window b trial ≡ window a trial
     window_still a b trial g i =
-        ap (λ (z : List Slot). let r : Rattle.stack_shape.specs.declared.reach.Reach.Reach = record { cells = length z - trial.unseen.cells; under = length (read b.slots trial.under) - trial.unseen.under } in r) (g.slots.same trial.taken i.taken)
+        ap (λ (z : List Slot). let r : Rattle.stack_shape.specs.declared.reach.Reach.Reach =
+        record { cells = length z - trial.unseen.cells; under = length (read b.slots trial.under) - trial.unseen.under } in r) (g.slots.same trial.taken i.taken)
         ∙ ap (λ (z : List Slot). let r : Rattle.stack_shape.specs.declared.reach.Reach.Reach = record {
           cells = length
               (read a.slots trial.taken) - trial.unseen.cells;

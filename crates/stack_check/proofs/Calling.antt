@@ -23,7 +23,8 @@ use Rattle.stack_lists.specs.Held.{HeapGrows, shape_of}
 use Rattle.stack_lists.specs.Rows.{row_in}
 use Rattle.stack_check.specs.declared.facts.Unseen.{Unseen}
 use Rattle.stack_check.specs.Facts.{current, callee_of, callee_at, first_held, kept_callee, lowest, trial_table, unseen_cells, unseen_under, without}
-use Rattle.stack_check.specs.Inference.{BeginsAlike, GivenFits, GivenOver, IsLonger, IsOver, IsThere, LooksOwed, TrialIn, Within, Beyond, RowFits, TrialFits, Keeps, Owed, RowIs, FirstFits, TrialBegins, GivenOwed, Sound, window}
+use Rattle.stack_check.specs.Inference.{BeginsAlike, GivenFits, GivenOver, IsLonger, IsOver, IsThere, LooksOwed, TrialIn, Within, Beyond, RowFits, TrialFits, Keeps, Owed, RowIs, FirstFits}
+use Rattle.stack_check.specs.Inference.{TrialBegins, GivenOwed, Sound, window}
 use Rattle.stack_lists.specs.Growth.{same_shape, read_empty}
 use Rattle.stack_check.proofs.Steps.{row_trial}
 use Rattle.stack_check.proofs.Tables.{entry_is, led_at, own_is}

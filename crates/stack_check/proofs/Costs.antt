@@ -1,5 +1,6 @@
 -- How many looks are counted.
-use Rattle.std.proofs.Common.{arith, ◌≡◌, ◌≤◌, ◌<◌, ◌+◌, ◌-◌, ◌*◌, ◌^◌, ℕ, zero, suc, List, [], ◌∷◌, ◌++◌, length, None, Some, slice_get, sym, subst, ◌∙◌, ap, refl, min, mul-le-mul_left, mul-le-mul_right}
+use Rattle.std.proofs.Common.{arith, ◌≡◌, ◌≤◌, ◌<◌, ◌+◌, ◌-◌, ◌*◌, ◌^◌, ℕ, zero, suc, List, [], ◌∷◌, ◌++◌, length, None, Some, slice_get, sym, subst, ◌∙◌, ap, refl, min, mul-le-mul_left}
+use Rattle.std.proofs.Common.{mul-le-mul_right}
 use Rattle.std.proofs.lemmas.List.{length-append}
 use Rattle.nwq_value.specs.Engine.{EngineTable}
 use Rattle.ncs_code.specs.Plain.{PlainOp}
@@ -214,7 +215,8 @@ looks_last header code heap begun before given first now next spot turns a b loo
 }
 
 -- a turn that found nothing was the last
-pub looks_found : (header : EngineTable) (code : List PlainOp) (heap : Heap) (given first now next : Worklist) (spot : Spot) (seen : Seen) (turns a b looks x y : ℕ) (before facts : Facts) → waiting first ≡ waiting given ++ spot ∷ []
+pub looks_found : (header : EngineTable) (code : List PlainOp) (heap : Heap) (given first now next : Worklist) (spot : Spot) (seen : Seen) (turns a b looks x y : ℕ) (before facts : Facts) →
+    waiting first ≡ waiting given ++ spot ∷ []
     → LooksSoFar first now turns a looks x before → b ≡ a + 1 → SeesTurn header code heap before facts seen → seen ≡ Quiet
     → CountsTurn now next x y (length before.rows) → y ≤ looks + length (waiting given) + most_looks (b - turns) (length facts.rows) (length next.calls)
 unfolding most_looks

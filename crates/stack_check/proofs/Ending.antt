@@ -23,7 +23,8 @@ use Rattle.stack_check.specs.Checked.{CheckedCode, StoredStand, found_of, kept_t
 use Rattle.stack_lists.specs.declared.todo.Spot.{Spot}
 use Rattle.stack_lists.specs.Worklist.{Worklist, waiting}
 use Rattle.std.proofs.lemmas.List.{length-append}
-use Rattle.stack_check.specs.Inference.{NothingNew, IsTrialOf, IsWhole, TrialIn, IsOver, GivenOver, Beyond, RowFits, TrialFits, Keeps, Visited, WhereQuiet, Takes, SeesRow, SeesAll, SeesDrained, SeesTurn, IsFound}
+use Rattle.stack_check.specs.Inference.{NothingNew, IsTrialOf, IsWhole, TrialIn, IsOver, GivenOver, Beyond, RowFits, TrialFits, Keeps, Visited, WhereQuiet, Takes, SeesRow, SeesAll, SeesDrained}
+use Rattle.stack_check.specs.Inference.{SeesTurn, IsFound}
 use Rattle.stack_lists.specs.Growth.{heap_same, heap_then, same_shape, read_empty}
 use Rattle.stack_check.proofs.Left.{total_under}
 use Rattle.stack_check.proofs.Windows.{deeper_none}

@@ -21,7 +21,8 @@ use Rattle.stack_lists.specs.declared.todo.Again.{Again}
 use Rattle.stack_lists.specs.declared.todo.Call.{Call}
 use Rattle.stack_lists.specs.declared.todo.Spot.{Spot}
 use Rattle.stack_lists.specs.Worklist.{CallKept, CallersAdded, SameCalls, Worklist, spot_of, waiting}
-use Rattle.stack_check.specs.Inference.{Adds, AddsCalls, CallsAgain, CallsOfWait, CallsWait, IsKept, IsNext, Keeps, NothingNew, Visited, WhereQuiet, Owed, RowIs, Reached, RowsKept, Takes, AllLed, after_change}
+use Rattle.stack_check.specs.Inference.{Adds, AddsCalls, CallsAgain, CallsOfWait, CallsWait, IsKept, IsNext, Keeps, NothingNew, Visited, WhereQuiet, Owed, RowIs, Reached, RowsKept, Takes, AllLed}
+use Rattle.stack_check.specs.Inference.{after_change}
 use Rattle.stack_check.specs.Facts.{FindsMore}
 use Rattle.stack_check.proofs.Left.{more_row}
 use Rattle.stack_check.proofs.Steps.{step_kept}

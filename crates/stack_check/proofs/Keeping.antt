@@ -25,7 +25,8 @@ use Rattle.stack_lists.specs.Held.{IsIn, HeapGrows, shape_of}
 use Rattle.stack_lists.specs.Rows.{RowAdded, row_in}
 use Rattle.stack_lists.specs.declared.rows.ShapeRow.{ShapeRow}
 use Rattle.stack_check.specs.Facts.{current, first_place, first_held, callee_of, lowest, unseen_cells, unseen_under, with_unseen}
-use Rattle.stack_check.specs.Inference.{IsTrialOf, IsWhole, Formed, TrialIn, AllIn, IsOver, GivenOver, AllOver, Beyond, RowFits, TrialFits, Compares, Keeps, Owed, RowIs, TrialAdded, FirstFits, TrialBegins, GivenOwed, SeesMore, UnseenOwed}
+use Rattle.stack_check.specs.Inference.{IsTrialOf, IsWhole, Formed, TrialIn, AllIn, IsOver, GivenOver, AllOver, Beyond, RowFits, TrialFits, Compares, Keeps, Owed, RowIs, TrialAdded, FirstFits}
+use Rattle.stack_check.specs.Inference.{TrialBegins, GivenOwed, SeesMore, UnseenOwed}
 use Rattle.stack_lists.specs.Growth.{still_in, still_shape, read_empty}
 use Rattle.stack_check.proofs.Windows.{deeper_then, lowest_fewer}
 

@@ -27,7 +27,8 @@ use Rattle.stack_lists.specs.Shared.{read}
 use Rattle.stack_lists.specs.Held.{AfterStep, HeapGrows, IsIn, shape_of, stored_of}
 use Rattle.stack_lists.specs.Rows.{row_in}
 use Rattle.stack_check.specs.Facts.{current, number_in, trial_table, first_held, callee_of}
-use Rattle.stack_check.specs.Inference.{IsWhole, TrialIn, Takes, Beyond, RowIs, Keeps, Visited, WhereQuiet, Owed, TrialBegins, Sound, Sees, SeesStep, Resumes, IsStored, Stores, StoresAs, IsPlain, IsCall, after_change, kind_of}
+use Rattle.stack_check.specs.Inference.{IsWhole, TrialIn, Takes, Beyond, RowIs, Keeps, Visited, WhereQuiet, Owed, TrialBegins, Sound, Sees, SeesStep, Resumes, IsStored, Stores, StoresAs, IsPlain}
+use Rattle.stack_check.specs.Inference.{IsCall, after_change, kind_of}
 use Rattle.stack_lists.specs.Growth.{heap_then, heap_same, same_shape, still_shape}
 use Rattle.stack_check.proofs.Windows.{deeper_none}
 use Rattle.stack_check.proofs.Tables.{led_at, sound_before, whole_over}

@@ -1,5 +1,6 @@
 -- What the walk's functions owe.
-use Rattle.std.proofs.Common.{arith, ◌≡◌, ◌≢◌, ◌+◌, ◌<◌, ℕ, ℤ, zero, suc, List, [], ◌∷◌, ◌++◌, length, map, reverse, Option, None, Some, Bool, true, false, IsTrue, ◌↔◌, slice_get, inl, inr, ◌⊎◌, sym, subst, ◌∙◌, ap, refl}
+use Rattle.std.proofs.Common.{arith, ◌≡◌, ◌≢◌, ◌+◌, ◌<◌, ℕ, ℤ, zero, suc, List, [], ◌∷◌, ◌++◌, length, map, reverse, Option, None, Some, Bool, true, false, IsTrue, ◌↔◌, slice_get, inl, inr, ◌⊎◌}
+use Rattle.std.proofs.Common.{sym, subst, ◌∙◌, ap, refl}
 use Rattle.std.proofs.lemmas.List.{append-nil, reverse-append, reverse-reverse}
 use Rattle.std.specs.Prelude.{IfSome, get_or, take}
 use Rattle.nwq_value.specs.declared.value.Ty.{Ty}

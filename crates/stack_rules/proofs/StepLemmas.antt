@@ -1,5 +1,6 @@
 -- A step of a safe frame has a case, and leads to a safe frame.
-use Rattle.std.proofs.Common.{arith, ◌≡◌, ◌≤◌, ◌+◌, ◌-◌, ℕ, zero, suc, List, [], ◌∷◌, ◌++◌, length, map, drop, take, reverse, slice_get, Option, Some, None, Bool, true, false, sym, subst, ◌∙◌, ap, refl, zero-add}
+use Rattle.std.proofs.Common.{arith, ◌≡◌, ◌≤◌, ◌+◌, ◌-◌, ℕ, zero, suc, List, [], ◌∷◌, ◌++◌, length, map, drop, take, reverse, slice_get, Option, Some, None, Bool, true, false, sym, subst, ◌∙◌}
+use Rattle.std.proofs.Common.{ap, refl, zero-add}
 use Rattle.std.specs.Prelude.{ℤ, nat_le, ◌==◌, ◌&&◌, if◌then◌else◌}
 use Rattle.std.specs.Option.{option_map, option_and_then}
 use Rattle.std.proofs.lemmas.Bool.Decides.{nat_tests}
@@ -32,7 +33,8 @@ use Rattle.stack_shape.specs.Laws.{AreValues, EffectsPopValues, CallsPopValues, 
 use Rattle.machine_rules.specs.Cells.{value_types, zero_on_top}
 use Rattle.machine_rules.specs.Calls.{Taken, arguments, is_execute_script}
 use Rattle.machine_rules.specs.Frames.{Frame}
-use Rattle.machine_rules.specs.Act.{Act, Moves, Asks, Executes, Returns, Divides, act, cells_after, is_division, next_place, place_after, moved, returned, stored, behind_call, executed, asked, engine_called}
+use Rattle.machine_rules.specs.Act.{Act, Moves, Asks, Executes, Returns, Divides, act, cells_after, is_division, next_place, place_after, moved, returned, stored, behind_call, executed, asked}
+use Rattle.machine_rules.specs.Act.{engine_called}
 use Rattle.machine_rules.specs.Act as machine
 use Rattle.machine_rules.specs.Machine.{Script, with_answer}
 use Rattle.machine_rules.specs.Outlines.{Outline, Typed, Keeps, outline, outlines, slots, slots_under, outlines_after}

@@ -14,7 +14,8 @@ use Rattle.stack_shape.specs.declared.range.CellRange.{CellRange}
 use Rattle.stack_shape.specs.declared.effect.StackEffect.{StackEffect}
 use Rattle.stack_shape.specs.Ranges.{cell_count, depth_of, range_at}
 use Rattle.stack_shape.specs.TopFirst.{types_on}
-use Rattle.stack_shape.specs.StackEffects.{where_alike, no_effect, exchange, pushed, copied, written, range_int_changed, removed, kept_of, kept, runs, one_int, two_ints, two_alike, type_of_one, type_of_both, type_of_lit, compared, added, reckoned, negated, stack_effect}
+use Rattle.stack_shape.specs.StackEffects.{where_alike, no_effect, exchange, pushed, copied, written, range_int_changed, removed, kept_of, kept, runs, one_int, two_ints, two_alike, type_of_one}
+use Rattle.stack_shape.specs.StackEffects.{type_of_both, type_of_lit, compared, added, reckoned, negated, stack_effect}
 use Rattle.stack_shape.specs.Calls.{fits_call, call_effect, argument_types, result_types}
 use Rattle.stack_shape.specs.Stored.{stored_types}
 use Rattle.stack_shape.specs.Laws.{AreValues, EffectsPopValues, CallsPopValues, ValuesAreThere, EffectsLookFromTop, CallsLookFromTop, StoresLookFromTop}

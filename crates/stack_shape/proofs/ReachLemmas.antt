@@ -15,7 +15,8 @@ use Rattle.stack_shape.specs.declared.effect.StackEffect.{StackEffect}
 use Rattle.stack_shape.specs.declared.store.StoredTypes.{StoredTypes}
 use Rattle.stack_shape.specs.Ranges.{cell_count, depth_of, range_at}
 use Rattle.stack_shape.specs.TopFirst.{types_on, types_at}
-use Rattle.stack_shape.specs.StackEffects.{where_alike, no_effect, exchange, copied, written, range_int_changed, removed, kept_of, kept, runs, one_int, two_ints, two_alike, type_of_both, compared, added, reckoned, negated, stack_effect}
+use Rattle.stack_shape.specs.StackEffects.{where_alike, no_effect, exchange, copied, written, range_int_changed, removed, kept_of, kept, runs, one_int, two_ints, two_alike, type_of_both}
+use Rattle.stack_shape.specs.StackEffects.{compared, added, reckoned, negated, stack_effect}
 use Rattle.stack_shape.specs.Calls.{fits_call, call_effect, argument_types, result_types}
 use Rattle.stack_shape.specs.Stored.{TopShape, found_types, stored_types}
 use Rattle.stack_shape.specs.Rule.{affected, restored, stored, called_shape, rule}

@@ -1,5 +1,6 @@
 -- What is found among slots, put into them and taken out of them.
-use Rattle.std.proofs.Common.{◌≡◌, ◌≢◌, ◌<◌, ◌≤◌, ◌+◌, ◌*◌, ◌==◌, ◌∷◌, ◌++◌, [], ℕ, zero, suc, Bool, true, false, not, List, length, filter, drop, insert, slice_get, get_or, Option, None, Some, is_some, refl, sym, ap, subst, ◌∙◌, arith}
+use Rattle.std.proofs.Common.{◌≡◌, ◌≢◌, ◌<◌, ◌≤◌, ◌+◌, ◌*◌, ◌==◌, ◌∷◌, ◌++◌, [], ℕ, zero, suc, Bool, true, false, not, List, length, filter, drop, insert, slice_get, get_or, Option, None, Some}
+use Rattle.std.proofs.Common.{is_some, refl, sym, ap, subst, ◌∙◌, arith}
 use Rattle.std.specs.Prelude.{if◌then◌else◌, nat_lt, slice_set}
 use Rattle.std.proofs.lemmas.Bool.Decides.{nat_tests}
 use Rattle.std.proofs.lemmas.Bool.{eqb-true, eq-eqb, ltb-true, ltb-false}
@@ -468,7 +469,8 @@ empty_at live stamp room i slots kept place is none =
     ∙ ap (λ k. item_at k slots) (sym place) ∙ none_of (item_at i slots) none
 
 -- once another item stands in the slot
-pub kept_replaced : {T : Type 0} (live stamp room now_room i : ℕ) (x : T) (slots now : List (Slot T)) (item : Option T) → IsKept live slots room → i ≡ below stamp slots → true ≡ has_stamp stamp i slots
+pub kept_replaced : {T : Type 0} (live stamp room now_room i : ℕ) (x : T) (slots now : List (Slot T)) (item : Option T) → IsKept live slots room → i ≡ below stamp slots →
+    true ≡ has_stamp stamp i slots
     → is_some (item_at i slots) ≡ true → now ≡ written i (Some x) slots → item ≡ item_at i slots → now_room ≡ room
     → (seen now ≡ replaced stamp x (seen slots)) × (item ≡ at stamp (seen slots)) × IsKept live now now_room
 kept_replaced live stamp room now_room i x slots now item kept place is full now_is item_is room_is =

@@ -1,5 +1,6 @@
 -- Readers of single fields, and of lists.
-use Rattle.std.proofs.Common.{◌≡◌, ◌<◌, ◌≤◌, inl, inr, ℕ, zero, suc, ℤ, ltb, List, [], ◌∷◌, ◌++◌, length, take, drop, slice_index, Result, Ok, Err, refl, sym, ap, subst, ◌∙◌, append_assoc, arith, lit<}
+use Rattle.std.proofs.Common.{◌≡◌, ◌<◌, ◌≤◌, inl, inr, ℕ, zero, suc, ℤ, ltb, List, [], ◌∷◌, ◌++◌, length, take, drop, slice_index, Result, Ok, Err, refl, sym, ap, subst, ◌∙◌, append_assoc, arith}
+use Rattle.std.proofs.Common.{lit<}
 use Rattle.std.specs.Prelude.{if◌then◌else◌}
 use Rattle.std.specs.List.{AllByRecursion, flat_map}
 use Rattle.std.specs.Int.{w32, byte_at as byte_of, bytes_low_first, cast_signed, cast_unsigned}
@@ -14,7 +15,8 @@ use Rattle.byteorder.specs.Numbers.{little_from-cons, little_from-take, little_f
 use Rattle.state_format.specs.Parts.{AreStateBytes, IsNumber, IsSigned, IsBlob, IsList}
 use Rattle.state_format.specs.Fields.{Fields, joined, number, blob, magic, list_of, number_fields, signed_fields, blob_fields}
 use Rattle.state_format.specs.Reading.{Reader, ◌>>=◌, followed, many, number_at, signed_at, blob_at, magic_at, list_at}
-use Rattle.state_format.proofs.Readers.{IsReader, single, via-reader, followed-reader, many-reader, bytes-behind, bytes-front, ok_is, err_is, done, bind_ok, answered, tested, chosen_true, chosen_false, takes_false}
+use Rattle.state_format.proofs.Readers.{IsReader, single, via-reader, followed-reader, many-reader, bytes-behind, bytes-front, ok_is, err_is, done, bind_ok, answered, tested, chosen_true}
+use Rattle.state_format.proofs.Readers.{chosen_false, takes_false}
 
 -- ---- numbers
 

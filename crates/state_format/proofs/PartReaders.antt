@@ -13,8 +13,11 @@ use Rattle.state_format.specs.declared.parts.KindPart.{KindPart}
 use Rattle.state_format.specs.declared.parts.KindPart.TheVariants as kind
 use Rattle.state_format.specs.declared.parts.Parts.{Parts}
 use Rattle.state_format.specs.Parts.{IsNumber, IsSigned, IsBlob, IsList, IsEffect, IsCell, IsCaptured, IsVariable, IsMaybe, IsStanding, IsItem, IsObject, IsKind, IsEntry, IsScript, HasForm}
-use Rattle.state_format.specs.Fields.{Fields, tag, number, magic, list_of, number_fields, signed_fields, blob_fields, effect_fields, cell_fields, captured_fields, variable_fields, maybe_fields, standing_fields, item_fields, busy_fields, object_fields, kind_fields, entry_fields, script_fields, count_fields, first_fields, last_fields, parts_fields}
-use Rattle.state_format.specs.Reading.{Reader, both, choose, only, nothing_at, number_at, signed_at, blob_at, magic_at, list_at, effect_of, effect_at, cell_of, cell_at, captured_of, captured_at, variable_of, variable_at, maybe_of, maybe_at, standing_of, standing_at, item_of, item_at, busy_of, busy_at, object_of, object_at, kind_of, kind_at, entry_of, entry_at, script_of, script_at, counts_of, counts_at, parts_of, parts_at}
+use Rattle.state_format.specs.Fields.{Fields, tag, number, magic, list_of, number_fields, signed_fields, blob_fields, effect_fields, cell_fields, captured_fields, variable_fields, maybe_fields}
+use Rattle.state_format.specs.Fields.{standing_fields, item_fields, busy_fields, object_fields, kind_fields, entry_fields, script_fields, count_fields, first_fields, last_fields, parts_fields}
+use Rattle.state_format.specs.Reading.{Reader, both, choose, only, nothing_at, number_at, signed_at, blob_at, magic_at, list_at, effect_of, effect_at, cell_of, cell_at, captured_of, captured_at}
+use Rattle.state_format.specs.Reading.{variable_of, variable_at, maybe_of, maybe_at, standing_of, standing_at, item_of, item_at, busy_of, busy_at, object_of, object_at, kind_of, kind_at}
+use Rattle.state_format.specs.Reading.{entry_of, entry_at, script_of, script_at, counts_of, counts_at, parts_of, parts_at}
 use Rattle.state_format.proofs.Readers.{IsReader, Either, either_fields, StartsOther, via-reader, followed-reader, only-reader, choose-reader, nothing-reader}
 use Rattle.state_format.proofs.FieldReaders.{number-reader, signed-reader, blob-reader, magic-reader, list-reader}
 

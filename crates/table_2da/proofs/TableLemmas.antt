@@ -1,12 +1,14 @@
 -- Going on by lines, the first three lines, and that a file gives one thing.
-use Rattle.std.proofs.Common.{◌≡◌, ◌≢◌, ℕ, ◌+◌, ◌⊎◌, inl, inr, length, drop, codes, IsTrue, ◌↔◌, MatchBool, true≢false, Bool, true, false, List, [], ◌∷◌, ◌++◌, Result, Ok, Err, IfOk, IfErr, refl, sym, ap, ◌∙◌, subst}
+use Rattle.std.proofs.Common.{◌≡◌, ◌≢◌, ℕ, ◌+◌, ◌⊎◌, inl, inr, length, drop, codes, IsTrue, ◌↔◌, MatchBool, true≢false, Bool, true, false, List, [], ◌∷◌, ◌++◌, Result, Ok, Err, IfOk, IfErr, refl}
+use Rattle.std.proofs.Common.{sym, ap, ◌∙◌, subst}
 use Rattle.nwq_text.specs.Lines.{lines_of}
 use Rattle.table_2da.specs.declared.fault.TableFault.{TableFault}
 use Rattle.table_2da.specs.declared.fault.TableFault.TheVariants.{Line as BadLine, NoMemory}
 use Rattle.table_2da.specs.declared.words.Part.TheVariants.{Columns}
 use Rattle.table_2da.specs.Table.{PlainTable}
 use Rattle.table_2da.specs.Words.{AreBlanks}
-use Rattle.table_2da.specs.Grammar.{Adds, Baffles, Follow, whole, goes, stops, IsHeading, IsSecond, IsColumns, HasColumns, FirstIs, with_columns, Gives, headless, no_second, no_columns, headed, GivesOf, HasTable, IsFaulty, OneTable}
+use Rattle.table_2da.specs.Grammar.{Adds, Baffles, Follow, whole, goes, stops, IsHeading, IsSecond, IsColumns, HasColumns, FirstIs, with_columns, Gives, headless, no_second, no_columns, headed}
+use Rattle.table_2da.specs.Grammar.{GivesOf, HasTable, IsFaulty, OneTable}
 use Rattle.table_2da.specs.Steps.{ReadsOn, TableStopsAt, ThirdOn, SecondOn, Comes}
 use Rattle.table_2da.proofs.RowLemmas.{one_addition, one_saying}
 

@@ -7,7 +7,9 @@ use Rattle.std.proofs.lemmas.List as lists
 use Rattle.std.proofs.lemmas.Bool.{false≢true, and_parts}
 use Rattle.std.proofs.lemmas.Bool.Decides.{nat_tests}
 use Rattle.nwq_value.specs.Limits.{text_limit}
-use Rattle.gff_tree.specs.Tree.{PlainNode, PlainFields, PlainLeaf, PlainNodes, Scalar, Struct, NoField, MoreFields, Holds, Child, Children, NoNode, MoreNodes, Byte, Char, Word, Short, Dword, Int, Dword64, Int64, Float, Double, Str, Res, Localized, Void, fields_in, nodes_in, labels_of, are_distinct, resource_limit, struct_depth_limit, is_sound, is_sound_node, are_sound_fields, is_sound_leaf, are_sound_nodes}
+use Rattle.gff_tree.specs.Tree.{PlainNode, PlainFields, PlainLeaf, PlainNodes, Scalar, Struct, NoField, MoreFields, Holds, Child, Children, NoNode, MoreNodes, Byte, Char, Word, Short, Dword, Int}
+use Rattle.gff_tree.specs.Tree.{Dword64, Int64, Float, Double, Str, Res, Localized, Void, fields_in, nodes_in, labels_of, are_distinct, resource_limit, struct_depth_limit, is_sound}
+use Rattle.gff_tree.specs.Tree.{is_sound_node, are_sound_fields, is_sound_leaf, are_sound_nodes}
 use Rattle.gff_tree.specs.Fields.{found}
 use Rattle.area_rules.specs.Objects.{Script, AreaObject, structs_in, scripts_in, with_script, object_of, objects_of, objects_under, list_labels}
 use Rattle.area_rules.specs.Area.{PlainArea, IsArea, bare, object, object_at, script_named, top_of}

@@ -36,7 +36,8 @@ pub seek_arguments-returns : goal.seek_arguments-returns
 seek_arguments-returns t c =
     let none : c.loop-i.i ≡ 0 = omega (arith, c.loop-i-test.false) in
     c.loop-i.invariant.1
-    ∙ (ap (λ j. sought (marks.marks_all c.args.layout.now c.args.of (numbers.behind_all c.args.node (plain_all (take j c.args.arguments.now))) (plain_all (drop j c.args.arguments.now))) c.args.seek) none
+    ∙ (ap (λ j. sought (marks.marks_all c.args.layout.now c.args.of (numbers.behind_all c.args.node (plain_all (take j c.args.arguments.now))) (plain_all (drop j c.args.arguments.now)))
+    c.args.seek) none
     ∙ ap (λ ys. sought (marks.marks_all c.args.layout.now c.args.of (numbers.behind_all c.args.node ys) (plain_all c.args.arguments.now)) c.args.seek) plain_all_none)
 
 pub seek_expr-returns-in-Literal : goal.seek_expr-returns-in-Literal
@@ -52,7 +53,8 @@ seek_expr-returns-in-Call t c =
     (parts c.pass_room-seek.result _ _
     (c.pass_constants-seek.ensures ∙ ap (λ ks. sought (marks.constants_marks c.args.node ks) c.pass_room-seek.result) c.as_slice.ensures.items)
     (parts c.pass_constants-seek.result _ _
-    (c.seek_arguments-seek.ensures ∙ ap₂ (λ n xs. sought (marks.marks_all c.args.layout.now c.args.node n (plain_all xs)) c.pass_constants-seek.result) c.next-part.ensures c.as_slice-in-Call.ensures.value)
+    (c.seek_arguments-seek.ensures ∙ ap₂ (λ n xs. sought (marks.marks_all c.args.layout.now c.args.node n (plain_all xs)) c.pass_constants-seek.result) c.next-part.ensures
+    c.as_slice-in-Call.ensures.value)
     (last c.seek_arguments-seek.result _ c.pass_call.ensures))))
 
 pub seek_expr-returns-in-Prefix : goal.seek_expr-returns-in-Prefix
@@ -90,7 +92,8 @@ seek_expr-returns-in-Binary t c =
 pub seek_expr-returns-in-Assign : goal.seek_expr-returns-in-Assign
 seek_expr-returns-in-Assign t c =
     known _ _ _ _ _ _ (plain_assign _ _ _ _ _ c.in-Assign.is)
-    (assign_gone c.args.layout.now c.args.node c.in-Assign.ty c.in-Assign.operator (plain c.in-Assign.place.value) (plain c.in-Assign.value.value) c.is_set-set.result c.is_place-there.result c.args.seek _ _ _ _
+    (assign_gone c.args.layout.now c.args.node c.in-Assign.ty c.in-Assign.operator (plain c.in-Assign.place.value)
+    (plain c.in-Assign.value.value) c.is_set-set.result c.is_place-there.result c.args.seek _ _ _ _
     c.is_set-set.ensures (there _ _ _ c.is_place-there.ensures.place c.deref-in-Assign.ensures)
     (c.pass_if-seek.ensures ∙ ap (λ b. sought (marks.mark_if b 8 c.args.node) c.args.seek) c.both.ensures)
     (at c.args.layout.now _ _ _ _ c.pass_if-seek.result _ c.deref-in-Assign-2.ensures

@@ -13,12 +13,14 @@ two_behind k of a b x y v w e f g h i =
 
 pub behind-returns-in-Binary : goal.behind-returns-in-Binary
 behind-returns-in-Binary t c =
-    two_behind c.args.node _ _ _ c.deref-in-Binary.result.now c.deref-in-Binary-2.result.now _ _ c.next-node.ensures c.behind-in-Binary.ensures c.behind-in-Binary-2.ensures c.deref-in-Binary.ensures c.deref-in-Binary-2.ensures
+    two_behind c.args.node _ _ _ c.deref-in-Binary.result.now c.deref-in-Binary-2.result.now _ _ c.next-node.ensures c.behind-in-Binary.ensures c.behind-in-Binary-2.ensures
+    c.deref-in-Binary.ensures c.deref-in-Binary-2.ensures
     ∙ ap (numbers.behind c.args.node) (sym (plain_binary _ _ _ _ _ c.in-Binary.is))
 
 pub behind-returns-in-Assign : goal.behind-returns-in-Assign
 behind-returns-in-Assign t c =
-    two_behind c.args.node _ _ _ c.deref-in-Assign.result.now c.deref-in-Assign-2.result.now _ _ c.next-node.ensures c.behind-in-Assign.ensures c.behind-in-Assign-2.ensures c.deref-in-Assign.ensures c.deref-in-Assign-2.ensures
+    two_behind c.args.node _ _ _ c.deref-in-Assign.result.now c.deref-in-Assign-2.result.now _ _ c.next-node.ensures c.behind-in-Assign.ensures c.behind-in-Assign-2.ensures
+    c.deref-in-Assign.ensures c.deref-in-Assign-2.ensures
     ∙ ap (numbers.behind c.args.node) (sym (plain_assign _ _ _ _ _ c.in-Assign.is))
 
 pub behind_all-loop-argument-preserved : goal.behind_all-loop-argument-preserved

@@ -1,6 +1,7 @@
 use Rattle.std.proofs.Common.{◌∙◌, ap, ap₂, refl, option_map}
 use Rattle.nss_tree.specs.Reading.{tree_of_stmts}
-use Rattle.nss_tree.specs.Readings.{tree_block, tree_break_off, tree_case_label, tree_continue_on, tree_declaration, tree_default_label, tree_do_loop, tree_empty, tree_expression, tree_for_loop, tree_if_else, tree_if_only, tree_return_from, tree_switch, tree_while_loop}
+use Rattle.nss_tree.specs.Readings.{tree_block, tree_break_off, tree_case_label, tree_continue_on, tree_declaration, tree_default_label, tree_do_loop, tree_empty, tree_expression, tree_for_loop}
+use Rattle.nss_tree.specs.Readings.{tree_if_else, tree_if_only, tree_return_from, tree_switch, tree_while_loop}
 use Rattle.typing_rules.specs.Reading.{plain}
 use Rattle.typing_rules.specs.UnitReading.{typed_names, typed_stmt, typed_stmts}
 use Rattle.emission_rules.specs.Layout.{all_declared_cells}
@@ -38,31 +39,36 @@ pub seek_stmt-returns-in-Expression : goal.seek_stmt-returns-in-Expression
 seek_stmt-returns-in-Expression t c =
     stmt_known _ _ _ _ _ _ _ (tree_expression _ _ _ c.in-Expression.is)
     (parts c.args.seek _ _ (expr_at c.args.layout.now _ _ (plain c.in-Expression.value) c.args.seek _ c.next-part.ensures c.seek_expr-seek.ensures)
-    (if_at _ _ 6 c.args.node c.seek_expr-seek.result _ (typed_cells c.args.layout.now.structs c.ty.result (plain c.in-Expression.value) c.has_cells.result c.has_cells.ensures c.ty.ensures.ty) c.pass_if-in-Expression.ensures))
+    (if_at _ _ 6 c.args.node c.seek_expr-seek.result _ (typed_cells c.args.layout.now.structs c.ty.result (plain c.in-Expression.value) c.has_cells.result c.has_cells.ensures
+    c.ty.ensures.ty) c.pass_if-in-Expression.ensures))
 
 pub seek_stmt-returns-in-If : goal.seek_stmt-returns-in-If
 seek_stmt-returns-in-If t c =
     stmt_known _ _ _ _ _ _ _ (tree_if_only _ _ _ _ c.in-If.is)
     (parts c.args.seek _ _ (expr_at c.args.layout.now _ _ (plain c.in-If.condition) c.args.seek _ c.next-part.ensures c.seek_expr.ensures)
     (one_more c.seek_expr.result _ _ c.pass-seek.ensures
-    (stmt_at c.args.layout.now _ _ _ _ _ _ c.pass-seek.result _ refl c.deref.ensures (c.behind.ensures ∙ ap (λ n. numbers.behind n (plain c.in-If.condition)) c.next-part.ensures) c.seek_stmt.ensures)))
+    (stmt_at c.args.layout.now _ _ _ _ _ _ c.pass-seek.result _ refl c.deref.ensures (c.behind.ensures ∙ ap (λ n. numbers.behind n (plain c.in-If.condition)) c.next-part.ensures)
+    c.seek_stmt.ensures)))
 
 pub seek_stmt-returns-in-IfElse : goal.seek_stmt-returns-in-IfElse
 seek_stmt-returns-in-IfElse t c =
     stmt_known _ _ _ _ _ _ _ (tree_if_else _ _ _ _ _ c.in-IfElse.is)
     (parts c.args.seek _ _ (expr_at c.args.layout.now _ _ (plain c.in-IfElse.condition) c.args.seek _ c.next-part.ensures c.seek_expr-in-IfElse.ensures)
     (one_more c.seek_expr-in-IfElse.result _ _ c.pass-seek-in-IfElse.ensures
-    (parts c.pass-seek-in-IfElse.result _ _ (stmt_at c.args.layout.now _ _ _ _ _ _ c.pass-seek-in-IfElse.result _ refl c.deref-in-IfElse-2.ensures (c.behind-first.ensures ∙ ap (λ n. numbers.behind n (plain c.in-IfElse.condition)) c.next-part.ensures) c.seek_stmt-in-IfElse.ensures)
+    (parts c.pass-seek-in-IfElse.result _ _ (stmt_at c.args.layout.now _ _ _ _ _ _ c.pass-seek-in-IfElse.result _ refl c.deref-in-IfElse-2.ensures
+    (c.behind-first.ensures ∙ ap (λ n. numbers.behind n (plain c.in-IfElse.condition)) c.next-part.ensures) c.seek_stmt-in-IfElse.ensures)
     (one_more c.seek_stmt-in-IfElse.result _ _ c.pass-seek-in-IfElse-2.ensures
     (stmt_at c.args.layout.now _ _ _ _ _ _ c.pass-seek-in-IfElse-2.result _ refl c.deref-in-IfElse-3.ensures
-    (c.behind_stmt-second.ensures ∙ ap₂ (λ n z. numbers.behind_stmt n (typed_stmt z)) (c.behind-first.ensures ∙ ap (λ n. numbers.behind n (plain c.in-IfElse.condition)) c.next-part.ensures) c.deref-in-IfElse.ensures) c.seek_stmt-in-IfElse-2.ensures)))))
+    (c.behind_stmt-second.ensures ∙ ap₂ (λ n z. numbers.behind_stmt n (typed_stmt z))
+    (c.behind-first.ensures ∙ ap (λ n. numbers.behind n (plain c.in-IfElse.condition)) c.next-part.ensures) c.deref-in-IfElse.ensures) c.seek_stmt-in-IfElse-2.ensures)))))
 
 pub seek_stmt-returns-in-While : goal.seek_stmt-returns-in-While
 seek_stmt-returns-in-While t c =
     stmt_known _ _ _ _ _ _ _ (tree_while_loop _ _ _ _ c.in-While.is)
     (parts c.args.seek _ _ (expr_at c.args.layout.now _ _ (plain c.in-While.condition) c.args.seek _ c.next-part.ensures c.seek_expr-in-While.ensures)
     (one_more c.seek_expr-in-While.result _ _ c.pass-seek-in-While.ensures
-    (parts c.pass-seek-in-While.result _ _ (stmt_at c.args.layout.now _ _ _ _ _ _ c.pass-seek-in-While.result _ c.loop_frame.ensures c.deref-in-While.ensures (c.behind-first-in-While.ensures ∙ ap (λ n. numbers.behind n (plain c.in-While.condition)) c.next-part.ensures) c.seek_stmt-seek.ensures)
+    (parts c.pass-seek-in-While.result _ _ (stmt_at c.args.layout.now _ _ _ _ _ _ c.pass-seek-in-While.result _ c.loop_frame.ensures c.deref-in-While.ensures
+    (c.behind-first-in-While.ensures ∙ ap (λ n. numbers.behind n (plain c.in-While.condition)) c.next-part.ensures) c.seek_stmt-seek.ensures)
     (last c.seek_stmt-seek.result _ c.pass.ensures))))
 
 pub seek_stmt-returns-in-Do : goal.seek_stmt-returns-in-Do
@@ -78,17 +84,25 @@ seek_stmt-returns-in-For t c =
     stmt_known _ _ _ _ _ _ _ (tree_for_loop _ _ _ _ _ _ c.in-For.is)
     (parts c.args.seek _ _ (c.seek_effect-seek.ensures ∙ ap (λ n. sought (marks.evaluated_marks c.args.layout.now c.args.node n (option_map plain c.in-For.start)) c.args.seek) c.next-part.ensures)
     (parts c.seek_effect-seek.result _ _
-    (c.seek_tested.ensures ∙ ap (λ n. sought (marks.tested_marks c.args.layout.now c.args.node n (option_map plain c.in-For.condition)) c.seek_effect-seek.result) (c.behind_if-second.ensures ∙ ap (λ n. numbers.behind_if n (option_map plain c.in-For.start)) c.next-part.ensures))
+    (c.seek_tested.ensures ∙ ap (λ n. sought (marks.tested_marks c.args.layout.now c.args.node n (option_map plain c.in-For.condition)) c.seek_effect-seek.result)
+    (c.behind_if-second.ensures ∙ ap (λ n. numbers.behind_if n (option_map plain c.in-For.start)) c.next-part.ensures))
     (one_more c.seek_tested.result _ _ c.pass-seek-in-For.ensures
-    (parts c.pass-seek-in-For.result _ _ (stmt_at c.args.layout.now _ _ _ _ _ _ c.pass-seek-in-For.result _ c.loop_frame-in-For.ensures c.deref-in-For.ensures (c.behind_if-last.ensures ∙ ap (λ n. numbers.behind_if n (option_map plain c.in-For.step)) (c.behind_if-third.ensures ∙ ap (λ n. numbers.behind_if n (option_map plain c.in-For.condition)) (c.behind_if-second.ensures ∙ ap (λ n. numbers.behind_if n (option_map plain c.in-For.start)) c.next-part.ensures))) c.seek_stmt-seek-in-For.ensures)
-    (parts c.seek_stmt-seek-in-For.result _ _ (c.seek_effect.ensures ∙ ap (λ n. sought (marks.evaluated_marks c.args.layout.now c.args.node n (option_map plain c.in-For.step)) c.seek_stmt-seek-in-For.result) (c.behind_if-third.ensures ∙ ap (λ n. numbers.behind_if n (option_map plain c.in-For.condition)) (c.behind_if-second.ensures ∙ ap (λ n. numbers.behind_if n (option_map plain c.in-For.start)) c.next-part.ensures)))
+    (parts c.pass-seek-in-For.result _ _ (stmt_at c.args.layout.now _ _ _ _ _ _ c.pass-seek-in-For.result _ c.loop_frame-in-For.ensures c.deref-in-For.ensures
+    (c.behind_if-last.ensures ∙ ap (λ n. numbers.behind_if n (option_map plain c.in-For.step))
+    (c.behind_if-third.ensures ∙ ap (λ n. numbers.behind_if n (option_map plain c.in-For.condition))
+    (c.behind_if-second.ensures ∙ ap (λ n. numbers.behind_if n (option_map plain c.in-For.start)) c.next-part.ensures))) c.seek_stmt-seek-in-For.ensures)
+    (parts c.seek_stmt-seek-in-For.result _ _ (c.seek_effect.ensures ∙ ap
+    (λ n. sought (marks.evaluated_marks c.args.layout.now c.args.node n (option_map plain c.in-For.step)) c.seek_stmt-seek-in-For.result)
+    (c.behind_if-third.ensures ∙ ap (λ n. numbers.behind_if n (option_map plain c.in-For.condition))
+    (c.behind_if-second.ensures ∙ ap (λ n. numbers.behind_if n (option_map plain c.in-For.start)) c.next-part.ensures)))
     (last c.seek_effect.result _ c.pass-in-For.ensures))))))
 
 pub seek_stmt-returns-in-Switch : goal.seek_stmt-returns-in-Switch
 seek_stmt-returns-in-Switch t c =
     stmt_known _ _ _ _ _ _ _ (tree_switch _ _ _ _ c.in-Switch.is)
     (parts c.args.seek _ _ (expr_at c.args.layout.now _ _ (plain c.in-Switch.value) c.args.seek _ c.next-part.ensures c.seek_expr-seek-in-Switch.ensures)
-    (parts c.seek_expr-seek-in-Switch.result _ _ (c.seek_tests.ensures ∙ ap (λ ys. sought (marks.tests_marks c.args.node (typed_stmts ys)) c.seek_expr-seek-in-Switch.result) c.as_slice-stmts.ensures.value)
+    (parts c.seek_expr-seek-in-Switch.result _ _ (c.seek_tests.ensures ∙ ap (λ ys. sought (marks.tests_marks c.args.node (typed_stmts ys)) c.seek_expr-seek-in-Switch.result)
+    c.as_slice-stmts.ensures.value)
     (one_more c.seek_tests.result _ _ c.pass-seek-in-Switch.ensures
     (parts c.pass-seek-in-Switch.result _ _ (stmts_at c.args.layout.now _ _ _ _ _ _ c.pass-seek-in-Switch.result _ c.switch_frame.ensures c.as_slice-stmts.ensures.value
     (c.behind-first-in-Switch.ensures ∙ ap (λ n. numbers.behind n (plain c.in-Switch.value)) c.next-part.ensures) c.seek_stmts-seek-in-Switch.ensures)

@@ -19,4 +19,5 @@ loop-name-preserved c =
     c.loop-name.invariant
 
 pub returns : goal.returns
-returns c = done (λ ys. sought (marks.names_marks c.args.layout.now c.loop-name.node (typed_names ys)) c.loop-name.seek) _ _ _ _ c.loop-name-test.false (sought_none c.loop-name.seek) c.loop-name.invariant
+returns c = done (λ ys. sought (marks.names_marks c.args.layout.now c.loop-name.node (typed_names ys)) c.loop-name.seek) _ _ _ _ c.loop-name-test.false (sought_none c.loop-name.seek)
+    c.loop-name.invariant

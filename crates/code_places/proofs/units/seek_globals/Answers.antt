@@ -16,4 +16,5 @@ loop-item-preserved c =
     c.loop-item.invariant
 
 pub returns : goal.returns
-returns c = done (λ ys. sought (marks.globals_marks c.args.layout.now c.loop-item.node (typed_items ys)) c.loop-item.seek) _ _ _ _ c.loop-item-test.false (sought_none c.loop-item.seek) c.loop-item.invariant
+returns c = done (λ ys. sought (marks.globals_marks c.args.layout.now c.loop-item.node (typed_items ys)) c.loop-item.seek) _ _ _ _ c.loop-item-test.false (sought_none c.loop-item.seek)
+    c.loop-item.invariant

@@ -9,7 +9,9 @@ use Rattle.emission_rules.specs.Bounds.{weight, all_weight}
 use Rattle.emission_rules.specs.Expressions as code
 use Rattle.codegen_expr.specs.Parts.{plain_home, plain_shortcut}
 use Rattle.codegen_expr.proofs.Nodes.{and_code, arguments_step, assign_code, call_code, captured_code, extended_none, known_code, known_lines, member_read_code, or_code}
-use Rattle.codegen_expr.proofs.Ready.{argument_falls, argument_ready, assign_is_of, assign_parts, at_labels, binary_is_of, binary_parts, call_is_of, call_parts, called_ready, captured_ready, counted, falls_arguments, falls_both, falls_first, falls_one, falls_second, member_is_of, member_parts, name_type, next_left, none_left, plain_ready, postfix_is_of, postfix_parts, prefix_is_of, prefix_parts, ready_few, ready_fits, ready_near, same_ready, short_first, short_second, small_depth}
+use Rattle.codegen_expr.proofs.Ready.{argument_falls, argument_ready, assign_is_of, assign_parts, at_labels, binary_is_of, binary_parts, call_is_of, call_parts, called_ready, captured_ready}
+use Rattle.codegen_expr.proofs.Ready.{counted, falls_arguments, falls_both, falls_first, falls_one, falls_second, member_is_of, member_parts, name_type, next_left, none_left, plain_ready}
+use Rattle.codegen_expr.proofs.Ready.{postfix_is_of, postfix_parts, prefix_is_of, prefix_parts, ready_few, ready_fits, ready_near, same_ready, short_first, short_second, small_depth}
 use Rattle.codegen_expr.proofs.expressions.+emit.Goals as goal
 
 -- ---- from an expression to its node
@@ -268,13 +270,15 @@ arguments-argument-requires t c = (
 
 pub arguments-cells-depth-requires : goal.arguments-cells-depth-requires
 arguments-cells-depth-requires t c =
-    let ready = argument_ready c.args.out.now.labels c.args.layout.now c.args.depth c.args.given.now c.loop-i.i c.index-given-i.result c.loop-i.out.labels c.loop-i.depth c.requires.ready c.loop-i-test.true
+    let ready = argument_ready c.args.out.now.labels c.args.layout.now c.args.depth c.args.given.now c.loop-i.i c.index-given-i.result c.loop-i.out.labels c.loop-i.depth c.requires.ready
+    c.loop-i-test.true
     c.loop-i.invariant.0 c.index-given-i.is (ap (λ (d : LabelledCode). d.labels) c.loop-i.invariant.2) c.loop-i.invariant.1 in
     record { few = omega (arith, ready_few _ _ _ _ _ ready (ap (cells c.args.layout.now.structs) c.ty.ensures.ty)) }
 
 pub arguments-overflow_add-depth : goal.arguments-overflow_add-depth
 arguments-overflow_add-depth t c =
-    let ready = argument_ready c.args.out.now.labels c.args.layout.now c.args.depth c.args.given.now c.loop-i.i c.index-given-i.result c.loop-i.out.labels c.loop-i.depth c.requires.ready c.loop-i-test.true
+    let ready = argument_ready c.args.out.now.labels c.args.layout.now c.args.depth c.args.given.now c.loop-i.i c.index-given-i.result c.loop-i.out.labels c.loop-i.depth c.requires.ready
+    c.loop-i-test.true
     c.loop-i.invariant.0 c.index-given-i.is (ap (λ (d : LabelledCode). d.labels) c.loop-i.invariant.2) c.loop-i.invariant.1 in
     omega (arith, ready_fits _ _ _ _ _ ready (c.cells-depth.ensures.cells ∙ ap (cells c.args.layout.now.structs) c.ty.ensures.ty))
 

@@ -39,7 +39,8 @@ returns-in-Ok-clause-does g c = λ files_tell sink_tells.
     let p = rest_of (cells_of (known_by c.args.hooks.now)) c.args.opened in
     told_whole c.args.to.now (scripts_of c.args.opened.scripts) p (g.F.Files.contents c.args.files.now) (g.F.Files.contents c.tell_end-end.new.files)
     (g.S.Sink.taken c.args.out.now) (g.S.Sink.taken c.play_part.new.out) c.tell_end-end.result (g.S.Sink.taken c.tell_end-end.new.out)
-    (rest_in (seen c.of-setting.result) c.args.opened (known_by c.args.hooks.now) c.of-setting.ensures.setting (λ p. g.S.Sink.taken c.play_part.new.out ≡ g.S.Sink.taken c.args.out.now ++ trace_text p.last.trace) (c.in-Ok.ensures.trace sink_tells))
+    (rest_in (seen c.of-setting.result) c.args.opened (known_by c.args.hooks.now) c.of-setting.ensures.setting
+    (λ p. g.S.Sink.taken c.play_part.new.out ≡ g.S.Sink.taken c.args.out.now ++ trace_text p.last.trace) (c.in-Ok.ensures.trace sink_tells))
     (c.tell_end-end.ensures.does files_tell sink_tells p
     (rest_in (seen c.of-setting.result) c.args.opened (known_by c.args.hooks.now) c.of-setting.ensures.setting (λ p. IsEnding c.in-Ok.played p c.in-Ok.world.world) c.in-Ok.ensures.ending))
 

@@ -47,7 +47,8 @@ returns-in-Ok-clause-does g c = λ files_tell sink_tells.
     (g.F.Files.contents c.save_broken.new.files) (g.S.Sink.taken c.args.out.now) (g.S.Sink.taken c.play_first.new.out) c.save_broken.result
     (g.S.Sink.taken c.save_broken.new.out)
     (first_in (seen c.of-setting.result) c.args.listed.now.scripts.now c.args.header.table (known_by c.args.hooks.now) c.of-setting.ensures.setting c.args.listed.now.plan.now
-    c.args.words.entries (plan_world c.args.area.area c.args.listed.now.plan.now) (λ p. g.S.Sink.taken c.play_first.new.out ≡ g.S.Sink.taken c.args.out.now ++ trace_text p.last.trace) (c.in-Ok.ensures.trace sink_tells))
+    c.args.words.entries (plan_world c.args.area.area c.args.listed.now.plan.now) (λ p. g.S.Sink.taken c.play_first.new.out ≡ g.S.Sink.taken c.args.out.now ++ trace_text p.last.trace)
+    (c.in-Ok.ensures.trace sink_tells))
     (c.save_broken.ensures.does files_tell sink_tells p
     (first_in (seen c.of-setting.result) c.args.listed.now.scripts.now c.args.header.table (known_by c.args.hooks.now) c.of-setting.ensures.setting c.args.listed.now.plan.now
     c.args.words.entries (plan_world c.args.area.area c.args.listed.now.plan.now) (λ p. IsEnding c.in-Ok.played p c.in-Ok.world.world) c.in-Ok.ensures.ending))

@@ -26,7 +26,9 @@ returns c = record {
       let file = c.into_vec.result.items in
       let world = c.args.broken.world.world in
       let played = c.args.broken.played in
-      let f = state_for c.args.header (option_map (λ text. text.items) c.text_of-header.result) c.args.file file c.args.listed.now.plan.now scripts world played c.text_of-header.ensures.text c.into_vec.ensures.items p is in
-      let exact = for_limits (λ v. v.items) (option_map (λ text. text.items) c.text_of-header.result) scripts file played.entries played.instructions world c.put_play.result c.limits_of-limits.ensures.limits c.put_play.ensures.exact in
+      let f = state_for c.args.header (option_map (λ text. text.items) c.text_of-header.result) c.args.file file c.args.listed.now.plan.now scripts world played c.text_of-header.ensures.text
+      c.into_vec.ensures.items p is in
+      let exact = for_limits (λ v. v.items) (option_map (λ text. text.items) c.text_of-header.result) scripts file played.entries played.instructions world c.put_play.result
+      c.limits_of-limits.ensures.limits c.put_play.ensures.exact in
       MatchResult-weaker c.put_play.result exact (λ v. written_for f v.items) (large_for f);
 }

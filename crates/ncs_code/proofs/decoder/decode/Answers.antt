@@ -11,4 +11,5 @@ returns-clause-found c =
 pub returns-clause-only : goal.returns-clause-only
 returns-clause-only c op rest is_op spelled =
     only_answer c.decode_prefix.result _
-    (spelled_answer c.decode_prefix.result _ c.decode_prefix.ensures.is_op c.decode_prefix.ensures.prefix c.decode_prefix.ensures.length) c.decode_prefix.ensures.fault op rest is_op (take_rest c.args.bytes.now c.args.at ∙ spelled)
+    (spelled_answer c.decode_prefix.result _ c.decode_prefix.ensures.is_op c.decode_prefix.ensures.prefix c.decode_prefix.ensures.length) c.decode_prefix.ensures.fault op rest is_op
+    (take_rest c.args.bytes.now c.args.at ∙ spelled)

@@ -24,7 +24,8 @@ loop-line-preserved c =
     c.size_laws.ensures.sizes c.next_line.new.self.read c.put_line.new.out.items c.forget_large.new.body.items c.in-Some-2.added
     c.in-Some.ensures.read c.if-size-stop.false puts few
     (λ h. c.forget_large.ensures (subst (λ n. c.loop-line.size + n ≤ file_limit) (sym c.from-size.ensures) h))
-    in subst (λ n. SoFar c.args.text.now c.next_line.new.self.read c.next_line.new.self.left c.args.stop c.forget_large.new.body.items (c.loop-line.size + n) c.in-Some.line.number) (sym c.from-size.ensures) step
+    in subst (λ n. SoFar c.args.text.now c.next_line.new.self.read c.next_line.new.self.left c.args.stop c.forget_large.new.body.items (c.loop-line.size + n) c.in-Some.line.number)
+    (sym c.from-size.ensures) step
 
 pub returns-clause-passed : goal.returns-clause-passed
 returns-clause-passed c =

@@ -6,7 +6,8 @@ use Rattle.nss_tree.specs.Reading.{plain_expr, plain_exprs}
 use Rattle.nss_tree.specs.Readings.{plain_call, plain_float, plain_member, plain_name, plain_object_invalid, plain_object_self, plain_prefix, plain_postfix, plain_binary, plain_assign}
 use Rattle.typing_rules.specs.Nodes.{asked, kept, two}
 use Rattle.typing_rules.specs.Reading.{plain, plain_all}
-use Rattle.typing_rules.specs.Rules.{call_rows, call_rule, member_rows, member_rule, name_rows, name_rule, prefix_rows, prefix_rule, postfix_rows, postfix_rule, binary_rows, binary_rule, assign_rows, assign_rule}
+use Rattle.typing_rules.specs.Rules.{call_rows, call_rule, member_rows, member_rule, name_rows, name_rule, prefix_rows, prefix_rule, postfix_rows, postfix_rule, binary_rows, binary_rule}
+use Rattle.typing_rules.specs.Rules.{assign_rows, assign_rule}
 use Rattle.typing_rules.specs.Sight.{callee, name_means, types_wanted, wanted}
 use Rattle.typing_rules.specs.Verdicts.{all_faults, all_fine, faults, value, value_faults, verdict}
 use Rattle.nss_expressions.specs.Views.{called_of, heads_in, sight_in}
@@ -160,7 +161,8 @@ call-returns t c =
           (option_map plain_all c.in_ok-xs.xs)
           (all_fine hs s (wanted hs c.args.given.now.table.now c.args.name.now) es)
           (option_map (option_map called_of) c.callee-called.result)
-          (callee hs c.args.given.now.table.now c.args.name.now) c.args.least.now c.arguments.new.least c.judge_call.new.least (all_faults hs s (wanted hs c.args.given.now.table.now c.args.name.now) es)
+          (callee hs c.args.given.now.table.now c.args.name.now) c.args.least.now c.arguments.new.least c.judge_call.new.least
+          (all_faults hs s (wanted hs c.args.given.now.table.now c.args.name.now) es)
           xs named refl (c.in_ok-xs.ensures.least ∙ ap (λ ps. kept c.args.least.now (all_faults hs s ps es)) for_these) c.judge_call.ensures.least;
     }
 

@@ -1,5 +1,6 @@
 use Rattle.std.proofs.Common.{◌∙◌, ap, sym, refl, ◌++◌}
-use Rattle.nss_tree.specs.Readings.{tree_block, tree_break_off, tree_case_label, tree_continue_on, tree_default_label, tree_do_loop, tree_empty, tree_expression, tree_for_loop, tree_if_else, tree_if_only, tree_return_from, tree_switch, tree_while_loop}
+use Rattle.nss_tree.specs.Readings.{tree_block, tree_break_off, tree_case_label, tree_continue_on, tree_default_label, tree_do_loop, tree_empty, tree_expression, tree_for_loop, tree_if_else}
+use Rattle.nss_tree.specs.Readings.{tree_if_only, tree_return_from, tree_switch, tree_while_loop}
 use Rattle.typing_rules.specs.UnitReading.{typed_stmt, typed_stmts}
 use Rattle.emission_rules.specs.Layout as laid
 use Rattle.nss_layout.proofs.Loops.{none_put, one_put, stmts_done, stmts_step, two_put}

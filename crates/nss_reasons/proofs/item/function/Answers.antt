@@ -29,7 +29,8 @@ returns-clause-sight c =
     let begun = c.begin-mark.ensures.begun c.args.given.now.table.now ∙ ap (function_begun s) c.result_type-ty.ensures.typed in
     on_ok c.parts-walked.result
     (λ behind. ap {A = Sight} {B = Sight} (λ z. record z { next = s.next })
-    (c.scopes_are_left.ensures.left c.args.given.now.table.now c.args.c.now c.parts-walked.new.c c.leave.new.self c.begin-mark.result (in_function s t) (after_body (in_body s t c.args.ps.now) body) refl refl refl refl
+    (c.scopes_are_left.ensures.left c.args.given.now.table.now c.args.c.now c.parts-walked.new.c c.leave.new.self c.begin-mark.result (in_function s t)
+    (after_body (in_body s t c.args.ps.now) body) refl refl refl refl
     (function_adds c.scopes_only_add.ensures.parameters c.scopes_only_add.ensures.statements (in_function s t) c.args.ps.now body) c.leave.ensures.left c.begin-mark.ensures.mark
     (behind ∙ ap (λ z. after_body (after_params z c.args.ps.now) body) begun)))
     c.parts-walked.ensures.sight

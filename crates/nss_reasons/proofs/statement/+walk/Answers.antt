@@ -2,7 +2,8 @@ use Rattle.std.proofs.Common.{◌≡◌, ◌∙◌, ◌++◌, ◌+◌, arith, fa
 use Rattle.std.specs.Option.{option_map}
 use Rattle.std.specs.Result.{IfOk, OnOk}
 use Rattle.nss_tree.specs.Reading.{plain_expr, plain_stmt, plain_stmts}
-use Rattle.nss_tree.specs.Readings.{tree_block, tree_break_off, tree_case_label, tree_continue_on, tree_declaration, tree_default_label, tree_do_loop, tree_empty, tree_expression, tree_for_loop, tree_if_else, tree_if_only, tree_return_from, tree_switch, tree_while_loop}
+use Rattle.nss_tree.specs.Readings.{tree_block, tree_break_off, tree_case_label, tree_continue_on, tree_declaration, tree_default_label, tree_do_loop, tree_empty, tree_expression, tree_for_loop}
+use Rattle.nss_tree.specs.Readings.{tree_if_else, tree_if_only, tree_return_from, tree_switch, tree_while_loop}
 use Rattle.nss_tree.specs.Statements as tree
 use Rattle.nss_tree.specs.Statements.{map_stmt, more_stmts, no_stmt}
 use Rattle.typing_rules.specs.Sight.{scope_entered, inside, left, looped, switched}
@@ -300,7 +301,8 @@ block-returns t c =
       found = subst (λ z. OnOk c.statements-walked.result (c.statements-walked.new.found ≡ seen c.args.k c.args.found.now (stmts_nodes hs z xs))) is c.statements-walked.ensures.found;
       sight =
           on_ok c.statements-walked.result
-          (λ behind. c.scopes_are_left.ensures.left c.args.given.now.table.now c.args.sight.now c.statements-walked.new.sight c.leave.new.self c.enter-mark.result (scope_entered s) (afters (scope_entered s) xs)
+          (λ behind. c.scopes_are_left.ensures.left c.args.given.now.table.now c.args.sight.now c.statements-walked.new.sight c.leave.new.self c.enter-mark.result (scope_entered s)
+          (afters (scope_entered s) xs)
           refl refl refl refl (c.scopes_only_add.ensures.statements (scope_entered s) xs) c.leave.ensures.left c.enter-mark.ensures.mark (behind ∙ ap (λ k. afters k xs) is))
           c.statements-walked.ensures.sight;
     }
@@ -376,7 +378,8 @@ switch-returns t c =
           (subst (λ z. OnOk c.statements-walked.result (c.statements-walked.new.found ≡ seen c.args.k c.condition.new.found (stmts_nodes hs z xs))) is c.statements-walked.ensures.found);
       sight =
           on_ok c.statements-walked.result
-          (λ behind. c.scopes_are_left.ensures.left c.args.given.now.table.now c.args.sight.now c.statements-walked.new.sight c.leave.new.self c.enter_switch-mark.result (switched s) (afters (switched s) xs)
+          (λ behind. c.scopes_are_left.ensures.left c.args.given.now.table.now c.args.sight.now c.statements-walked.new.sight c.leave.new.self c.enter_switch-mark.result (switched s)
+          (afters (switched s) xs)
           refl refl refl refl (c.scopes_only_add.ensures.statements (switched s) xs) c.leave.ensures.left c.enter_switch-mark.ensures.mark (behind ∙ ap (λ k. afters k xs) is))
           c.statements-walked.ensures.sight;
     }

@@ -1,6 +1,7 @@
 use Rattle.std.proofs.Common.{◌≡◌, ◌∙◌, true, false, ap, refl, arith, rules}
 use Rattle.typing_rules.specs.UnitReading.{typed_stmt}
-use Rattle.nss_tree.specs.Readings.{tree_break_off, tree_case_label, tree_continue_on, tree_declaration, tree_default_label, tree_do_loop, tree_empty, tree_expression, tree_for_loop, tree_if_else, tree_return_from, tree_switch, tree_while_loop}
+use Rattle.nss_tree.specs.Readings.{tree_break_off, tree_case_label, tree_continue_on, tree_declaration, tree_default_label, tree_do_loop, tree_empty, tree_expression, tree_for_loop}
+use Rattle.nss_tree.specs.Readings.{tree_if_else, tree_return_from, tree_switch, tree_while_loop}
 use Rattle.typing_rules.specs.Returns.{has_break, have_break}
 use Rattle.nss_statements.proofs.ReturnLemmas.{any_end, any_here, any_next, or_else, or_then}
 use Rattle.nss_statements.proofs.returns.+breaks.Goals as goal

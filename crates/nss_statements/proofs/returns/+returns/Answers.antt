@@ -1,6 +1,7 @@
 use Rattle.std.proofs.Common.{◌≡◌, ◌∙◌, true, false, ap, refl, arith, rules, if◌then◌else◌}
 use Rattle.typing_rules.specs.UnitReading.{typed_stmt, typed_stmts}
-use Rattle.nss_tree.specs.Readings.{tree_break_off, tree_case_label, tree_continue_on, tree_declaration, tree_default_label, tree_empty, tree_expression, tree_for_loop, tree_if_else, tree_if_only, tree_return_from, tree_while_loop}
+use Rattle.nss_tree.specs.Readings.{tree_break_off, tree_case_label, tree_continue_on, tree_declaration, tree_default_label, tree_empty, tree_expression, tree_for_loop, tree_if_else}
+use Rattle.nss_tree.specs.Readings.{tree_if_only, tree_return_from, tree_while_loop}
 use Rattle.typing_rules.specs.Returns.{is_statement, returns, some_returns}
 use Rattle.nss_statements.proofs.ReturnLemmas.{and_else, and_then, any_end, any_here, any_next, last_begin, last_end, last_next}
 use Rattle.nss_statements.proofs.returns.+returns.Goals as goal
@@ -71,7 +72,8 @@ last_returns-loop-x-init b c = last_begin (typed_stmts c.args.xs.now)
 
 pub last_returns-loop-x-preserved : goal.last_returns-loop-x-preserved
 last_returns-loop-x-preserved b c =
-    last_next c.args.xs.now c.loop-x.x-index c.x-item.result c.loop-x.last c.next_last-last.result _ c.loop-x-test.true c.x-item.is (c.next_last-last.ensures ∙ ap (λ r. if is_statement (typed_stmt c.x-item.result) then r else c.loop-x.last) c.returns.ensures) c.loop-x.invariant
+    last_next c.args.xs.now c.loop-x.x-index c.x-item.result c.loop-x.last c.next_last-last.result _ c.loop-x-test.true c.x-item.is
+    (c.next_last-last.ensures ∙ ap (λ r. if is_statement (typed_stmt c.x-item.result) then r else c.loop-x.last) c.returns.ensures) c.loop-x.invariant
 
 pub last_returns-returns : goal.last_returns-returns
 last_returns-returns b c = last_end c.args.xs.now c.loop-x.x-index c.loop-x.last _ (omega (arith, c.loop-x-test.false)) c.loop-x.invariant

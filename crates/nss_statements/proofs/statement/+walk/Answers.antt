@@ -3,7 +3,8 @@ use Rattle.std.specs.Option.{option_map}
 use Rattle.std.specs.Result.{IfOk, OnOk}
 use Rattle.std.proofs.lemmas.Result.{IfOk-from_err}
 use Rattle.nss_tree.specs.Reading.{plain_expr, plain_stmt, plain_stmts}
-use Rattle.nss_tree.specs.Readings.{tree_block, tree_break_off, tree_case_label, tree_continue_on, tree_declaration, tree_default_label, tree_do_loop, tree_empty, tree_expression, tree_for_loop, tree_if_else, tree_if_only, tree_return_from, tree_switch, tree_while_loop}
+use Rattle.nss_tree.specs.Readings.{tree_block, tree_break_off, tree_case_label, tree_continue_on, tree_declaration, tree_default_label, tree_do_loop, tree_empty, tree_expression, tree_for_loop}
+use Rattle.nss_tree.specs.Readings.{tree_if_else, tree_if_only, tree_return_from, tree_switch, tree_while_loop}
 use Rattle.nss_tree.specs.Statements as tree
 use Rattle.nss_tree.specs.Statements.{map_stmt, more_stmts, no_stmt}
 use Rattle.typing_rules.specs.Nodes.{asked, at, faults_there, fine, four, if_there, kept, passed, three, two}
@@ -365,7 +366,8 @@ if_else-returns-in-Ok-in_branch t c =
           (option_map plain c.in_ok-condition.condition) (value hs s e) (option_map typed_stmt c.in-Ok.then)
           (fine (stmt_verdict hs (inside s) a)) (option_map typed_stmt c.in-Ok-in_branch.otherwise)
           (fine (stmt_verdict hs (inside between) b))
-          c.args.least.now c.expression.new.least c.in_branch.new.least c.in_branch-in-Ok.new.least c.judge_if_else.new.least (value_faults hs s e) (stmt_faults hs (inside s) a) (stmt_faults hs (inside between) b)
+          c.args.least.now c.expression.new.least c.in_branch.new.least c.in_branch-in-Ok.new.least c.judge_if_else.new.least (value_faults hs s e) (stmt_faults hs (inside s) a)
+          (stmt_faults hs (inside between) b)
           c.in_ok-condition.ensures.value c.in-Ok.ensures.value
           (c.in-Ok-in_branch.ensures.value
           ∙ ap (λ k. fine (stmt_verdict hs
@@ -483,7 +485,8 @@ statements-loop-one-init t c =
 pub statements-loop-one-preserved : goal.statements-loop-one-preserved
 statements-loop-one-preserved t c = (
   row_value (stmt_laws (heads_in c.args.given.now)) c.args.statements.now c.loop-one.one-index _ c.one-item.result c.loop-one-test.true c.one-item.is (sight_in c.args.given.now c.loop-one.sight)
-      (sight_in c.args.given.now c.statement.new.sight) c.in_ok-typed.ensures.sight c.loop-one.all c.in_ok-all.all c.in_ok-typed.typed _ c.in_ok-typed.ensures.value c.in_ok-all.ensures.row c.loop-one.invariant.0,
+      (sight_in c.args.given.now c.statement.new.sight) c.in_ok-typed.ensures.sight c.loop-one.all c.in_ok-all.all c.in_ok-typed.typed _ c.in_ok-typed.ensures.value c.in_ok-all.ensures.row
+      c.loop-one.invariant.0,
   row_least (stmt_laws (heads_in c.args.given.now)) c.args.statements.now c.loop-one.one-index _ c.one-item.result c.loop-one-test.true c.one-item.is (sight_in c.args.given.now c.loop-one.sight)
       (sight_in c.args.given.now c.statement.new.sight) c.in_ok-typed.ensures.sight c.loop-one.least c.statement.new.least _ c.in_ok-typed.ensures.least c.loop-one.invariant.1,
   row_sight (stmt_laws (heads_in c.args.given.now)) c.args.statements.now c.loop-one.one-index _ c.one-item.result c.loop-one-test.true c.one-item.is (sight_in c.args.given.now c.loop-one.sight)

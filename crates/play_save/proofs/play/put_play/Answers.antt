@@ -13,8 +13,10 @@ use Rattle.play_save.proofs.play.put_play.Goals as goal
 pub returns : goal.returns
 returns c =
     let f = λ (s : Parts)
-    (kept : IsKept (option_map (λ text. text.items) c.args.header) c.args.scripts.now c.as_slice-file.result.now (limits_in c.args.limits) c.args.taken c.args.done (put_together c.in-Ok.objects c.in-Ok.saved) s).
-    kept_state s (option_map (λ text. text.items) c.args.header) c.args.scripts.now c.as_slice-file.result.now c.args.area.items (limits_in c.args.limits) c.args.taken c.args.done c.args.world.world c.in-Ok.objects
+    (kept : IsKept (option_map (λ text. text.items) c.args.header) c.args.scripts.now c.as_slice-file.result.now (limits_in c.args.limits) c.args.taken c.args.done
+    (put_together c.in-Ok.objects c.in-Ok.saved) s).
+    kept_state s (option_map (λ text. text.items) c.args.header) c.args.scripts.now c.as_slice-file.result.now c.args.area.items (limits_in c.args.limits) c.args.taken c.args.done
+    c.args.world.world c.in-Ok.objects
     c.in-Ok.saved (record { header = c.one_header.ensures.one; spellings = c.spelling_laws.ensures.spelling; fits = c.fits_too.ensures.fits }) c.as_slice-file.ensures.value kept
     (within c.args.limits) c.requires.listed c.requires.rests c.requires.come c.keeps-in-Ok.ensures.keeps c.keeps.ensures.kept c.in-Ok.ensures.parts in
     record { exact = MatchResult-weaker c.saved_bytes.result c.saved_bytes.ensures.exact (λ v. written_so f v.items) (large_so f) }

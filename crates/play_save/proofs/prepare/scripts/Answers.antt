@@ -12,5 +12,6 @@ returns-in-Err-test_scripts-clause-broken c =
 
 pub returns-in-Ok-test_scripts-clause-scripts : goal.returns-in-Ok-test_scripts-clause-scripts
 returns-in-Ok-test_scripts-clause-scripts c =
-    scripts_kept c.args.table.now c.args.parts.now c.split_at.result.0.now c.split_at.result.1.now c.in-Ok.kept c.min.result (omega (arith, c.min.ensures)) c.split_at.ensures.front c.split_at.ensures.back
+    scripts_kept c.args.table.now c.args.parts.now c.split_at.result.0.now c.split_at.result.1.now c.in-Ok.kept c.min.result (omega (arith, c.min.ensures)) c.split_at.ensures.front
+    c.split_at.ensures.back
     c.in-Ok.ensures.scripts c.in-Ok-test_scripts.ensures.sound

@@ -7,7 +7,8 @@ pub returns-then-not-branch : goal.returns-then-not-branch
 returns-then-not-branch c = record {
   kept = (
     refl,
-    items_untested c.args.parts.now c.args.prepared.now c.as_slice.result.now c.in_ok-objects_fit.field-0 (holds_scripts c.args.parts.now c.args.prepared.now c.requires.prepared c.requires.few) c.as_slice.ensures.items
+    items_untested c.args.parts.now c.args.prepared.now c.as_slice.result.now c.in_ok-objects_fit.field-0
+        (holds_scripts c.args.parts.now c.args.prepared.now c.requires.prepared c.requires.few) c.as_slice.ensures.items
         c.in_ok-objects_fit.ensures.test (search rules),
   );
 }
@@ -16,7 +17,8 @@ pub returns-then-not-branch-2 : goal.returns-then-not-branch-2
 returns-then-not-branch-2 c = record {
   kept = (
     refl,
-    entries_untested c.args.parts.now c.args.prepared.now c.as_slice-2.result.now c.in_ok-entries_fit.field-0 (holds_scripts c.args.parts.now c.args.prepared.now c.requires.prepared c.requires.few) c.as_slice-2.ensures.items
+    entries_untested c.args.parts.now c.args.prepared.now c.as_slice-2.result.now c.in_ok-entries_fit.field-0
+        (holds_scripts c.args.parts.now c.args.prepared.now c.requires.prepared c.requires.few) c.as_slice-2.ensures.items
         c.in_ok-entries_fit.ensures.test (search rules),
   );
 }
@@ -24,6 +26,7 @@ returns-then-not-branch-2 c = record {
 pub returns : goal.returns
 returns c = record {
   kept = states_tested c.args.parts.now c.args.prepared.now c.as_slice.result.now c.as_slice-2.result.now c.in_ok-objects_fit.field-0 c.in_ok-entries_fit.field-0
-      (record { header = c.one_header.ensures.one; spellings = c.spelling_laws.ensures.spelling; fits = c.fits_too.ensures.fits }) (holds_scripts c.args.parts.now c.args.prepared.now c.requires.prepared c.requires.few) c.as_slice.ensures.items
+      (record { header = c.one_header.ensures.one; spellings = c.spelling_laws.ensures.spelling; fits = c.fits_too.ensures.fits })
+      (holds_scripts c.args.parts.now c.args.prepared.now c.requires.prepared c.requires.few) c.as_slice.ensures.items
       c.as_slice-2.ensures.items c.in_ok-objects_fit.ensures.test c.in_ok-entries_fit.ensures.test (search rules) (search rules);
 }

@@ -9,4 +9,5 @@ things-requires c = record { short = test_at has_short_items c.args.parts.now c.
 
 pub loop-part-preserved : goal.loop-part-preserved
 loop-part-preserved c =
-    map_more things_of c.args.parts.now c.loop-part.part-index c.part-item.result _ c.loop-part.all c.push.new.self c.loop-part.invariant c.in_ok-push.ensures.ok c.in_ok-kept.ensures.tells c.loop-part-test.true c.part-item.is
+    map_more things_of c.args.parts.now c.loop-part.part-index c.part-item.result _ c.loop-part.all c.push.new.self c.loop-part.invariant c.in_ok-push.ensures.ok c.in_ok-kept.ensures.tells
+    c.loop-part-test.true c.part-item.is

@@ -8,4 +8,5 @@ item-requires c = record { short = test_at is_short_item c.args.parts.now c.loop
 
 pub loop-part-preserved : goal.loop-part-preserved
 loop-part-preserved c =
-    queue_more item_of c.args.busy c.args.parts.now c.loop-part.part-index c.part-item.result _ c.loop-part.queue c.append.new.self c.loop-part.invariant c.in_ok-append.ensures.ok c.in_ok-next.ensures.tells c.loop-part-test.true c.part-item.is
+    queue_more item_of c.args.busy c.args.parts.now c.loop-part.part-index c.part-item.result _ c.loop-part.queue c.append.new.self c.loop-part.invariant c.in_ok-append.ensures.ok
+    c.in_ok-next.ensures.tells c.loop-part-test.true c.part-item.is

@@ -9,4 +9,5 @@ value-requires c = record { short = test_at is_short_cell c.args.parts.now c.loo
 
 pub loop-part-preserved : goal.loop-part-preserved
 loop-part-preserved c =
-    map_more cell_of c.args.parts.now c.loop-part.part-index c.part-item.result _ c.loop-part.all c.push.new.self c.loop-part.invariant c.in_ok-push.ensures.ok c.in_ok-held.ensures.tells c.loop-part-test.true c.part-item.is
+    map_more cell_of c.args.parts.now c.loop-part.part-index c.part-item.result _ c.loop-part.all c.push.new.self c.loop-part.invariant c.in_ok-push.ensures.ok c.in_ok-held.ensures.tells
+    c.loop-part-test.true c.part-item.is

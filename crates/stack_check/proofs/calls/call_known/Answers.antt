@@ -20,9 +20,11 @@ begins-requires-clause-inside c = callee_in c.args.judged.now.table.now c.args.j
 
 pub returns-then-not-branch : goal.returns-then-not-branch
 returns-then-not-branch c = record {
-  sees = subst (λ (h : Heap). Sees c.args.judged.now.table.now c.args.judged.now.code.now c.args.heap.now h c.args.facts.now c.args.facts.now c.args.at.from.trial c.args.at.from.place c.args.at.from.held _)
+  sees = subst (λ (h : Heap). Sees c.args.judged.now.table.now c.args.judged.now.code.now c.args.heap.now h c.args.facts.now c.args.facts.now c.args.at.from.trial c.args.at.from.place
+      c.args.at.from.held _)
       (sym c.in_ok-begins.ensures.same)
-      (sees_other c.args.judged.now.table.now c.args.judged.now.code.now c.args.heap.now c.args.facts.now c.args.at.from.trial c.args.at.from.place c.requires.op.offset c.args.at.from.held c.args.callee c.requires.keeps
+      (sees_other c.args.judged.now.table.now c.args.judged.now.code.now c.args.heap.now c.args.facts.now c.args.at.from.trial c.args.at.from.place c.requires.op.offset c.args.at.from.held
+      c.args.callee c.requires.keeps
       c.requires.row c.requires.op.stands (subst (λ t. Calls c.args.facts.now t c.args.callee) (sym c.requires.op.leads) c.requires.calls) (iff_false c.in_ok-begins.ensures.begins (search rules)));
   waits = tt;
   few = adds_calls_none c.args.todo.now 3;
@@ -44,16 +46,21 @@ see-requires-clause-looks c =
 pub see-requires-clause-owed : goal.see-requires-clause-owed
 see-requires-clause-owed c =
     subst (λ r. LooksOwed c.args.judged.now.table.now c.args.judged.now.code.now c.begins.new.heap c.args.facts.now c.args.at.from.trial c.args.at.from.place r) (sym c.window.ensures)
-    (subst (λ (h : Heap). LooksOwed c.args.judged.now.table.now c.args.judged.now.code.now h c.args.facts.now c.args.at.from.trial c.args.at.from.place (window h c.args.callee)) (sym c.in_ok-begins.ensures.same)
-    (looks_there c.args.judged.now.table.now c.args.judged.now.code.now c.args.heap.now c.args.facts.now c.args.at.from.trial c.args.at.from.place c.requires.op.offset c.args.callee c.requires.keeps c.requires.op.stands (subst (λ t. Calls c.args.facts.now t c.args.callee) (sym c.requires.op.leads) c.requires.calls)))
+    (subst (λ (h : Heap). LooksOwed c.args.judged.now.table.now c.args.judged.now.code.now h c.args.facts.now c.args.at.from.trial c.args.at.from.place (window h c.args.callee))
+    (sym c.in_ok-begins.ensures.same)
+    (looks_there c.args.judged.now.table.now c.args.judged.now.code.now c.args.heap.now c.args.facts.now c.args.at.from.trial c.args.at.from.place c.requires.op.offset c.args.callee
+    c.requires.keeps c.requires.op.stands (subst (λ t. Calls c.args.facts.now t c.args.callee) (sym c.requires.op.leads) c.requires.calls)))
 
 pub returns-in-None : goal.returns-in-None
 returns-in-None c =
     let w = c.in_ok-see.ensures.within (search rules) in record {
-      sees = subst (λ (f : Facts). Sees c.args.judged.now.table.now c.args.judged.now.code.now c.args.heap.now c.begins.new.heap c.args.facts.now f c.args.at.from.trial c.args.at.from.place c.args.at.from.held _) (sym w.0)
-          (subst (λ (h : Heap). Sees c.args.judged.now.table.now c.args.judged.now.code.now c.args.heap.now h c.args.facts.now c.args.facts.now c.args.at.from.trial c.args.at.from.place c.args.at.from.held _)
+      sees = subst (λ (f : Facts). Sees c.args.judged.now.table.now c.args.judged.now.code.now c.args.heap.now c.begins.new.heap c.args.facts.now f c.args.at.from.trial c.args.at.from.place
+          c.args.at.from.held _) (sym w.0)
+          (subst (λ (h : Heap). Sees c.args.judged.now.table.now c.args.judged.now.code.now c.args.heap.now h c.args.facts.now c.args.facts.now c.args.at.from.trial c.args.at.from.place
+          c.args.at.from.held _)
           (sym c.in_ok-begins.ensures.same)
-          (sees_none c.args.judged.now.table.now c.args.judged.now.code.now c.args.heap.now c.args.facts.now c.args.at.from.trial c.args.at.from.place c.requires.op.offset c.args.at.from.held c.args.callee c.requires.keeps
+          (sees_none c.args.judged.now.table.now c.args.judged.now.code.now c.args.heap.now c.args.facts.now c.args.at.from.trial c.args.at.from.place c.requires.op.offset
+          c.args.at.from.held c.args.callee c.requires.keeps
           c.requires.op.stands (subst (λ t. Calls c.args.facts.now t c.args.callee) (sym c.requires.op.leads) c.requires.calls) c.in-None.is (c.in_ok-begins.ensures.begins.0 (search rules))
           (subst (λ (h : Heap). Within h c.args.facts.now c.args.at.from.trial (shape_of h c.args.at.from.held) (window h c.args.callee)) c.in_ok-begins.ensures.same
           (subst (λ r. Within c.begins.new.heap c.args.facts.now c.args.at.from.trial (shape_of c.begins.new.heap c.args.at.from.held) r) c.window.ensures w.1))));

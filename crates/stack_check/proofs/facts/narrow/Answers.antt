@@ -10,7 +10,8 @@ returns-clause-keeps c =
 
 pub returns-clause-takes : goal.returns-clause-takes
 returns-clause-takes c =
-    narrow_more c.args.judged.now.table.now c.args.judged.now.code.now c.args.heap.now c.args.facts.now _ c.args.number c.args.trial _ c.args.unseen c.requires.keeps c.requires.trial c.requires.less refl
+    narrow_more c.args.judged.now.table.now c.args.judged.now.code.now c.args.heap.now c.args.facts.now _ c.args.number c.args.trial _ c.args.unseen c.requires.keeps c.requires.trial
+    c.requires.less refl
     (ap (λ trials. record c.args.facts.now { trials = trials }) c.set.ensures.set)
 
 pub returns-clause-set : goal.returns-clause-set

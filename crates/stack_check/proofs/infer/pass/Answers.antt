@@ -18,7 +18,8 @@ rows-preserved c = (
 
 pub returns-in-None : goal.returns-in-None
 returns-in-None c = record {
-  sees = all_done c.rows_are_numbered.ensures.numbered c.args.judged.now.table.now c.args.judged.now.code.now c.args.heap.now c.rows.heap c.args.facts.now c.rows.facts c.rows.number c.rows.invariant.0 c.in-None.ensures.row;
+  sees = all_done c.rows_are_numbered.ensures.numbered c.args.judged.now.table.now c.args.judged.now.code.now c.args.heap.now c.rows.heap c.args.facts.now c.rows.facts c.rows.number
+      c.rows.invariant.0 c.in-None.ensures.row;
   looks = row_counts_all c.args.todo.now c.rows.todo c.args.facts.now c.rows.facts c.args.looks.now c.rows.looks c.rows.number c.rows.invariant.1
       c.rows.invariant.0.same c.in-None.ensures.row;
 }

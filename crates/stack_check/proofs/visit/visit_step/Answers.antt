@@ -34,21 +34,26 @@ see-requires-clause-keeps c =
 pub see-requires-clause-looks : goal.see-requires-clause-looks
 see-requires-clause-looks c =
     subst (λ r. IsThere (shape_of c.step.new.heap c.args.at.now.from.held) r) (sym c.reach_of-reach.ensures.reach)
-    (step_there c.rules_look_no_deeper.ensures.there c.args.judged.now.table.now c.args.judged.now.code.now c.args.heap.now c.step.new.heap c.args.facts.now c.args.at.now.from.trial c.args.at.now.from.place c.args.at.now.from.held
+    (step_there c.rules_look_no_deeper.ensures.there c.args.judged.now.table.now c.args.judged.now.code.now c.args.heap.now c.step.new.heap c.args.facts.now c.args.at.now.from.trial
+    c.args.at.now.from.place c.args.at.now.from.held
     c.in-Some.after (plain c.args.at.now.op.now) c.requires.keeps c.requires.row
     (subst (λ o. AfterStep c.args.heap.now c.step.new.heap o (rule c.args.judged.now.table.now (plain c.args.at.now.op.now) (shape_of c.args.heap.now c.args.at.now.from.held))) c.in-Some.is
     c.in_ok-step.ensures.after))
 
 pub see-requires-clause-owed : goal.see-requires-clause-owed
 see-requires-clause-owed c =
-    subst (λ r. LooksOwed c.args.judged.now.table.now c.args.judged.now.code.now c.step.new.heap c.args.facts.now c.args.at.now.from.trial c.args.at.now.from.place r) (sym c.reach_of-reach.ensures.reach)
-    (looks_owed c.rules_look_no_deeper.ensures.there c.args.judged.now.table.now c.args.judged.now.code.now c.step.new.heap c.args.facts.now c.args.at.now.from.trial c.args.at.now.from.place (plain c.args.at.now.op.now) c.requires.op c.requires.one)
+    subst (λ r. LooksOwed c.args.judged.now.table.now c.args.judged.now.code.now c.step.new.heap c.args.facts.now c.args.at.now.from.trial c.args.at.now.from.place r)
+    (sym c.reach_of-reach.ensures.reach)
+    (looks_owed c.rules_look_no_deeper.ensures.there c.args.judged.now.table.now c.args.judged.now.code.now c.step.new.heap c.args.facts.now c.args.at.now.from.trial c.args.at.now.from.place
+    (plain c.args.at.now.op.now) c.requires.op c.requires.one)
 
 pub lead-requires-clause-step : goal.lead-requires-clause-step
 lead-requires-clause-step c =
     let w = c.in_ok-see-in-Some.ensures.within (search rules) in
-    subst (λ (f : Facts). IsStep c.args.judged.now.table.now c.args.judged.now.code.now c.step.new.heap f c.args.at.now.from.trial c.args.at.now.from.place c.args.at.now.from.held (plain c.args.at.now.op.now) c.in-Some.after) (sym w.0)
-    (step_is c.rules_look_from_the_top.ensures.rules c.rules_look_no_deeper.ensures.deep c.args.judged.now.table.now c.args.judged.now.code.now c.args.heap.now c.step.new.heap c.args.facts.now c.args.at.now.from.trial
+    subst (λ (f : Facts). IsStep c.args.judged.now.table.now c.args.judged.now.code.now c.step.new.heap f c.args.at.now.from.trial c.args.at.now.from.place c.args.at.now.from.held
+    (plain c.args.at.now.op.now) c.in-Some.after) (sym w.0)
+    (step_is c.rules_look_from_the_top.ensures.rules c.rules_look_no_deeper.ensures.deep c.args.judged.now.table.now c.args.judged.now.code.now c.args.heap.now c.step.new.heap
+    c.args.facts.now c.args.at.now.from.trial
     c.args.at.now.from.place c.args.at.now.from.held c.in-Some.after (plain c.args.at.now.op.now) c.requires.keeps c.requires.row c.requires.op c.requires.one
     (subst (λ o. AfterStep c.args.heap.now c.step.new.heap o (rule c.args.judged.now.table.now (plain c.args.at.now.op.now) (shape_of c.args.heap.now c.args.at.now.from.held))) c.in-Some.is
     c.in_ok-step.ensures.after)
@@ -57,7 +62,8 @@ lead-requires-clause-step c =
 pub returns-in_ok-seen-in-Some : goal.returns-in_ok-seen-in-Some
 returns-in_ok-seen-in-Some c =
     let w = c.in_ok-see-in-Some.ensures.within (search rules) in record {
-      sees = step_sees c.rules_look_from_the_top.ensures.rules c.rules_look_no_deeper.ensures.deep c.args.judged.now.table.now c.args.judged.now.code.now c.args.heap.now c.step.new.heap c.args.facts.now
+      sees = step_sees c.rules_look_from_the_top.ensures.rules c.rules_look_no_deeper.ensures.deep c.args.judged.now.table.now c.args.judged.now.code.now c.args.heap.now c.step.new.heap
+          c.args.facts.now
           c.lead.new.facts c.args.at.now.from.trial c.args.at.now.from.place c.args.at.now.from.held c.in-Some.after (plain c.args.at.now.op.now) c.leads_of-leads.result
           c.in_ok-seen-in-Some.seen c.requires.keeps c.requires.row c.requires.op c.requires.one
           (subst (λ o. AfterStep c.args.heap.now c.step.new.heap o (rule c.args.judged.now.table.now (plain c.args.at.now.op.now) (shape_of c.args.heap.now c.args.at.now.from.held))) c.in-Some.is

@@ -51,7 +51,8 @@ returns-in_ok-seen-in-Quiet c = record {
       (subst (λ (s : Seen). SeesStep c.args.judged.now.table.now c.args.judged.now.code.now c.args.heap.now c.visit_step.new.heap c.args.facts.now c.visit_step.new.facts
       c.args.at.now.from.trial c.args.at.now.from.place c.args.at.now.from.held (plain c.args.at.now.op.now) s) c.in-Quiet.is c.in_ok-first.ensures.sees)
       c.in_ok-seen-in-Quiet.ensures.keeps c.in_ok-seen-in-Quiet.ensures.quiet c.in_ok-seen-in-Quiet.ensures.takes;
-  waits = waits_then c.args.todo.now c.visit_step.new.todo c.resume.new.todo c.in_ok-first.first c.in_ok-seen-in-Quiet.seen c.in_ok-first.ensures.waits c.in-Quiet.is c.in_ok-seen-in-Quiet.ensures.waits;
+  waits = waits_then c.args.todo.now c.visit_step.new.todo c.resume.new.todo c.in_ok-first.first c.in_ok-seen-in-Quiet.seen c.in_ok-first.ensures.waits c.in-Quiet.is
+      c.in_ok-seen-in-Quiet.ensures.waits;
   few = adds_calls_then c.args.todo.now c.visit_step.new.todo c.resume.new.todo 2 1 c.in_ok-first.ensures.few c.in_ok-seen-in-Quiet.ensures.few;
   hands = hands_then c.args.facts.now c.visit_step.new.facts c.resume.new.facts c.args.todo.now c.visit_step.new.todo c.resume.new.todo
       c.in_ok-first.ensures.hands c.in_ok-seen-in-Quiet.ensures.hands;

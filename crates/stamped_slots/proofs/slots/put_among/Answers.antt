@@ -8,14 +8,16 @@ pub returns-then-is_of-clause-ok : goal.returns-then-is_of-clause-ok
 returns-then-is_of-clause-ok g c =
     let slots = c.args.slots.now.items in
     let here : has_stamp c.args.stamp (below c.args.stamp slots) slots ≡ true = sym (ap (λ k. has_stamp c.args.stamp k slots) c.below-at.ensures.place) ∙ sym c.is_of.ensures.test ∙ c.if-is_of.true in
-    (kept_filled c.args.live c.args.stamp _ c.args.item slots c.exchange.new.slots.items c.requires.kept here c.requires.new (c.exchange.ensures.now ∙ ap (λ k. written k (Some c.args.item) slots) c.below-at.ensures.place) c.requires.some _
+    (kept_filled c.args.live c.args.stamp _ c.args.item slots c.exchange.new.slots.items c.requires.kept here c.requires.new
+    (c.exchange.ensures.now ∙ ap (λ k. written k (Some c.args.item) slots) c.below-at.ensures.place) c.requires.some _
     (deque_capacity c.exchange.new.slots) refl).0
 
 pub returns-then-is_of-clause-kept : goal.returns-then-is_of-clause-kept
 returns-then-is_of-clause-kept g c =
     let slots = c.args.slots.now.items in
     let here : has_stamp c.args.stamp (below c.args.stamp slots) slots ≡ true = sym (ap (λ k. has_stamp c.args.stamp k slots) c.below-at.ensures.place) ∙ sym c.is_of.ensures.test ∙ c.if-is_of.true in
-    (kept_filled c.args.live c.args.stamp _ c.args.item slots c.exchange.new.slots.items c.requires.kept here c.requires.new (c.exchange.ensures.now ∙ ap (λ k. written k (Some c.args.item) slots) c.below-at.ensures.place) c.requires.some _
+    (kept_filled c.args.live c.args.stamp _ c.args.item slots c.exchange.new.slots.items c.requires.kept here c.requires.new
+    (c.exchange.ensures.now ∙ ap (λ k. written k (Some c.args.item) slots) c.below-at.ensures.place) c.requires.some _
     (deque_capacity c.exchange.new.slots) refl).1
 
 pub returns-in-Ok-clause-ok : goal.returns-in-Ok-clause-ok

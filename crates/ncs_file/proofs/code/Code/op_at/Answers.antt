@@ -10,15 +10,18 @@ returns-then-not-is_marked c = record {
 
 pub decode-requires-clause-inside : goal.decode-requires-clause-inside
 decode-requires-clause-inside c =
-    (one_there c.size_laws.ensures.sizes c.place_laws.ensures.places _ _ _ _ _ _ _ _ c.self.invariant c.self.view_is c.as_slice-2.ensures.value c.as_slice.ensures.value c.is_marked.ensures c.if-not-is_marked.false).inside
+    (one_there c.size_laws.ensures.sizes c.place_laws.ensures.places _ _ _ _ _ _ _ _ c.self.invariant c.self.view_is c.as_slice-2.ensures.value c.as_slice.ensures.value c.is_marked.ensures
+    c.if-not-is_marked.false).inside
 
 pub unreachable-requires : goal.unreachable-requires
 unreachable-requires c =
-    let there = one_there c.size_laws.ensures.sizes c.place_laws.ensures.places _ _ _ _ _ _ _ _ c.self.invariant c.self.view_is c.as_slice-2.ensures.value c.as_slice.ensures.value c.is_marked.ensures c.if-not-is_marked.false in
+    let there = one_there c.size_laws.ensures.sizes c.place_laws.ensures.places _ _ _ _ _ _ _ _ c.self.invariant c.self.view_is c.as_slice-2.ensures.value c.as_slice.ensures.value
+    c.is_marked.ensures c.if-not-is_marked.false in
     c.in-Err.ensures.only there.op there.rest there.is_op there.prefix
 
 pub returns : goal.returns
 returns c =
-    let there = one_there c.size_laws.ensures.sizes c.place_laws.ensures.places _ _ _ _ _ _ _ _ c.self.invariant c.self.view_is c.as_slice-2.ensures.value c.as_slice.ensures.value c.is_marked.ensures c.if-not-is_marked.false in
+    let there = one_there c.size_laws.ensures.sizes c.place_laws.ensures.places _ _ _ _ _ _ _ _ c.self.invariant c.self.view_is c.as_slice-2.ensures.value c.as_slice.ensures.value
+    c.is_marked.ensures c.if-not-is_marked.false in
     let found = c.in-Ok.ensures.only there.op there.rest there.is_op there.prefix in
     record { op = (there.is ∙ ap Some (sym found.0), found.1 ∙ ap op_size (sym found.0)) }

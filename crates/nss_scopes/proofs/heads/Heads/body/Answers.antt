@@ -4,7 +4,8 @@ use Rattle.nss_scopes.proofs.heads.Heads.body.Goals as goal
 
 pub overflow_cast-result : goal.overflow_cast-result
 overflow_cast-result c =
-    let below = number_below c.args.name.now c.self.inside.all.items c.self.inside.places c.self.inside.bodies c.args.self.now c.self.invariant c.self.view_is c.in-Some.number c.in-Some.ensures.first in
+    let below = number_below c.args.name.now c.self.inside.all.items c.self.inside.places c.self.inside.bodies c.args.self.now c.self.invariant c.self.view_is c.in-Some.number
+    c.in-Some.ensures.first in
     search (rules, below)
 
 pub returns-in-Some : goal.returns-in-Some
