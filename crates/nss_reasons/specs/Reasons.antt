@@ -16,7 +16,7 @@ use Rattle.typing_rules.specs.Sight.{Head, Sight, Structure, Is, start, type_mea
 use Rattle.typing_rules.specs.Rules.{variable_rule, constant_name_rule, return_rule, case_rule, parameter_rule}
 use Rattle.typing_rules.specs.Verdicts.{value, constant_value, constant_parts, line_type, after, after_then, after_item, in_function, in_body, parameter_declared, late_after, heads}
 use Rattle.expression_reasons.specs.declared.reason.Reason.{Reason}
-use Rattle.expression_reasons.specs.Reasons.{nodes_there, value_nodes}
+use Rattle.expression_reasons.specs.Reasons.{condition_nodes, nodes_there, value_nodes}
 use Rattle.expression_reasons.specs.Seen.{Node, own, seen}
 use Rattle.expression_reasons.specs.Why.{because, return_reason}
 use Rattle.nss_reasons.specs.Why.{case_reason, variable_reason, constant_reason, parameter_reason, line_why, constant_line_why}
