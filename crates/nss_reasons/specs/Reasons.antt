@@ -4,7 +4,7 @@
 use Rattle.std.specs.Prelude.{ℕ, Bool, false, List, [], ◌∷◌, ◌++◌, Option, None, Some}
 use Rattle.nss_tree.specs.declared.constants.Constant.{Constant}
 use Rattle.nss_tree.specs.declared.constants.TypeName.{TypeName}
-use Rattle.nss_tree.specs.Expressions.{PlainExpr, name}
+use Rattle.nss_tree.specs.Expressions.{PlainExpr}
 use Rattle.nss_tree.specs.Statements.{block, empty, expression, if_only, if_else, while_loop, do_loop, for_loop, switch, break_off, continue_on, return_from, declaration, case_label, default_label, no_stmt, more_stmts}
 use Rattle.nss_tree.specs.Units.{structure, constant, global, function}
 use Rattle.nss_tree.specs.Source.{SourceDeclared, SourceStmt, SourceStmts, SourceItem, SourceTree, SourceLine, SourceParameter}
