@@ -1,14 +1,13 @@
 -- What is to run at one time, as entries.
-use Rattle.std.proofs.Common.{◌≡◌, ◌≢◌, ◌∷◌, [], ℕ, zero, suc, Bool, true, false, List, length, Option, Some, None, slice_get, refl, sym, ap, subst, ◌∙◌, arith}
+use Rattle.std.proofs.Common.{◌≡◌, ◌≢◌, ◌∷◌, [], ℕ, suc, Bool, true, false, List, length, Option, Some, None, slice_get, refl, sym, ap, ◌∙◌, arith}
 use Rattle.std.specs.Prelude.{nat_eq, nat_lt, if◌then◌else◌, MatchBool}
-use Rattle.std.specs.Option.{option_map}
 use Rattle.std.proofs.lemmas.Bool.Decides.{nat_tests}
 use Rattle.std.proofs.lemmas.Bool.{eqb-true, eq-eqb}
 use Rattle.stamped_slots.specs.Stamps.{at, put, without}
 use Rattle.delay_agenda.specs.declared.entry.Entry.{Entry}
 use Rattle.delay_agenda.specs.declared.entry.Kind.{Kind}
-use Rattle.delay_agenda.specs.Order.{is_before, comes_before, put_entry, HasNone}
-use Rattle.delay_agenda.specs.Queues.{AreDue, IsQueue, IsHead, entries_of, numbered, without_number}
+use Rattle.delay_agenda.specs.Order.{comes_before, put_entry, HasNone}
+use Rattle.delay_agenda.specs.Queues.{IsQueue, IsHead, entries_of, numbered, without_number}
 
 before_is : {X : Type 0} (due m n : ℕ) (kind : Kind X) → comes_before due m (record { due = due; number = n; kind = kind }) ≡ nat_lt m n
 before_is due m n kind = let over : nat_lt due due ≡ false = grind (arith, nat_tests) in let same : nat_eq due due ≡ true = eq-eqb due due refl in rw (over, same) refl

@@ -1,5 +1,5 @@
 -- The index of Turns and the entries that it leads to.
-use Rattle.std.proofs.Common.{◌≡◌, ◌≢◌, ◌<◌, ◌≤◌, ◌+◌, ◌∷◌, [], ℕ, suc, Bool, true, false, List, length, Option, Some, None, drop, slice_get, refl, sym, ap, subst, ◌∙◌, arith}
+use Rattle.std.proofs.Common.{◌≡◌, ◌≢◌, ◌<◌, ◌≤◌, ◌∷◌, [], ℕ, suc, Bool, true, false, List, length, Some, None, drop, slice_get, refl, sym, ap, subst, ◌∙◌, arith}
 use Rattle.std.specs.Prelude.{nat_eq, if◌then◌else◌}
 use Rattle.std.specs.Map.{lookup, set_value}
 use Rattle.std.specs.BTreeMap.{BTreeMap, get, is_at}
@@ -77,7 +77,7 @@ module _ {X : Type 0} (object : ℕ) where
 
 -- ---- an entry more and an entry less
 
-no_turn : {X : Type 0} (kind : Kind X) → turning kind ≡ None → (other : ℕ) → is_turn_kind other kind ≡ false
+pub no_turn : {X : Type 0} (kind : Kind X) → turning kind ≡ None → (other : ℕ) → is_turn_kind other kind ≡ false
 no_turn (Turn o) none other = absurd cc
 no_turn (Event o script user) none other = refl
 no_turn (Stored o action) none other = refl

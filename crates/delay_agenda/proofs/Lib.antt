@@ -8,3 +8,4 @@ pub mod Turns
 pub mod StampLemmas
 pub mod Index
 pub mod DueLemmas
+pub mod LineLemmas

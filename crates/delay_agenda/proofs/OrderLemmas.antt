@@ -122,7 +122,7 @@ below_tail : {X : Type 0} (n : ℕ) (es : List (Entry X)) → AreBelow n es → 
 below_tail n [] below = tt
 below_tail n (e ∷ es) below = below.1
 
-distinct_tail : {X : Type 0} (es : List (Entry X)) → AreDistinct es → AreDistinct (drop 1 es)
+pub distinct_tail : {X : Type 0} (es : List (Entry X)) → AreDistinct es → AreDistinct (drop 1 es)
 distinct_tail [] distinct = tt
 distinct_tail (e ∷ es) distinct = distinct.1
 
@@ -187,7 +187,7 @@ agenda_cancelled object waiting kept = record {
 
 -- ---- what is new among those that wait
 
-none_from : {X : Type 0} (n : ℕ) (e : Entry X) (es : List (Entry X)) → HasNone n (put_entry e es) → (e.number ≢ n) × HasNone n es
+pub none_from : {X : Type 0} (n : ℕ) (e : Entry X) (es : List (Entry X)) → HasNone n (put_entry e es) → (e.number ≢ n) × HasNone n es
 none_from n e [] none = (none.0, tt)
 none_from n e (x ∷ rest) none = by (is_before x e) none (none_from n e rest)
   where

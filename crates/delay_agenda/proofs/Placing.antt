@@ -1,14 +1,14 @@
 -- Entries put in order, one by one: what the test of the order gives, and where an entry comes to
 -- stand.
-use Rattle.std.proofs.Common.{◌≡◌, ◌<◌, ◌+◌, ◌++◌, ◌∷◌, [], ℕ, zero, suc, Bool, true, false, List, length, take, drop, get_or, slice_get, refl, sym, ap, subst, ◌∙◌, inl, inr, arith}
-use Rattle.std.specs.Prelude.{◌≢◌, ◌⊎◌, if◌then◌else◌}
+use Rattle.std.proofs.Common.{◌≡◌, ◌<◌, ◌+◌, ◌++◌, ◌∷◌, [], ℕ, zero, suc, Bool, true, false, List, length, drop, get_or, slice_get, refl, sym, ap, subst, ◌∙◌, inl, inr, arith}
+use Rattle.std.specs.Prelude.{◌⊎◌, if◌then◌else◌}
 use Rattle.std.specs.List.{remove}
 use Rattle.std.proofs.lemmas.Bool.Decides.{nat_tests}
-use Rattle.std.proofs.lemmas.List.{take-append-drop, get_or_default}
+use Rattle.std.proofs.lemmas.List.{get_or_default}
 use Rattle.std.proofs.lemmas.Option.{slice_get-get_or}
 use Rattle.delay_agenda.specs.declared.entry.Entry.{Entry}
 use Rattle.delay_agenda.specs.Order.{is_before, comes_before, put_entry}
-use Rattle.delay_agenda.specs.Queues.{put_all, NoneBefore, AreSorted, HeadIsNotBefore, IsLeastAt, IsHead, IsInInbox, IsInQueues}
+use Rattle.delay_agenda.specs.Queues.{put_all, AllBefore, NoneBefore, AreSorted, HeadIsNotBefore, IsLeastAt, IsHead, IsInInbox, IsInQueues}
 
 -- ---- the test
 
@@ -19,7 +19,7 @@ none_trans a b c first second = grind (arith, nat_tests)
 before_none : {X : Type 0} (a b c : Entry X) → is_before a b ≡ true → is_before c b ≡ false → is_before a c ≡ true
 before_none a b c first second = grind (arith, nat_tests)
 
-none_before : {X : Type 0} (a b c : Entry X) → is_before b a ≡ false → is_before b c ≡ true → is_before a c ≡ true
+pub none_before : {X : Type 0} (a b c : Entry X) → is_before b a ≡ false → is_before b c ≡ true → is_before a c ≡ true
 none_before a b c first second = grind (arith, nat_tests)
 
 pub one_way : {X : Type 0} (a b : Entry X) → is_before a b ≡ true → is_before b a ≡ false
@@ -43,11 +43,6 @@ joined_if false e x xs more ys all is = refl
 pub put_joined : {X : Type 0} (e : Entry X) (xs ys : List (Entry X)) → HeadIsNotBefore e ys → put_entry e (xs ++ ys) ≡ put_entry e xs ++ ys
 put_joined e [] ys stops = put_stops e ys stops
 put_joined e (x ∷ xs) ys stops = joined_if (is_before x e) e x xs (put_entry e xs) ys (put_entry e (xs ++ ys)) (put_joined e xs ys stops)
-
--- each of these is taken before e
-abbrev pub AllBefore : {X : Type 0} → Entry X → List (Entry X) → Type 0
-AllBefore e [] = Unit {0}
-AllBefore e (x ∷ xs) = (is_before x e ≡ true) × AllBefore e xs
 
 -- in the second, where all of the first are taken before it
 pub put_behind : {X : Type 0} (e : Entry X) (xs ys : List (Entry X)) → AllBefore e xs → put_entry e (xs ++ ys) ≡ xs ++ put_entry e ys

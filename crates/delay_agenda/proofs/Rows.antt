@@ -1,7 +1,7 @@
 -- The queues in a row: an entry put where it belongs, and one taken out.
-use Rattle.std.proofs.Common.{◌≡◌, ◌≢◌, ◌<◌, ◌≤◌, ◌++◌, ◌∷◌, [], ℕ, zero, suc, Bool, true, false, List, length, drop, Option, Some, None, Result, Ok, Err, slice_get, refl, sym, ap, subst, ◌∙◌}
+use Rattle.std.proofs.Common.{◌≡◌, ◌≢◌, ◌<◌, ◌≤◌, ◌++◌, ◌∷◌, [], ℕ, suc, Bool, true, false, List, length, drop, Option, Some, None, Result, Ok, Err, slice_get, refl, sym, ap, subst, ◌∙◌}
 use Rattle.std.proofs.Common.{inl, inr, arith}
-use Rattle.std.specs.Prelude.{◌⊎◌, if◌then◌else◌, nat_eq, unwrap_or, OnOk, OnErr, MatchOption}
+use Rattle.std.specs.Prelude.{◌⊎◌, if◌then◌else◌, nat_eq, unwrap_or, OnOk, OnErr}
 use Rattle.std.specs.Option.{option_or}
 use Rattle.std.proofs.lemmas.Bool.{eq-eqb}
 use Rattle.std.proofs.lemmas.Map.Keys.{ge_from_not_lt}
@@ -14,9 +14,9 @@ use Rattle.std.specs.BTreeMap.{is_at, insert_entry}
 use Rattle.std.proofs.lemmas.Bool.Decides.{nat_tests}
 use Rattle.std.proofs.lemmas.List.{append-nil}
 use Rattle.delay_agenda.specs.declared.entry.Entry.{Entry}
-use Rattle.delay_agenda.specs.Order.{is_before, put_entry, first_due, HasNone}
-use Rattle.delay_agenda.specs.Queues.{QueuesByTime, in_row, queue_at, row_without, numbered, without_number, NoneBefore, AreSorted, AreDue, IsQueue, AreLater, AreQueues, IsFirst, IsHead, StartsAlone}
-use Rattle.delay_agenda.proofs.Placing.{put_stops, put_joined, put_behind, sorted_put, none_stops, AllBefore}
+use Rattle.delay_agenda.specs.Order.{is_before, put_entry, HasNone}
+use Rattle.delay_agenda.specs.Queues.{QueuesByTime, in_row, queue_at, row_without, AllBefore, numbered, without_number, NoneBefore, AreSorted, AreDue, IsQueue, AreLater, AreQueues, IsHead, StartsAlone}
+use Rattle.delay_agenda.proofs.Placing.{put_stops, put_joined, put_behind, sorted_put, none_stops}
 use Rattle.delay_agenda.proofs.DueLemmas.{head_numbered}
 
 -- ---- keys
@@ -460,10 +460,6 @@ kept_is due at qs now q new queues found is filled now_is = (
 
 -- ---- the first queue
 
-pub first_is : {X : Type 0} (due : ℕ) (q : List (Entry X)) (qs : QueuesByTime X) → slice_get qs 0 ≡ Some (due, q) → IsFirst due qs
-first_is due q [] is = absurd (none_held (due, q) (sym is))
-first_is due q (p ∷ ps) is = ap (λ t. t.0) (held p (due, q) is)
-
 pub first_filled : {X : Type 0} (due : ℕ) (q : List (Entry X)) (qs : QueuesByTime X) → AreQueues qs → slice_get qs 0 ≡ Some (due, q) → q ≢ []
 first_filled due q [] queues is = absurd (none_held (due, q) (sym is))
 first_filled due q (p ∷ ps) queues is = subst (λ t. t.1 ≢ []) (held p (due, q) is) queues.0.filled
@@ -578,19 +574,6 @@ row_numbered number e (p ∷ ps) queues is = by (numbered number p.1) refl (λ r
           ap (λ (b : Bool). numbered number (if b then p.1 else queue_at e.due ps)) not_here ∙ more.0,
           without_there e.due number p ps not_here ∙ ap (λ t. p.1 ++ t) more.1 ∙ sym (joined_without number p.1 (in_row ps) None here),
         )
-
--- ---- the due time of the first entry
-
-key_due : {X : Type 0} (k : ℕ) (es rest : List (Entry X)) → es ≢ [] → AreDue k es → Some k ≡ first_due (es ++ rest)
-key_due k [] rest filled dues = absurd (filled refl)
-key_due k (e ∷ es) rest filled dues = ap Some (sym dues.0)
-
-pub first_key : {X : Type 0} (qs : QueuesByTime X) (due : Option ℕ) → AreQueues qs → MatchOption due (qs ≡ []) (λ k. IsFirst k qs) → due ≡ first_due (in_row qs)
-first_key [] None queues key = refl
-first_key [] (Some k) queues key = absurd key
-first_key (p ∷ ps) None queues key = cc
-first_key (p ∷ ps) (Some k) queues key =
-    key_due k p.1 (in_row ps) queues.0.filled (subst (λ n. AreDue n p.1) key queues.0.together)
 
 -- what the first queue gives
 pub ruleset first_facts = (first_there, first_head, first_left)

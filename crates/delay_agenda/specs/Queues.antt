@@ -8,7 +8,7 @@ use Rattle.delay_agenda.specs.declared.entry.Kind.{Kind}
 use Rattle.delay_agenda.specs.declared.entry.Kind.TheVariants.{Event, Stored, Turn, Unapply}
 use Rattle.stamped_slots.specs.Stamps.{Stamps, at, put, without}
 use Rattle.delay_agenda.specs.Order.{is_before, put_entry, AreDistinct}
-use Rattle.delay_agenda.specs.Waiting.{is_turn_of, IsAgenda}
+use Rattle.delay_agenda.specs.Waiting.{is_turn_of, turn_count}
 
 -- what is to run at one time, each under its number, as entries
 abbrev pub entries_of : {X : Type 0} → ℕ → List (ℕ × Kind X) → List (Entry X)
@@ -90,11 +90,6 @@ AreQueues (q ∷ qs) = IsQueue q.0 q.1 × AreLater q.0 qs × AreQueues qs
 abbrev pub IsHead : {X : Type 0} → ℕ → ℕ → List (Entry X) → Type 0
 IsHead due number [] = ⊥
 IsHead due number (x ∷ xs) = (x.due ≡ due) × (x.number ≡ number)
-
--- the first queue is of this time
-abbrev pub IsFirst : {X : Type 0} → ℕ → QueuesByTime X → Type 0
-IsFirst due [] = ⊥
-IsFirst due (q ∷ qs) = q.0 ≡ due
 
 -- the first queue has one entry
 abbrev pub StartsAlone : {X : Type 0} → QueuesByTime X → Type 0
@@ -189,14 +184,27 @@ abbrev pub HasNoTurn : ℕ → BTreeMap ℕ (Stamps ℕ) → BTreeMap ℕ (Stamp
 HasNoTurn object more few = (other : ℕ)
     → turns_of other few ≡ (if nat_eq object other then [] else turns_of other more)
 
--- what an agenda keeps of its entries
-pub record IsKept {X : Type 0} (inbox : List (Entry X)) (queues : QueuesByTime X)
-    (next : ℕ) : Type 0 where
-  pub sorted : AreQueues queues
-  pub agenda : IsAgenda (record { entries = put_all inbox (in_row queues); next = next })
+-- e is taken before each of these
+abbrev pub IsBeforeEach : {X : Type 0} → Entry X → List (Entry X) → Type 0
+IsBeforeEach e [] = Unit {0}
+IsBeforeEach e (x ∷ xs) = (is_before e x ≡ true) × IsBeforeEach e xs
 
--- what an agenda keeps of its parts
-pub record IsWhole {X : Type 0} (inbox : List (Entry X)) (queues : QueuesByTime X)
-    (index : BTreeMap ℕ (Stamps ℕ)) (next : ℕ) : Type 0 where
-  pub kept : IsKept inbox queues next
-  pub indexed : IsIndexed index (in_row queues)
+-- each of these is taken before e
+abbrev pub AllBefore : {X : Type 0} → Entry X → List (Entry X) → Type 0
+AllBefore e [] = Unit {0}
+AllBefore e (x ∷ xs) = (is_before x e ≡ true) × AllBefore e xs
+
+-- each is taken before those behind it
+abbrev pub AreRising : {X : Type 0} → List (Entry X) → Type 0
+AreRising [] = Unit {0}
+AreRising (e ∷ es) = IsBeforeEach e es × AreRising es
+
+-- what is kept of the entries that are sorted in: a line without Turns, queues, and an index of
+-- their Turns
+pub record AreLined {X : Type 0} (line : List (Entry X)) (qs : QueuesByTime X)
+    (index : BTreeMap ℕ (Stamps ℕ)) : Type 0 where
+  pub queues : AreQueues qs
+  pub indexed : IsIndexed index (in_row qs)
+  pub rising : AreRising line
+  pub bare : (object : ℕ) → turn_count object line ≡ 0
+  pub distinct : AreDistinct (put_all line (in_row qs))

@@ -5,23 +5,19 @@ ghost use Rattle.delay_agenda.specs.Waiting.{posted, turn_count, without_turns, 
 
 use crate::entry::{Entry, Kind};
 use crate::inbox::{empty_inbox, first_in_inbox};
-use crate::indexed::{cancel_indexed, put_indexed, take_indexed};
 use crate::queue::{place_of_turn, take_from};
-use crate::queues::{Queues, due_of_first};
-use crate::turn_index::TurnIndex;
+use crate::sorted::Sorted;
 use nwq_value::NoMemory;
 use std::alloc::Global;
-use std::collections::{BTreeMap, VecDeque};
+use std::collections::VecDeque;
 use std::marker::Model;
 
 /// The entries that wait, and the number of the next post.
 ///
-/// They stand in queues by due time, an ordered map, and an index of the Turns among them tells
-/// where the Turn of an object is. A post puts its entry into an inbox beside them, which has room
-/// reserved, and the next call that may take memory moves the inbox into the queues.
+/// A post puts its entry into an inbox beside those that are sorted in, which has room reserved,
+/// and the next call that may take memory sorts the inbox in.
 pub struct Agenda<X> {
-    queues: Queues<X>,
-    turns: TurnIndex,
+    sorted: Sorted<X>,
     inbox: VecDeque<Entry<X>>,
     next: u64,
 }
@@ -29,30 +25,29 @@ pub struct Agenda<X> {
 impl<X> Model for Agenda<X> {
     ghost use Rattle.std.specs.Prelude.{◌-◌, length};
     ghost use Rattle.std.specs.VecDeque.{deque_capacity, deque_len};
-    ghost use Rattle.delay_agenda.specs.Queues.{in_row, put_all, IsWhole};
-    ghost use Rattle.delay_agenda.specs.Waiting.{AgendaView};
+    ghost use Rattle.delay_agenda.specs.Queues.{put_all};
+    ghost use Rattle.delay_agenda.specs.Waiting.{AgendaView, IsAgenda};
 
     ghost Value = { AgendaView X };
 
     ghost view = { λ a. record {
-      waiting = record { entries = put_all a.inbox.items (in_row a.queues.entries); next = a.next };
+      waiting = record { entries = put_all a.inbox.items a.sorted; next = a.next };
       room = deque_capacity a.inbox - deque_len a.inbox;
       inbox = length a.inbox.items;
     } };
 
-    ghost invariant = { λ a. IsWhole a.inbox.items a.queues.entries a.turns a.next };
+    ghost invariant = { λ a. IsAgenda
+        (record { entries = put_all a.inbox.items a.sorted; next = a.next }) };
 }
 
 impl<X: Drop> Drop for Agenda<X> {
     fn drop(self) {
         let Agenda {
-            queues,
-            turns,
+            sorted,
             inbox,
             next: _,
         } = self;
-        drop(queues);
-        drop(turns);
+        drop(sorted);
         drop(inbox);
     }
 }
@@ -70,8 +65,7 @@ impl<X: Drop> Agenda<X> {
         ensures empty { result.waiting ≡ record { entries = []; next = next } }
     {
         Agenda {
-            queues: BTreeMap::new(alloc),
-            turns: BTreeMap::new(alloc),
+            sorted: Sorted::new(alloc),
             inbox: VecDeque::new(alloc),
             next,
         }
@@ -85,7 +79,7 @@ impl<X: Drop> Agenda<X> {
         ensures room { self.old.room ≤ self.new.room }
         ensures same { self.new.waiting ≡ self.old.waiting }
     {
-        empty_inbox(&mut self.queues, &mut self.turns, &mut self.inbox)?;
+        empty_inbox(&mut self.sorted, &mut self.inbox)?;
         self.inbox.reserve(n as usize)?;
         Ok(())
     }
@@ -116,14 +110,13 @@ impl<X: Drop> Agenda<X> {
         ensures err { OnErr result (self.new.waiting ≡ self.old.waiting) }
         ensures room { self.old.room ≤ self.new.room }
     {
-        match empty_inbox(&mut self.queues, &mut self.turns, &mut self.inbox) {
+        match empty_inbox(&mut self.sorted, &mut self.inbox) {
             Err(NoMemory) => {
                 drop(entry);
                 Err(NoMemory)
             }
             Ok(()) => {
-                let alloc = *self.inbox.allocator();
-                put_indexed(&mut self.queues, &mut self.turns, alloc, entry)?;
+                self.sorted.put(entry)?;
                 Ok(())
             }
         }
@@ -138,9 +131,9 @@ impl<X: Drop> Agenda<X> {
         ensures least { IfSome result (λ e. IsNext e self.old.waiting.entries) }
         ensures room { self.old.room ≤ self.new.room }
     {
-        match first_in_inbox(&self.inbox, &self.queues) {
+        match first_in_inbox(&self.inbox, &self.sorted) {
             Some(at) => take_from(&mut self.inbox, at),
-            None => take_indexed(&mut self.queues, &mut self.turns),
+            None => self.sorted.take(),
         }
     }
 
@@ -148,9 +141,9 @@ impl<X: Drop> Agenda<X> {
     pub fn next_due(&self) -> Option<u64>
         ensures due { result ≡ first_due self.now.waiting.entries }
     {
-        match first_in_inbox(&self.inbox, &self.queues) {
+        match first_in_inbox(&self.inbox, &self.sorted) {
             Some(at) => Some(self.inbox[at].due),
-            None => due_of_first(&self.queues),
+            None => self.sorted.next_due(),
         }
     }
 
@@ -162,8 +155,9 @@ impl<X: Drop> Agenda<X> {
             ≡ record self.old.waiting { entries = without_turns object self.old.waiting.entries } }
         ensures room { self.old.room ≤ self.new.room }
     {
+        self.sorted.keeps();
         match place_of_turn(&self.inbox, object) {
-            None => cancel_indexed(&mut self.queues, &mut self.turns, object),
+            None => self.sorted.cancel_turn(object),
             Some(at) => {
                 drop(take_from(&mut self.inbox, at));
                 true
@@ -183,6 +177,6 @@ impl<X: Drop> Agenda<X> {
     pub fn keeps(&self)
         ensures kept { IsAgenda self.now.waiting }
     {
-        let _ = &self.queues;
+        let _ = &self.sorted;
     }
 }

@@ -5,9 +5,10 @@
 //! and at one due time the least number, so the entry that was posted first), and the number of the
 //! next post. The spare room says how many entries can be posted without memory.
 //!
-//! The entries stand in queues by due time, an ordered map, so a call costs about the logarithm of
-//! the number of due times. A post takes no memory: its entry goes to an inbox, over which `take`
-//! and `next_due` look, and which `reserve` and `put` move into the queues.
+//! An entry that is taken behind all that stand in the line stands there too, where it costs no
+//! search. The others stand in queues by due time, an ordered map, so a call costs at most about
+//! the logarithm of the number of due times. A post takes no memory: its entry goes to an inbox,
+//! over which `take` and `next_due` look, and which `reserve` and `put` sort in.
 //!
 //! `docs/AGENDA.md` tells what is delayed, what each call leaves, and what it costs.
 #![tactic(auto)]
@@ -18,8 +19,10 @@ mod entry;
 mod inbox;
 mod indexed;
 mod laws;
+mod line;
 mod queue;
 mod queues;
+mod sorted;
 mod turn_index;
 
 pub use agenda::Agenda;

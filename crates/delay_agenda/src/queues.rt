@@ -4,7 +4,7 @@ ghost use Rattle.std.specs.Prelude.{OnOk, OnErr};
 ghost use Rattle.std.specs.Ordering.{nat_cmp};
 ghost use Rattle.std.specs.BTreeMap.{get};
 ghost use Rattle.delay_agenda.specs.Order.{put_entry, HasNone};
-ghost use Rattle.delay_agenda.specs.Queues.{AreQueues, IsFirst, IsHead, in_row, numbered, queue_at};
+ghost use Rattle.delay_agenda.specs.Queues.{AreQueues, IsHead, in_row, numbered, queue_at};
 ghost use Rattle.delay_agenda.specs.Queues.{StartsAlone, row_without};
 
 use crate::due_queue::DueQueue;
@@ -13,18 +13,6 @@ use std::alloc::{AllocFailed, Global};
 use std::collections::BTreeMap;
 
 pub(crate) type Queues<X> = BTreeMap<u64, DueQueue<X>>;
-
-/// The due time of the first queue.
-#[tactic(auto, using(crate::proofs::Rows::first_is))]
-pub(crate) fn due_of_first<X>(queues: &Queues<X>) -> Option<u64>
-    ensures first { MatchOption result (queues.now.entries ≡ [])
-        (λ due. IsFirst due queues.now.entries) }
-{
-    match queues.first_key_value() {
-        None => None,
-        Some((due, _)) => Some(*due),
-    }
-}
 
 /// Due time and number of the entry that is taken first.
 #[tactic(auto, using(crate::proofs::Rows::first_filled, crate::proofs::Rows::head_is))]

@@ -1,7 +1,7 @@
 use Rattle.std.proofs.Common.{sym, ap, subst, ◌∙◌, arith}
 use Rattle.std.proofs.lemmas.Result.{IfOk-from_err}
 use Rattle.delay_agenda.specs.Order.{AreDistinct}
-use Rattle.delay_agenda.specs.Queues.{in_row, put_all}
+use Rattle.delay_agenda.specs.Queues.{put_all}
 use Rattle.delay_agenda.proofs.inbox.empty_inbox.Goals as goal
 
 pub loop-entry-preserved : goal.loop-entry-preserved
@@ -9,9 +9,7 @@ loop-entry-preserved g c =
     let moved = c.in_ok-move_in.ensures in
     let popped = c.in-Some.ensures in
     record {
-      entries = moved.entries ∙ ap (λ xs. put_all xs (in_row c.loop-entry.queues.entries)) (sym popped.items) ∙ c.loop-entry.invariant.entries;
-      queues = moved.queues;
-      indexed = moved.indexed;
+      entries = moved.entries ∙ ap (λ xs. put_all xs c.loop-entry.sorted) (sym popped.items) ∙ c.loop-entry.invariant.entries;
       room = omega (arith, c.loop-entry.invariant.room, moved.count, moved.capacity, popped.len, popped.capacity);
     }
 
@@ -24,16 +22,12 @@ returns-in_err-move_in g c =
     let popped = c.in-Some.ensures in
     record {
       empty = IfOk-from_err c.from_residual.result _ c.from_residual.ensures.0;
-      entries = moved.entries ∙ ap (λ xs. put_all xs (in_row c.loop-entry.queues.entries)) (sym popped.items) ∙ c.loop-entry.invariant.entries;
-      queues = moved.queues;
-      indexed = moved.indexed;
+      entries = moved.entries ∙ ap (λ xs. put_all xs c.loop-entry.sorted) (sym popped.items) ∙ c.loop-entry.invariant.entries;
       room = omega (arith, c.loop-entry.invariant.room, moved.bound, moved.capacity, popped.len, popped.capacity);
     }
 
 pub move_in-requires : goal.move_in-requires
 move_in-requires g c = record {
-  queues = c.loop-entry.invariant.queues;
-  indexed = c.loop-entry.invariant.indexed;
-  distinct = subst AreDistinct (sym (ap (λ xs. put_all xs (in_row c.loop-entry.queues.entries)) (sym c.in-Some.ensures.items) ∙ c.loop-entry.invariant.entries)) c.requires.distinct;
+  distinct = subst AreDistinct (sym (ap (λ xs. put_all xs c.loop-entry.sorted) (sym c.in-Some.ensures.items) ∙ c.loop-entry.invariant.entries)) c.requires.distinct;
   room = omega (arith, c.in-Some.ensures.len, c.in-Some.ensures.capacity, c.loop-entry.inbox.ok.1);
 }

@@ -1,4 +1,4 @@
-use Rattle.std.proofs.Common.{sym, subst}
+use Rattle.std.proofs.Common.{subst}
 use Rattle.delay_agenda.specs.Queues.{in_row, HasEntryLess}
 use Rattle.delay_agenda.proofs.Index.{indexed_put, back_again}
 use Rattle.delay_agenda.proofs.indexed.put_indexed.Goals as goal

@@ -6,13 +6,13 @@ use Rattle.delay_agenda.proofs.agenda.Agenda.next_due.Goals as goal
 pub returns-in-Some : goal.returns-in-Some
 returns-in-Some g c = record {
   due =
-      due_inbox c.in-Some.at c.self.inside.next c.self.inside.inbox.items c.self.inside.queues.entries c.args.self.now.waiting c.index.result.now
+      due_inbox c.in-Some.at c.self.inside.next c.self.inside.inbox.items c.self.inside.sorted c.args.self.now.waiting c.index.result.now
       (ap (λ (v : AgendaView _). v.waiting) c.self.view_is) c.in-Some.ensures.first c.index.ensures;
 }
 
 pub returns-in-None : goal.returns-in-None
 returns-in-None g c = record {
   due =
-      due_queues c.self.inside.next c.self.inside.inbox.items c.self.inside.queues.entries c.args.self.now.waiting c.due_of_first.result
-      (ap (λ (v : AgendaView _). v.waiting) c.self.view_is) c.self.invariant.kept.sorted c.in-None.ensures.first c.due_of_first.ensures.first;
+      due_queues c.self.inside.next c.self.inside.inbox.items c.self.inside.sorted c.args.self.now.waiting c.next_due.result
+      (ap (λ (v : AgendaView _). v.waiting) c.self.view_is) c.in-None.ensures.first c.next_due.ensures.due;
 }
