@@ -396,13 +396,15 @@ impl Pile {
     }
 }
 
-/// Makes room for so many more cells: a call of its own, since it is rare.
+/// Makes room for so many more cells, and for a few at least, so that a list seldom grows again: a
+/// call of its own, since it is rare.
 #[inline(never)]
 fn make_room(top: &mut Vec<Cell>, more: usize) -> Result<(), NoMemory>
     ensures same { top.new.items ≡ top.old.items }
     ensures room { OnOk result (vec_len top.new + more ≤ vec_capacity top.new) }
 {
-    top.reserve(more)?;
+    let room = if more < FEW { FEW } else { more };
+    top.reserve(room)?;
     Ok(())
 }
 
