@@ -1,4 +1,4 @@
-use Rattle.std.proofs.Common.{◌∙◌, ◌+◌, ap, ap₂, refl, Some, option_map, arith}
+use Rattle.std.proofs.Common.{◌≡◌, ◌∙◌, ap, ap₂, refl, Some, option_map, arith}
 use Rattle.nss_tree.specs.Reading.{tree_of_stmts}
 use Rattle.nss_tree.specs.Statements as tree
 use Rattle.nss_tree.specs.Readings.{tree_block, tree_break_off, tree_case_label, tree_continue_on, tree_declaration, tree_default_label, tree_do_loop, tree_empty, tree_expression, tree_for_loop}
@@ -42,12 +42,13 @@ seek_stmt-returns-in-If t c = stmt_known _ _ _ _ _ _ _ (tree_if_only _ _ _ _ c.i
 
 pub seek_stmt-returns-in-IfElse : goal.seek_stmt-returns-in-IfElse
 seek_stmt-returns-in-IfElse t c = stmt_known _ _ _ _ _ _ _ (tree_if_else _ _ _ _ _ c.in-IfElse.is)
-    (c.seek_if_else.ensures ∙ ap₂ (λ x z. sought (marks.stmt_marks c.args.layout.now c.args.frame c.args.node (tree.if_else 0 (plain c.in-IfElse.condition) (typed_stmt x) (typed_stmt z))) c.args.seek)
-    c.deref-in-IfElse.ensures c.deref-in-IfElse-2.ensures)
+    (c.seek_if_else.ensures ∙ ap₂ (λ x z. sought (marks.stmt_marks c.args.layout.now c.args.frame c.args.node (tree.if_else 0 (plain c.in-IfElse.condition)
+    (typed_stmt x) (typed_stmt z))) c.args.seek) c.deref-in-IfElse.ensures c.deref-in-IfElse-2.ensures)
 
 pub seek_stmt-returns-in-While : goal.seek_stmt-returns-in-While
 seek_stmt-returns-in-While t c = stmt_known _ _ _ _ _ _ _ (tree_while_loop _ _ _ _ c.in-While.is)
-    (c.seek_while.ensures ∙ ap (λ z. sought (marks.stmt_marks c.args.layout.now c.args.frame c.args.node (tree.while_loop 0 (plain c.in-While.condition) (typed_stmt z))) c.args.seek) c.deref-in-While.ensures)
+    (c.seek_while.ensures ∙ ap (λ z. sought (marks.stmt_marks c.args.layout.now c.args.frame c.args.node (tree.while_loop 0 (plain c.in-While.condition) (typed_stmt z)))
+    c.args.seek) c.deref-in-While.ensures)
 
 pub seek_stmt-returns-in-Do : goal.seek_stmt-returns-in-Do
 seek_stmt-returns-in-Do t c = stmt_known _ _ _ _ _ _ _ (tree_do_loop _ _ _ _ c.in-Do.is)
@@ -55,12 +56,13 @@ seek_stmt-returns-in-Do t c = stmt_known _ _ _ _ _ _ _ (tree_do_loop _ _ _ _ c.i
 
 pub seek_stmt-returns-in-For : goal.seek_stmt-returns-in-For
 seek_stmt-returns-in-For t c = stmt_known _ _ _ _ _ _ _ (tree_for_loop _ _ _ _ _ _ c.in-For.is)
-    (c.seek_for.ensures ∙ ap (λ z. sought (marks.stmt_marks c.args.layout.now c.args.frame c.args.node (tree.for_loop 0 (option_map plain c.in-For.start) (option_map plain c.in-For.condition) (option_map plain c.in-For.step)
-    (typed_stmt z))) c.args.seek) c.deref-in-For.ensures)
+    (c.seek_for.ensures ∙ ap (λ z. sought (marks.stmt_marks c.args.layout.now c.args.frame c.args.node (tree.for_loop 0 (option_map plain c.in-For.start)
+    (option_map plain c.in-For.condition) (option_map plain c.in-For.step) (typed_stmt z))) c.args.seek) c.deref-in-For.ensures)
 
 pub seek_stmt-returns-in-Switch : goal.seek_stmt-returns-in-Switch
 seek_stmt-returns-in-Switch t c = stmt_known _ _ _ _ _ _ _ (tree_switch _ _ _ _ c.in-Switch.is)
-    (c.seek_switch.ensures ∙ ap (λ ys. sought (marks.stmt_marks c.args.layout.now c.args.frame c.args.node (tree.switch 0 (plain c.in-Switch.value) (typed_stmts ys))) c.args.seek) c.as_slice-in-Switch.ensures.value)
+    (c.seek_switch.ensures ∙ ap (λ ys. sought (marks.stmt_marks c.args.layout.now c.args.frame c.args.node (tree.switch 0 (plain c.in-Switch.value) (typed_stmts ys)))
+    c.args.seek) c.as_slice-in-Switch.ensures.value)
 
 pub seek_stmt-returns-in-Break : goal.seek_stmt-returns-in-Break
 seek_stmt-returns-in-Break t c = stmt_known _ _ _ _ _ _ _ (tree_break_off _ _ c.in-Break.is)
@@ -95,16 +97,19 @@ pub seek_if_else-returns : goal.seek_if_else-returns
 seek_if_else-returns t c =
     parts c.args.seek _ _ (expr_at c.args.layout.now _ _ (plain c.args.condition.now) c.args.seek _ c.next-part.ensures c.seek_expr.ensures)
     (one_more c.seek_expr.result _ _ c.pass-seek.ensures
-    (parts c.pass-seek.result _ _ (stmt_at c.args.layout.now _ _ _ _ _ _ c.pass-seek.result _ refl refl (c.behind-first.ensures ∙ ap (λ n. numbers.behind n (plain c.args.condition.now)) c.next-part.ensures) c.seek_stmt.ensures)
+    (parts c.pass-seek.result _ _ (stmt_at c.args.layout.now _ _ _ _ _ _ c.pass-seek.result _ refl refl (c.behind-first.ensures
+    ∙ ap (λ n. numbers.behind n (plain c.args.condition.now)) c.next-part.ensures) c.seek_stmt.ensures)
     (one_more c.seek_stmt.result _ _ c.pass-seek-2.ensures
     (stmt_at c.args.layout.now _ _ _ _ _ _ c.pass-seek-2.result _ refl refl
-    (c.behind_stmt-second.ensures ∙ ap (λ n. numbers.behind_stmt n (typed_stmt c.args.then.now)) (c.behind-first.ensures ∙ ap (λ n. numbers.behind n (plain c.args.condition.now)) c.next-part.ensures)) c.seek_stmt-2.ensures))))
+    (c.behind_stmt-second.ensures ∙ ap (λ n. numbers.behind_stmt n (typed_stmt c.args.then.now)) (c.behind-first.ensures
+    ∙ ap (λ n. numbers.behind n (plain c.args.condition.now)) c.next-part.ensures)) c.seek_stmt-2.ensures))))
 
 pub seek_while-returns : goal.seek_while-returns
 seek_while-returns t c =
     parts c.args.seek _ _ (expr_at c.args.layout.now _ _ (plain c.args.condition.now) c.args.seek _ c.next-part.ensures c.seek_expr.ensures)
     (one_more c.seek_expr.result _ _ c.pass-seek.ensures
-    (parts c.pass-seek.result _ _ (stmt_at c.args.layout.now _ _ _ _ _ _ c.pass-seek.result _ c.loop_frame.ensures refl (c.behind-first.ensures ∙ ap (λ n. numbers.behind n (plain c.args.condition.now)) c.next-part.ensures) c.seek_stmt-seek.ensures)
+    (parts c.pass-seek.result _ _ (stmt_at c.args.layout.now _ _ _ _ _ _ c.pass-seek.result _ c.loop_frame.ensures refl (c.behind-first.ensures
+    ∙ ap (λ n. numbers.behind n (plain c.args.condition.now)) c.next-part.ensures) c.seek_stmt-seek.ensures)
     (last c.seek_stmt-seek.result _ c.pass.ensures)))
 
 pub seek_do-returns : goal.seek_do-returns
@@ -116,8 +121,10 @@ seek_do-returns t c =
 
 pub seek_for-returns : goal.seek_for-returns
 seek_for-returns t c =
-    let second = c.behind_if-second.ensures ∙ ap (λ n. numbers.behind_if n (option_map plain c.args.start.now)) c.next-part.ensures in
-    let third = c.behind_if-third.ensures ∙ ap (λ n. numbers.behind_if n (option_map plain c.args.condition.now)) second in
+    let second : c.behind_if-second.result ≡ numbers.behind_if (numbers.next c.args.node) (option_map plain c.args.start.now) =
+    c.behind_if-second.ensures ∙ ap (λ n. numbers.behind_if n (option_map plain c.args.start.now)) c.next-part.ensures in
+    let third : c.behind_if-third.result ≡ numbers.behind_if (numbers.behind_if (numbers.next c.args.node) (option_map plain c.args.start.now)) (option_map plain c.args.condition.now) =
+    c.behind_if-third.ensures ∙ ap (λ n. numbers.behind_if n (option_map plain c.args.condition.now)) second in
     parts c.args.seek _ _ (c.seek_effect-seek.ensures ∙ ap (λ n. sought (marks.evaluated_marks c.args.layout.now c.args.node n (option_map plain c.args.start.now)) c.args.seek) c.next-part.ensures)
     (parts c.seek_effect-seek.result _ _
     (c.seek_tested.ensures ∙ ap (λ n. sought (marks.tested_marks c.args.layout.now c.args.node n (option_map plain c.args.condition.now)) c.seek_effect-seek.result) second)
