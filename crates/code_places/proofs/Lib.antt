@@ -5,6 +5,7 @@ pub mod Seeking
 pub mod Loops
 pub mod Exprs
 pub mod Stmts
+pub mod Ending
 pub mod Found
 pub mod Examples
 pub mod Sources

@@ -1,10 +1,8 @@
 -- Scripts are listed one after the other: what is left, from here, does what the whole does from
 -- the start.
 use Rattle.std.proofs.Common.{◌≡◌, ◌<◌, ◌≤◌, ◌+◌, ℕ, zero, suc, Bool, inl, inr, List, [], ◌∷◌, ◌++◌, length, get_or, drop, take, Some, Result, Ok, Err, IsTrue, refl, sym, ap, ◌∙◌, subst, arith}
-use Rattle.std.proofs.Common.{append_assoc}
 use Rattle.std.proofs.Math.Seq.{drop-cons}
-use Rattle.std.proofs.lemmas.List.{drop_all, map_push, length-append, take_more, take_all}
-use mathlib.Core.List.{append-nil}
+use Rattle.std.proofs.lemmas.List.{drop_all, map_push, length-append, take_more}
 use Rattle.nwq_value.specs.Engine.{EngineTable}
 use Rattle.nwq_outside.specs.Outside.{Contents}
 use Rattle.plan_text.specs.declared.plan.Script.{Script as ScriptLine}
@@ -86,6 +84,12 @@ module _ (files_tell sink_tells : Bool) (header : EngineTable) (lines : List Scr
       let none : drop i lines ≡ [] = drop_all i lines over in
       so.by files sink (Ok scripts) c t (subst (λ ls. Does (lists_on header scripts ls) c t (Ok scripts) c t) (sym none) (refl, (refl, refl)))
 
+-- no script is listed yet
+pub begins_none : (files_tell sink_tells : Bool) (header : EngineTable) (lines : List ScriptLine) (c0 : Contents) (t0 : List ℕ) (scripts : List Loaded) → scripts ≡ []
+    → SoFar files_tell sink_tells header lines 0 [] (scripts_of scripts) c0 c0 t0 t0
+begins_none files_tell sink_tells header lines c0 t0 scripts none =
+    subst (λ (ss : List Loaded). SoFar files_tell sink_tells header lines 0 [] (scripts_of ss) c0 c0 t0 t0) (sym none) (begins files_tell sink_tells header lines [] c0 t0)
+
 -- ---- the list
 
 pub scripts_more : (loaded : List Loaded) (x : Loaded) → scripts_of (loaded ++ x ∷ []) ≡ scripts_of loaded ++ script_of x ∷ []
@@ -122,36 +126,26 @@ module _ (loaded now : List Loaded) (x : Loaded) (is : now ≡ loaded ++ x ∷ [
   stands_on header all one = subst (λ l. AllStand header (scripts_of l) (tables_of l)) (sym is) (stands_more header loaded x all one)
 
   -- the names go on with that of the next line
-  pub names_on : (first : List Loaded) (lines : List ScriptLine) (i : ℕ) (line d : ScriptLine) → i < length lines → line ≡ get_or lines i d → x.name ≡ line.name
-      → loaded_names loaded ≡ loaded_names first ++ line_names (take i lines) → loaded_names now ≡ loaded_names first ++ line_names (take (i + 1) lines)
-  names_on first lines i line d lt at same so =
+  pub names_on : (lines : List ScriptLine) (i : ℕ) (line d : ScriptLine) → i < length lines → line ≡ get_or lines i d → x.name ≡ line.name
+      → loaded_names loaded ≡ line_names (take i lines) → loaded_names now ≡ line_names (take (i + 1) lines)
+  names_on lines i line d lt at same so =
       let more : line_names (take (i + 1) lines) ≡ line_names (take i lines) ++ line.name ∷ [] =
       ap line_names (take_more lines i d lt) ∙ (map_push (λ (l : ScriptLine). l.name) (take i lines) (get_or lines i d)
       ∙ ap (λ (l : ScriptLine). line_names (take i lines) ++ l.name ∷ []) (sym at)) in
       ap loaded_names is ∙ (map_push (λ (l : Loaded). l.name) loaded x
-      ∙ (ap (λ n. loaded_names loaded ++ n ∷ []) same ∙ (ap (λ ns. ns ++ line.name ∷ []) so
-      ∙ (append_assoc (loaded_names first) (line_names (take i lines)) (line.name ∷ []) ∙ ap (λ ns. loaded_names first ++ ns) (sym more)))))
+      ∙ (ap (λ n. loaded_names loaded ++ n ∷ []) same ∙ (ap (λ ns. ns ++ line.name ∷ []) so ∙ sym more)))
 
   pub scripts_on : scripts_of now ≡ scripts_of loaded ++ script_of x ∷ []
   scripts_on = ap scripts_of is ∙ scripts_more loaded x
 
-  pub count_on : (first i : ℕ) → length loaded ≡ first + i → length now ≡ first + (i + 1)
-  count_on first i count = omega (arith, ap length is, length-append loaded (x ∷ []), count)
+  pub count_on : (i : ℕ) → length loaded ≡ i → length now ≡ i + 1
+  count_on i count = omega (arith, ap length is, length-append loaded (x ∷ []), count)
 
 pub none_meet : (header : EngineTable) → AllMeet header [] (tables_of [])
 none_meet header n script is = absurd cc
 
 pub none_stand : (header : EngineTable) → AllStand header [] (tables_of [])
 none_stand header n script other is meets = absurd cc
-
--- all lines are there
-pub names_done : (first loaded : List Loaded) (lines : List ScriptLine) (i : ℕ) → length lines ≤ i
-    → loaded_names loaded ≡ loaded_names first ++ line_names (take i lines) → loaded_names loaded ≡ loaded_names first ++ line_names lines
-names_done first loaded lines i over so = so ∙ ap (λ ls. loaded_names first ++ line_names ls) (take_all i lines over)
-
--- none are, before the first
-pub names_begin : (first : List Loaded) (lines : List ScriptLine) → loaded_names first ≡ loaded_names first ++ line_names (take 0 lines)
-names_begin first lines = sym (append-nil (loaded_names first))
 
 -- ---- names
 

@@ -1,14 +1,13 @@
 //! The code of a script that a plan lists.
-ghost use Rattle.std.specs.Prelude.{◌≡◌, ◌≤◌, ℕ, false, length, string_bytes, IsTrue, IfOk, IfErr};
+ghost use Rattle.std.specs.Prelude.{◌≡◌, ℕ, string_bytes, IsTrue, IfOk, IfErr};
 ghost use Rattle.std.specs.Prelude.{OnOk};
-ghost use Rattle.nwq_value.specs.Limits.{file_limit};
 ghost use Rattle.nwq_text.specs.Names.{is_script_name};
 ghost use Rattle.command_work.specs.Counts.{KeepsBut};
 ghost use Rattle.command_work.specs.Calls.{DoesOn, TalliesOn, IsName};
 ghost use Rattle.command_sources.specs.Reads.{ReadsUnit};
 ghost use Rattle.command_files.specs.Checks.{plain_checked_answer, KeepsTable};
 ghost use Rattle.command_compile.specs.Files.{code_name};
-ghost use Rattle.play_inputs.specs.Listings.{writes_loaded, source_named, code_by, script_in};
+ghost use Rattle.play_inputs.specs.Listings.{source_named, code_by, script_in};
 ghost use Rattle.play_inputs.specs.Listings.{IsOwnFile, StopsListing, script_answer};
 ghost use Rattle.play_inputs.specs.Reads.{ReadsCode};
 
@@ -17,7 +16,7 @@ use command_files::{load_checked, read_checked};
 use command_work::{Status, write_file};
 use ncs_machine::Loaded;
 use nwq_outside::{Files, Sink};
-use nwq_value::{Items, NoMemory, Table};
+use nwq_value::{NoMemory, Table};
 use plan_text::Script;
 use stack_check::Checked;
 use std::alloc::Global;
@@ -31,36 +30,7 @@ fn script_name(alloc: Global, name: &[u8]) -> Result<String, NoMemory>
     Ok(String::from_utf8_lossy(alloc, name)?)
 }
 
-/// Writes the bytes of a file of bytecode, and checks its code under a header.
-#[tactic(auto, using(crate::proofs::CodeLemmas::codes, crate::proofs::StopLemmas::stops))]
-fn write_loaded<F: Files, S: Sink>(
-    alloc: Global,
-    table: &Table,
-    file: &str,
-    bytes: Items<u8>,
-    files: &mut F,
-    out: &mut S,
-) -> Result<Checked, Status>
-    requires small { length bytes ≤ file_limit }
-    ensures does { IsTrue F.tells → IsTrue S.tells → DoesOn F.contents S.taken
-        (writes_loaded table.now file.now bytes)
-        files.old out.old (plain_checked_answer result) files.new out.new }
-    ensures counts { TalliesOn F.counts S.faults result files.old out.old files.new out.new }
-    ensures names { KeepsBut (IsName file.now) (F.contents files.old) (F.contents files.new) }
-    ensures unread { F.reads files.new ≡ F.reads files.old }
-    ensures kept { IfOk result (KeepsTable table.now) }
-    ensures only { IfErr result StopsListing }
-{
-    match write_file(file, bytes.as_slice(), files) {
-        Err(status) => {
-            drop(bytes);
-            Err(status)
-        }
-        Ok(()) => load_checked(alloc, table, file.as_bytes(), bytes.into_vec(), out),
-    }
-}
-
-/// Compiles the source of this name under a header, and writes its file.
+/// Compiles the source of this name under a header, writes its file and checks its code.
 #[tactic(auto, using(crate::proofs::Steps::steps, crate::proofs::StopLemmas::stops, command_work::specs::KeepsLemmas::keeps_all), unfolding(crate::specs::Listings::source_named))]
 fn read_source<F: Files, S: Sink>(
     alloc: Global,
@@ -71,12 +41,10 @@ fn read_source<F: Files, S: Sink>(
     out: &mut S,
 ) -> Result<Checked, Status>
     requires file { file.now ≡ code_name name.now }
-    ensures does { IsTrue F.tells → IsTrue S.tells → DoesOn F.contents S.taken
-        (source_named table.now name.now)
-        files.old out.old (plain_checked_answer result) files.new out.new }
+    ensures does { IsTrue F.tells → IsTrue S.tells → DoesOn F.contents S.taken (source_named
+        table.now name.now) files.old out.old (plain_checked_answer result) files.new out.new }
     ensures counts { TalliesOn F.counts S.faults result files.old out.old files.new out.new }
-    ensures names { KeepsBut (IsName (code_name name.now)) (F.contents files.old) (F.contents
-        files.new) }
+    ensures names { KeepsBut (IsName file.now) (F.contents files.old) (F.contents files.new) }
     ensures once { IsTrue F.tells → OnOk result (ReadsUnit (F.contents files.old) name.now
         (F.reads files.old) (F.reads files.new)) }
     ensures kept { IfOk result (KeepsTable table.now) }
@@ -84,42 +52,18 @@ fn read_source<F: Files, S: Sink>(
 {
     match read_compiled(alloc, table, name, files, out) {
         Err(status) => Err(status),
-        Ok(bytes) => write_loaded(alloc, table, file, bytes, files, out),
-    }
-}
-
-/// The code of the script of this name, which is there as a binary or as a source.
-#[tactic(auto, using(crate::proofs::StopLemmas::stops, crate::proofs::CodeLemmas::keeps_source, command_work::specs::KeepsLemmas::keeps_all))]
-fn read_by<F: Files, S: Sink>(
-    alloc: Global,
-    table: &Table,
-    binary: bool,
-    name: &str,
-    file: &str,
-    files: &mut F,
-    out: &mut S,
-) -> Result<Checked, Status>
-    requires file { file.now ≡ code_name name.now }
-    ensures does { IsTrue F.tells → IsTrue S.tells → DoesOn F.contents S.taken
-        (code_by binary table.now name.now)
-        files.old out.old (plain_checked_answer result) files.new out.new }
-    ensures counts { TalliesOn F.counts S.faults result files.old out.old files.new out.new }
-    ensures names { KeepsBut (λ other. (binary ≡ false) × (other ≡ code_name name.now))
-        (F.contents files.old) (F.contents files.new) }
-    ensures once { IsTrue F.tells → OnOk result (ReadsCode binary (F.contents files.old)
-        name.now (F.reads files.old) (F.reads files.new)) }
-    ensures kept { IfOk result (KeepsTable table.now) }
-    ensures only { IfErr result StopsListing }
-{
-    if binary {
-        read_checked(alloc, table, file, files, out)
-    } else {
-        read_source(alloc, table, name, file, files, out)
+        Ok(bytes) => match write_file(file, bytes.as_slice(), files) {
+            Err(status) => {
+                drop(bytes);
+                Err(status)
+            }
+            Ok(()) => load_checked(alloc, table, file.as_bytes(), bytes.into_vec(), out),
+        },
     }
 }
 
 /// The code of the script of a plan's line.
-#[tactic(auto, using(crate::proofs::CodeLemmas::code_wanted, command_work::specs::KeepsLemmas::keeps_all))]
+#[tactic(auto, using(crate::proofs::CodeLemmas::code_wanted, crate::proofs::CodeLemmas::coded, crate::proofs::StopLemmas::stops, command_work::specs::KeepsLemmas::keeps_all))]
 fn read_code<F: Files, S: Sink>(
     alloc: Global,
     table: &Table,
@@ -142,7 +86,13 @@ fn read_code<F: Files, S: Sink>(
         Err(NoMemory) => Err(Status::Memory),
         Ok(name) => match code_name(alloc, &name) {
             Err(NoMemory) => Err(Status::Memory),
-            Ok(file) => read_by(alloc, table, line.binary, &name, &file, files, out),
+            Ok(file) => {
+                if line.binary {
+                    read_checked(alloc, table, &file, files, out)
+                } else {
+                    read_source(alloc, table, &name, &file, files, out)
+                }
+            }
         },
     }
 }

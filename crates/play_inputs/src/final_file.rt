@@ -1,5 +1,4 @@
 ghost use Rattle.std.specs.Prelude.{◌≡◌, ℕ, IsTrue, IfErr};
-ghost use Rattle.gff_tree.specs.Whole.{plain_gff};
 ghost use Rattle.area_back.specs.Back.{tree_back};
 ghost use Rattle.command_work.specs.Counts.{KeepsBut, Refusing};
 ghost use Rattle.command_work.specs.Calls.{DoesOn, TalliesOn, IsName};
@@ -8,39 +7,13 @@ ghost use Rattle.play_inputs.specs.Finals.{final_written};
 use area_back::into_tree;
 use area_tree::Area;
 use command_work::{AreaFlaw, Status, refuse_area, write_file};
-use gff_tree::Gff;
 use gff_write::{WriteFault, write};
 use nwq_outside::{Files, Sink};
 use nwq_value::NoMemory;
 use std::alloc::Global;
 
-/// Writes the one file of a tree under this name.
-#[tactic(auto, using(crate::proofs::FinalLemmas::finals, command_work::specs::KeepsLemmas::keeps_all))]
-fn write_tree<F: Files, S: Sink>(
-    alloc: Global,
-    name: &str,
-    tree: &Gff,
-    files: &mut F,
-    out: &mut S,
-) -> Result<(), Status>
-    ensures does { IsTrue F.tells → IsTrue S.tells → DoesOn F.contents S.taken
-        (final_written name.now (plain_gff tree.now)) files.old out.old result files.new out.new }
-    ensures counts { TalliesOn F.counts S.faults result files.old out.old files.new out.new }
-    ensures names { KeepsBut (IsName name.now) (F.contents files.old) (F.contents files.new) }
-    ensures unread { F.reads files.new ≡ F.reads files.old }
-    ensures only { IfErr result (Refusing Status.Area) }
-{
-    match write(alloc, tree) {
-        Ok(bytes) => write_file(name, bytes.as_slice(), files),
-        Err(WriteFault::Large(size)) => {
-            Err(refuse_area(alloc, name.as_bytes(), AreaFlaw::Large(size), out))
-        }
-        Err(WriteFault::NoMemory) => Err(Status::Memory),
-    }
-}
-
 /// Writes the file of an area, as it is now, under this name.
-#[tactic(auto, using(crate::specs::Wanted::final_cut, command_work::specs::KeepsLemmas::keeps_all))]
+#[tactic(auto, using(crate::proofs::FinalLemmas::finals, command_work::specs::KeepsLemmas::keeps_all))]
 pub fn write_area<F: Files, S: Sink>(
     alloc: Global,
     name: &str,
@@ -57,6 +30,12 @@ pub fn write_area<F: Files, S: Sink>(
 {
     match into_tree(alloc, area) {
         Err(NoMemory) => Err(Status::Memory),
-        Ok(tree) => write_tree(alloc, name, &tree, files, out),
+        Ok(tree) => match write(alloc, &tree) {
+            Ok(bytes) => write_file(name, bytes.as_slice(), files),
+            Err(WriteFault::Large(size)) => {
+                Err(refuse_area(alloc, name.as_bytes(), AreaFlaw::Large(size), out))
+            }
+            Err(WriteFault::NoMemory) => Err(Status::Memory),
+        },
     }
 }

@@ -10,8 +10,6 @@ pub mod Given
 pub mod Keeping
 pub mod Telling
 pub mod Outcomes
-pub mod Short
-pub mod Sharing
 pub mod Opening
 pub mod Accepting
 pub mod Saving

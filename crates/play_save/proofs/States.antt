@@ -22,7 +22,6 @@ use Rattle.stack_rules.specs.Tables.{ShapeTable}
 use Rattle.stack_rules.specs.Rules.{MeetsRules, WellStacked}
 use Rattle.stack_rules.specs.Fits.{Tables, Fits, FitsOne}
 use Rattle.stack_rules.specs.Laws.{AllMeet}
-use Rattle.ncs_machine.specs.Host.{no_table}
 use Rattle.ncs_machine.specs.Stored.{KindFits, EntryFits, ItemFits, ThingsFit}
 use Rattle.world_rules.specs.Kept.{turns_allowed}
 use Rattle.world_rules.specs.World.{World, queue_of, queue_in}
@@ -43,6 +42,7 @@ use Rattle.play_save.specs.Rules.{IsHeaderOf, IsSound, IsAccepted, HasArea, Keep
 use Rattle.play_save.specs.States.{resting, MayLimit, MayCount}
 use Rattle.play_save.specs.Keeping.{Tells}
 use Rattle.play_save.specs.Written.{AreListed, Rests, listed_part, PlaysHaveStates}
+use Rattle.play_save.specs.TableLemmas.{chosen, chosen_meet}
 use Rattle.play_save.proofs.CapturedLemmas.{one_table, one_file}
 use Rattle.state_parts.specs.KeepingLemmas.{all_got}
 use Rattle.play_save.proofs.Accepting.{all_back, length_map, map_map, same_count, own_variables, queue_here, no_items, agenda_there}
@@ -54,18 +54,6 @@ use Rattle.play_save.proofs.Telling.{parts_count}
 use Rattle.play_save.proofs.Making.{AreMade, AreEntries, objects_made, entries_made, all_ready}
 
 -- ---- tables of shapes, by the numbers of scripts
-
--- one for each script, that meets the rules
-abbrev chosen : (header : EngineTable) (scripts : List Script) → AllByRecursion (λ (s : Script). WellStacked header s.code) scripts → Tables
-chosen header [] stacked n = no_table
-chosen header (s ∷ ss) stacked zero = stacked.0.0
-chosen header (s ∷ ss) stacked (suc n) = chosen header ss stacked.1 n
-
-chosen_meet : (header : EngineTable) (scripts : List Script) (stacked : AllByRecursion (λ (s : Script). WellStacked header s.code) scripts)
-    → AllMeet header scripts (chosen header scripts stacked)
-chosen_meet header [] stacked n script at = absurd cc
-chosen_meet header (s ∷ ss) stacked zero script at = let same : s ≡ script = cc in subst (λ (x : Script). MeetsRules header x.code stacked.0.0) same stacked.0.1
-chosen_meet header (s ∷ ss) stacked (suc n) script at = chosen_meet header ss stacked.1 n script at
 
 -- the tables with another one for the script of this number
 abbrev put_table : ℕ → ShapeTable → Tables → Tables

@@ -5,4 +5,4 @@ pub mod Keeping
 pub mod Written
 pub mod Scripts
 pub mod Telling
-pub mod Places
+pub mod TableLemmas

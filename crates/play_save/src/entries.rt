@@ -5,11 +5,11 @@ ghost use Rattle.delay_agenda.specs.Waiting.{IsAgenda};
 ghost use Rattle.state_parts.specs.World.{entry_of, kind_of};
 ghost use Rattle.state_parts.specs.ShortTexts.{is_short_entry, is_short_kind};
 
-use crate::values::{saved, text};
 use delay_agenda::{Agenda, Entry, Kind};
 use nwq_value::NoMemory;
 use saved_state::Saved;
 use state_format::{Entry as EntryPart, KindPart};
+use state_objects::{saved, text};
 use std::alloc::Global;
 
 /// What an entry does.

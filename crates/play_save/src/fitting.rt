@@ -6,10 +6,10 @@ ghost use Rattle.state_parts.specs.ShortTexts.{is_short_entry, is_short_item};
 ghost use Rattle.play_save.specs.Rules.{ItemHolds, KindHolds};
 ghost use Rattle.play_save.specs.Breaking.{IsFitting};
 
-use crate::values::saved;
 use ncs_machine::Scripts;
 use nwq_value::NoMemory;
 use state_format::{Captured, Entry, Item, KindPart, Object};
+use state_objects::saved;
 use std::alloc::Global;
 
 /// Whether a captured state is one of a script that is there, and fits the table kept for it.

@@ -18,16 +18,13 @@ mod fault;
 mod fitting;
 mod laws;
 mod limits;
-mod places;
 mod play;
 mod prepare;
 mod put;
 mod rules;
 mod state;
-mod things;
 mod told;
 mod turns;
-mod values;
 mod waiting;
 mod world;
 

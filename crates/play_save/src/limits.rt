@@ -11,11 +11,11 @@ ghost use Rattle.play_save.specs.Rules.{count_limit, AreNamed, HasBounds, HasCou
 ghost use Rattle.play_save.specs.Breaking.{Breaks};
 
 use crate::fault::StateFault;
-use crate::places::are_distinct;
 use nwq_text::is_script_name;
 use nwq_value::text::TEXT_BYTES;
 use nwq_value::{Items, NoMemory};
 use state_format::{Captured, Cell, Entry, Item, KindPart, Object, Parts, Script};
+use state_objects::are_distinct;
 use std::alloc::Global;
 
 /// Numbers below this one leave room to go on counting.

@@ -9,11 +9,11 @@ ghost use Rattle.play_save.specs.Rules.{HasAgenda, HasTexts, HasTurns};
 ghost use Rattle.play_save.specs.Breaking.{IsReadFrom};
 
 use crate::entries::agenda;
-use crate::things::{objects, variables};
 use area_tree::Area;
 use nwq_value::{NoMemory, Randoms};
 use saved_state::Saved;
 use state_format::{Object, Parts};
+use state_objects::{objects, variables};
 use std::alloc::Global;
 use world_core::{World, WorldParts};
 

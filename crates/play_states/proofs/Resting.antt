@@ -1,15 +1,13 @@
 -- Plays of files come to worlds that rest, of which there is a state.
-use Rattle.std.proofs.Common.{◌≡◌, ◌<◌, ◌≤◌, ◌-◌, ℕ, zero, suc, List, [], ◌∷◌, sym, subst, arith}
+use Rattle.std.proofs.Common.{◌≡◌, ◌<◌, ◌≤◌, ◌-◌, ℕ, List, [], ◌∷◌, sym, subst, arith}
 use Rattle.std.specs.Prelude.{◌⊎◌}
 use Rattle.std.specs.List.{AllByRecursion}
-use Rattle.nwq_value.specs.Engine.{EngineTable}
 use Rattle.nwq_value.specs.Limits.{random_limit}
 use Rattle.gff_tree.specs.Whole.{PlainGff}
 use Rattle.local_variables.specs.Laws.{PutKeepsDistinct, FilterKeepsDistinct}
 use Rattle.delay_agenda.specs.declared.entry.Entry.{Entry}
 use Rattle.saved_state.specs.declared.saved.Saved.{Saved}
 use Rattle.machine_rules.specs.Machine.{Script}
-use Rattle.stack_rules.specs.Rules.{MeetsRules, WellStacked}
 use Rattle.stack_rules.specs.Fits.{Tables}
 use Rattle.stack_rules.specs.Laws.{AllMeet, ScriptsAreSound, StatesAreSound, TablesTypeExecuteScript}
 use Rattle.world_rules.specs.World.{World}
@@ -17,29 +15,17 @@ use Rattle.world_rules.specs.Plays.{Bounds, Progress, Played}
 use Rattle.world_rules.specs.Settled.{HasSettled, KeepsToEngine, PlaysSettle}
 use Rattle.world_core.specs.Answers.{AnswersHaveTypes}
 use Rattle.ncs_machine.specs.declared.scripts.Begin.TheVariants.{Start, Stored}
-use Rattle.ncs_machine.specs.Host.{EngineView, host, no_table}
+use Rattle.ncs_machine.specs.Host.{EngineView, host}
 use Rattle.ncs_machine.specs.Leading.{RunsLead}
 use Rattle.ncs_machine.specs.Stored.{EngineKeepsFits, LinesKeepFits, BeginKeepsFits, TurnKeepsFits, TurnDoneKeepsFits, UnapplyKeepsFits}
 use Rattle.module_player.specs.CodePlays.{code_runner, played_before}
 use Rattle.play_room.specs.Laws.{KeptHasRoom, PlaysKeepValues}
 use Rattle.play_save.specs.Rules.{IsAreaOf, count_limit}
+use Rattle.play_save.specs.TableLemmas.{chosen, chosen_meet}
 use Rattle.play_save.specs.Written.{PlaysHaveStates}
 use Rattle.play_states.specs.Resting.{play_from, PlaysRest, PlaysComeToStates}
 use Rattle.ncs_machine.specs.HostLemmas.{host_is_sound}
 use Rattle.play_states.proofs.Keeping.{KeepsFit, plays_kept}
-
--- ---- a table of shapes for each script
-
-abbrev chosen : (header : EngineTable) (scripts : List Script) → AllByRecursion (λ (s : Script). WellStacked header s.code) scripts → Tables
-chosen header [] stacked n = no_table
-chosen header (s ∷ ss) stacked zero = stacked.0.0
-chosen header (s ∷ ss) stacked (suc n) = chosen header ss stacked.1 n
-
-chosen_meet : (header : EngineTable) (scripts : List Script) (stacked : AllByRecursion (λ (s : Script). WellStacked header s.code) scripts)
-    → AllMeet header scripts (chosen header scripts stacked)
-chosen_meet header [] stacked n script at = absurd cc
-chosen_meet header (s ∷ ss) stacked zero script at = let same : s ≡ script = cc in subst (λ (x : Script). MeetsRules header x.code stacked.0.0) same stacked.0.1
-chosen_meet header (s ∷ ss) stacked (suc n) script at = chosen_meet header ss stacked.1 n script at
 
 -- ---- however the machine runs scripts of files, it keeps to the engine
 

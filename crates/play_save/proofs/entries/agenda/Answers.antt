@@ -1,5 +1,5 @@
 use Rattle.state_parts.specs.ShortTexts.{is_short_entry}
-use Rattle.play_save.proofs.Lists.{test_at}
+use Rattle.state_objects.specs.ListLemmas.{test_at}
 use Rattle.play_save.proofs.Agendas.{agenda_more, may_put}
 use Rattle.play_save.proofs.entries.agenda.Goals as goal
 

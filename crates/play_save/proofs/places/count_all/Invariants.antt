@@ -1,6 +1,0 @@
-use Rattle.std.proofs.Common.{◌<◌, length, take}
-use Rattle.play_save.specs.Places.{CountsPlaces}
-use Rattle.play_save.proofs.places.count_all.Given as goal
-
-abbrev pub invariant-loop-part : goal.invariant-loop-part
-invariant-loop-part l = CountsPlaces l.counts (take l.part-index l.parts) × (0 < length l.counts)

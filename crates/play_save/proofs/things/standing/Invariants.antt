@@ -1,6 +1,0 @@
-use Rattle.std.proofs.Common.{◌≡◌, map, take}
-use Rattle.state_parts.specs.World.{stood_of}
-use Rattle.play_save.proofs.things.standing.Given as goal
-
-abbrev pub invariant-loop-part : goal.invariant-loop-part
-invariant-loop-part l = l.all ≡ map stood_of (take l.part-index l.parts)

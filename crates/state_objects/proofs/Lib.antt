@@ -1,0 +1,3 @@
+pub mod Short
+pub mod Sharing
+pub mod Queues
