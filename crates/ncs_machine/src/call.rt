@@ -137,7 +137,7 @@ impl Machine {
                     Ok(())
                 } else {
                     // The arguments stay in their place, since moves of them are dear.
-                    self.ask(alloc, world, hooks, table, number, routine, &mut args)?;
+                    self.ask(world, hooks, table, number, routine, &mut args)?;
                     Ok(())
                 }
             }

@@ -305,12 +305,11 @@ impl Machine {
         self.begin_script(alloc, scripts, world, name, target)
     }
 
-    /// A call of the engine, behind it: of the routine of this number. Where its arguments are
-    /// lent, the list is kept for the next call.
+    /// A call of the engine, behind it: of the routine of this number. Its arguments are lent, and
+    /// the list is kept for the next call.
     #[tactic(auto, using(crate::proofs::Calls::lent_lemmas))]
     pub(crate) fn ask(
         &mut self,
-        alloc: Global,
         world: &mut World<Saved>,
         hooks: &Hooks,
         table: &Table,
@@ -338,14 +337,14 @@ impl Machine {
         match routine.role {
             Role::Pure(k) => {
                 self.ask_function(world, hooks, table, n, routine, k, &args.values)?;
-                mem::swap(&mut self.list, &mut args.values);
-                Ok(())
             }
             Role::Built(_) | Role::World | Role::Uncallable => {
-                let Arguments { values, action } = mem::replace(args, Arguments::new(alloc));
-                self.ask_engine(world, hooks, table, n, values, action)
+                let action = args.action.take();
+                self.ask_engine(world, hooks, table, n, &args.values, action)?;
             }
         }
+        mem::swap(&mut self.list, &mut args.values);
+        Ok(())
     }
 
     /// The same of a function of strings and numbers, which changes nothing.
@@ -386,22 +385,22 @@ impl Machine {
         hooks: &Hooks,
         table: &Table,
         n: u16,
-        values: Args,
+        values: &Args,
         action: Option<Saved>,
     ) -> Result<(), NoMemory>
         requires early { IsEarly world.old.world }
         requires caller { self.old.running.self ≤ object_count world.old.world }
         requires hooks { AreServing (known_by hooks.now) }
         requires types { FitArguments
-            (engine_view table.now (known_by hooks.now)) n values }
+            (engine_view table.now (known_by hooks.now)) n values.now }
         ensures room { world.old.room ≤ world.new.room }
         ensures answered { OnOk result (answered (answer_of (engine_answer
             (engine_view table.now (known_by hooks.now)) n
-            self.old.running.self values action world.old.world)) self.old.running
+            self.old.running.self values.now action world.old.world)) self.old.running
             (state self.old world.old.world) ≡ state self.new world.new.world) }
         ensures cut { OnErr result (IsHalfway world.old.world (engine_answer
             (engine_view table.now (known_by hooks.now)) n
-            self.old.running.self values action world.old.world).world world.new.world) }
+            self.old.running.self values.now action world.old.world).world world.new.world) }
     {
         let own = self.running.own();
         match world.engine(hooks, table, n, own, values, action)? {

@@ -1,5 +1,5 @@
 -- The scope of a function only adds to what is in sight.
-use Rattle.std.proofs.Common.{append_assoc, ◌≡◌, ◌++◌, Option, None, Some, ap, ◌∙◌, List}
+use Rattle.std.proofs.Common.{append_assoc, ◌++◌, Option, None, Some, ap, ◌∙◌, List}
 use Rattle.nss_tree.specs.Source.{SourceParameter, SourceStmts}
 use Rattle.typing_rules.specs.Scopes.{OnlyAdds, ParametersOnlyAdd, StatementsOnlyAdd}
 use Rattle.typing_rules.specs.Sight.{Sight}

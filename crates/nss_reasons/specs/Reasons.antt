@@ -4,7 +4,7 @@
 use Rattle.std.specs.Prelude.{ℕ, Bool, false, List, [], ◌∷◌, ◌++◌, Option, None, Some}
 use Rattle.nss_tree.specs.declared.constants.Constant.{Constant}
 use Rattle.nss_tree.specs.declared.constants.TypeName.{TypeName}
-use Rattle.nss_tree.specs.Expressions.{PlainExpr, name}
+use Rattle.nss_tree.specs.Expressions.{PlainExpr}
 use Rattle.nss_tree.specs.Statements.{block, empty, expression, if_only, if_else, while_loop, do_loop, for_loop, switch, break_off, continue_on, return_from, declaration, case_label, default_label, no_stmt, more_stmts}
 use Rattle.nss_tree.specs.Units.{structure, constant, global, function}
 use Rattle.nss_tree.specs.Source.{SourceDeclared, SourceStmt, SourceStmts, SourceItem, SourceTree, SourceLine, SourceParameter}
@@ -16,6 +16,7 @@ use Rattle.typing_rules.specs.Sight.{Head, Sight, Structure, Is, start, type_mea
 use Rattle.typing_rules.specs.Rules.{variable_rule, constant_name_rule, return_rule, case_rule, parameter_rule}
 use Rattle.typing_rules.specs.Verdicts.{value, constant_value, constant_parts, line_type, after, after_then, after_item, in_function, in_body, parameter_declared, late_after, heads}
 use Rattle.expression_reasons.specs.declared.reason.Reason.{Reason}
+use Rattle.expression_reasons.specs.Reasons.{condition_nodes, nodes_there, value_nodes}
 use Rattle.expression_reasons.specs.Seen.{Node, own, seen}
 use Rattle.expression_reasons.specs.Why.{because, return_reason}
 use Rattle.nss_reasons.specs.Why.{case_reason, variable_reason, constant_reason, parameter_reason, line_why, constant_line_why}

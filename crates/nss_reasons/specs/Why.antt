@@ -11,6 +11,7 @@ use Rattle.typing_rules.specs.Types.{is_int, is_void, same_type}
 use Rattle.typing_rules.specs.Typed.{TypedExpr, type_of}
 use Rattle.typing_rules.specs.Sight.{Sight, Structure, Labels, Meant, Is, IsRefused, IsMissing, is_taken, crosses_with, cells, type_means, value_type}
 use Rattle.typing_rules.specs.Rules.{is_again, is_outside, is_behind, constant_type}
+use Rattle.expression_reasons.specs.Why.{because}
 use Rattle.expression_reasons.specs.declared.reason.Reason.{Reason}
 use Rattle.expression_reasons.specs.declared.reason.Reason.TheVariants.{Taken, Value, Default, Cells, Again, Misplaced, Label, NoDefault, NoVariable, NoConstant, LeftOut, NoStruct}
 

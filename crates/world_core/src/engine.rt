@@ -109,19 +109,31 @@ fn ready_call<X: Drop>(
     }
 }
 
+/// Equal arguments.
+fn copies(alloc: Global, args: &Args) -> Result<Args, NoMemory>
+    ensures same { IfOk result (λ copies. copies ≡ args.now) }
+{
+    let mut copies = Vec::with_capacity(alloc, args.len())?;
+    for value in args.as_slice() {
+        copies.push(value.copy(alloc)?)?;
+    }
+    Ok(Args::of_vec(copies))
+}
+
 /// A world function leaves its call in the trace.
 fn world_call<X: Drop>(
     parts: &mut Parts<X>,
     number: u16,
     routine: &Routine,
     caller: u32,
-    args: Args,
+    args: &Args,
 ) -> Result<Option<Value>, NoMemory>
-    ensures ok { IfOk result (λ value. (value ≡ world_value number routine.now.result args)
-        × (parts.new.world ≡ told caller (line.Call routine.now.name args) parts.old.world)) }
+    ensures ok { IfOk result (λ value. (value ≡ world_value number routine.now.result args.now)
+        × (parts.new.world ≡ told caller (line.Call routine.now.name args.now) parts.old.world)) }
     ensures err { OnErr result (parts.new.world ≡ parts.old.world) }
     ensures posts { parts.new.posts ≡ parts.old.posts }
 {
+    let args = copies(parts.alloc(), args)?;
     match ready_call(parts, number, routine, &args) {
         Err(NoMemory) => {
             drop(args);
@@ -162,7 +174,7 @@ fn built_call<X: Drop>(
     room: u32,
     number: u16,
     caller: u32,
-    args: Args,
+    args: &Args,
     action: Option<X>,
 ) -> Result<Option<Value>, NoMemory>
     requires world { IsWorld parts.old.world }
@@ -171,13 +183,12 @@ fn built_call<X: Drop>(
     requires room { room ≤ parts.old.posts }
     requires small { room ≤ 1 }
     ensures ok { IfOk result (λ value. record { value = value; world = parts.new.world }
-        ≡ does number (call caller args action) parts.old.world) }
+        ≡ does number (call caller args.now action) parts.old.world) }
     ensures err { OnErr result (parts.new.world ≡ parts.old.world) }
     ensures posts { room ≤ parts.new.posts }
 {
     match take_room(parts, room) {
         Err(NoMemory) => {
-            drop(args);
             drop(action);
             Err(NoMemory)
         }
@@ -207,7 +218,7 @@ pub(crate) fn by_role<X: Drop>(
     number: u16,
     routine: &Routine,
     caller: u32,
-    args: Args,
+    args: &Args,
     action: Option<X>,
 ) -> Result<Option<Value>, NoMemory>
     requires world { IsWorld parts.old.world }
@@ -219,10 +230,10 @@ pub(crate) fn by_role<X: Drop>(
         → AreServing (known_by hooks.now) }
     requires routine { IsRoutine routine.now }
     requires types { (k : ℕ) → routine.now.role ≡ role.Pure k
-        → types_of_values args ≡ argument_types routine.now.params }
+        → types_of_values args.now ≡ argument_types routine.now.params }
     ensures ok { IfOk result (λ value. record { value = value; world = parts.new.world }
         ≡ by_role (cells_of (known_by hooks.now)) number routine.now
-        routine.now.role (call caller args action) parts.old.world) }
+        routine.now.role (call caller args.now action) parts.old.world) }
     ensures err { OnErr result (parts.new.world ≡ parts.old.world) }
     ensures posts { room ≤ parts.new.posts }
 {
@@ -230,16 +241,13 @@ pub(crate) fn by_role<X: Drop>(
         Role::Built(own) => built_call(parts, room, own, caller, args, action),
         Role::Pure(k) => {
             drop(action);
-            let answer = pure_call(hooks, k, routine, &args);
-            drop(args);
-            answer
+            pure_call(hooks, k, routine, args)
         }
         Role::World => {
             drop(action);
             world_call(parts, number, routine, caller, args)
         }
         Role::Uncallable => {
-            drop(args);
             drop(action);
             Ok(None)
         }

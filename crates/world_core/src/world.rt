@@ -146,24 +146,23 @@ impl<X: Drop> World<X> {
         table: &Table,
         routine: u16,
         caller: u32,
-        args: Args,
+        args: &Args,
         action: Option<X>,
     ) -> Result<Option<Value>, NoMemory>
         requires early { IsEarly self.old.world }
         requires caller { caller ≤ count self.old.world }
         requires hooks { ServeRoutine table.now routine
             (known_by hooks.now) }
-        requires types { FitArguments table.now routine args }
+        requires types { FitArguments table.now routine args.now }
         ensures ok { IfOk result (λ value. record { value = value; world = self.new.world }
             ≡ engine table.now (cells_of (known_by hooks.now)) routine
-            (call caller args action) self.old.world) }
+            (call caller args.now action) self.old.world) }
         ensures err { OnErr result (self.new.world ≡ self.old.world) }
         ensures room { self.old.room ≤ self.new.room }
     {
         calls_keep_worlds::<X>();
         match table.routine(routine) {
             None => {
-                drop(args);
                 drop(action);
                 Ok(None)
             }

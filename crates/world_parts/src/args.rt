@@ -1,7 +1,6 @@
 //! The arguments of a call, read at their places.
-ghost use Rattle.std.specs.Prelude.{◌≡◌, IfOk, slice_get};
+ghost use Rattle.std.specs.Prelude.{◌≡◌, IfOk};
 ghost use Rattle.world_rules.specs.Arguments.{int_at, text_at, object_at, effect_at, event_at};
-ghost use Rattle.world_rules.specs.Arguments.{effect_in, text_in};
 
 use nwq_value::{Args, Effect, NoMemory, Text, Value};
 use shared_bytes::SharedBytes;
@@ -55,56 +54,26 @@ pub(crate) fn string_at(alloc: Global, args: &Args, i: usize) -> Result<SharedBy
     }
 }
 
-/// The argument at a place; the others are dropped.
-fn taken(args: Args, i: usize) -> Option<Value>
-    ensures value { result ≡ slice_get args i }
+/// A text equal to the string at a place, whose bytes are shared with it.
+pub(crate) fn text_copy(alloc: Global, args: &Args, i: usize) -> Result<Text, NoMemory>
+    ensures text { IfOk result (λ text. text ≡ text_at i args.now) }
 {
-    let mut values = args.into_vec();
-    if i < values.len() {
-        Some(values.swap_remove(i))
-    } else {
-        None
-    }
-}
-
-fn text_of(alloc: Global, value: Option<Value>) -> Result<Text, NoMemory>
-    ensures text { IfOk result (λ text. text ≡ text_in value) }
-{
-    match value {
-        Some(Value::Text(text)) => Ok(text),
-        Some(Value::Int(_) | Value::Object(_) | Value::Event(_)) => Text::empty(alloc),
-        Some(Value::Effect(effect)) => {
-            drop(effect);
+    match args.get(i) {
+        Some(Value::Text(text)) => text.copy(alloc),
+        Some(Value::Event(_) | Value::Int(_) | Value::Effect(_) | Value::Object(_)) | None => {
             Text::empty(alloc)
         }
-        None => Text::empty(alloc),
     }
 }
 
-fn effect_of(alloc: Global, value: Option<Value>) -> Result<Effect, NoMemory>
-    ensures effect { IfOk result (λ effect. effect ≡ effect_in value) }
+/// An effect equal to the one at a place, which it shares.
+pub(crate) fn effect_copy(alloc: Global, args: &Args, i: usize) -> Result<Effect, NoMemory>
+    ensures effect { IfOk result (λ effect. effect ≡ effect_at i args.now) }
 {
-    match value {
-        Some(Value::Effect(effect)) => Ok(effect),
-        Some(Value::Int(_) | Value::Object(_) | Value::Event(_)) => Effect::empty(alloc),
-        Some(Value::Text(text)) => {
-            drop(text);
+    match args.get(i) {
+        Some(Value::Effect(effect)) => effect.copy(alloc),
+        Some(Value::Event(_) | Value::Int(_) | Value::Text(_) | Value::Object(_)) | None => {
             Effect::empty(alloc)
         }
-        None => Effect::empty(alloc),
     }
-}
-
-/// The string at a place; the other arguments are dropped.
-pub(crate) fn take_text(alloc: Global, args: Args, i: usize) -> Result<Text, NoMemory>
-    ensures text { IfOk result (λ text. text ≡ text_at i args) }
-{
-    text_of(alloc, taken(args, i))
-}
-
-/// The effect at a place; the other arguments are dropped.
-pub(crate) fn take_effect(alloc: Global, args: Args, i: usize) -> Result<Effect, NoMemory>
-    ensures effect { IfOk result (λ effect. effect ≡ effect_at i args) }
-{
-    effect_of(alloc, taken(args, i))
 }

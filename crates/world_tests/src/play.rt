@@ -152,11 +152,10 @@ fn call(
     table: &Table,
     routine: u16,
     caller: u32,
-    args: Args,
+    args: &Args,
     action: Option<u32>,
 ) -> Option<Option<Value>> {
     if !is_early(world) || caller > world.count() || is_hooked(table, routine) {
-        drop(args);
         return None;
     }
     let hooks = Hooks::new(alloc);
@@ -178,7 +177,7 @@ fn answer(
 ) -> Option<Option<Value>> {
     match args(alloc, given) {
         Err(_) => None,
-        Ok(args) => call(alloc, world, table, routine, caller, args, action),
+        Ok(args) => call(alloc, world, table, routine, caller, &args, action),
     }
 }
 

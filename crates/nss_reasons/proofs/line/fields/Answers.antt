@@ -1,6 +1,6 @@
 use Rattle.std.proofs.Common.{refl}
 use Rattle.nss_reasons.proofs.NodeRows.{field_laws}
-use Rattle.expression_reasons.specs.Rows.{row_end_found, row_found}
+use Rattle.expression_reasons.specs.Rows.{row_found}
 use Rattle.nss_reasons.proofs.line.fields.Goals as goal
 
 pub loop-l-preserved : goal.loop-l-preserved

@@ -1,6 +1,6 @@
-use Rattle.std.proofs.Common.{◌≡◌, ◌∙◌, ◌++◌, ◌+◌, arith, false, sym, ap, refl, subst, Some}
+use Rattle.std.proofs.Common.{◌≡◌, ◌∙◌, ◌+◌, arith, sym, ap, refl, subst}
 use Rattle.std.specs.Option.{option_map}
-use Rattle.std.specs.Result.{IfOk, OnOk}
+use Rattle.std.specs.Result.{OnOk}
 use Rattle.nss_tree.specs.Reading.{plain_expr, plain_stmt, plain_stmts}
 use Rattle.nss_tree.specs.Readings.{tree_block, tree_break_off, tree_case_label, tree_continue_on, tree_declaration, tree_default_label, tree_do_loop, tree_empty, tree_expression, tree_for_loop}
 use Rattle.nss_tree.specs.Readings.{tree_if_else, tree_if_only, tree_return_from, tree_switch, tree_while_loop}
@@ -11,7 +11,7 @@ use Rattle.typing_rules.specs.Verdicts.{after, afters}
 use Rattle.nss_expressions.specs.Views.{heads_in, sight_in}
 use Rattle.expression_reasons.specs.Reasons.{condition_nodes, nodes_there, value_nodes}
 use Rattle.nss_reasons.specs.Reasons.{stmt_nodes, stmts_nodes}
-use Rattle.expression_reasons.specs.Seen.{own, seen}
+use Rattle.expression_reasons.specs.Seen.{seen}
 use Rattle.nss_reasons.proofs.NodeRows.{stmt_laws}
 use Rattle.expression_reasons.specs.Rows.{row_found, row_sight, row_end_found, row_end_sight}
 use Rattle.nss_statements.specs.Nodes.{all_size, block_is, declaration_is, do_is, err_on, falls, for_is, if_else_is, if_only_is, next_falls, on_ok, size, switch_is, while_is}

@@ -1,4 +1,4 @@
-use Rattle.std.proofs.Common.{◌≡◌, ◌∙◌, map, ap, None}
+use Rattle.std.proofs.Common.{◌∙◌, map, ap, None}
 use Rattle.nss_tree.specs.Reading.{plain_item}
 use Rattle.nss_reasons.specs.Reasons.{items_nodes}
 use Rattle.expression_reasons.specs.Seen.{seen}

@@ -11,7 +11,7 @@ invariant_of-self g c =
     let caller = subst (λ h. c.args.caller ≤ count h.world) (sym c.self.view_is) c.requires.caller in (
       engine_kept c.calls_keep_worlds.ensures.engine c.args.table.now
           (cells_of (known_by c.args.hooks.now)) c.args.routine c.in-Some.found.now
-          (call c.args.caller c.args.args c.args.action)
+          (call c.args.caller c.args.args.now c.args.action)
           c.self.inside.parts.world c.by_role.new.parts.world c.by_role.result c.in-Some.ensures.entry c.by_role.ensures.ok c.by_role.ensures.err c.self.invariant.0 caller,
       c.by_role.ensures.posts,
       c.self.invariant.2,
