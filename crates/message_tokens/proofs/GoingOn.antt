@@ -22,7 +22,7 @@ all_taken P (suc n) (x ∷ xs) h = (h.0, all_taken P n xs h.1)
 
 -- ---- what is known of tokens with one more behind them
 
-as_many : {A B : Type 0} (f : A → B) (xs : List A) → length (map f xs) ≡ length xs
+pub as_many : {A B : Type 0} (f : A → B) (xs : List A) → length (map f xs) ≡ length xs
 as_many f [] = refl
 as_many f (x ∷ xs) = let more = as_many f xs in omega (arith, more)
 
@@ -30,7 +30,7 @@ map_append : {A B : Type 0} (f : A → B) (xs ys : List A) → map f (xs ++ ys) 
 map_append f [] ys = refl
 map_append f (x ∷ xs) ys = ap (λ r. f x ∷ r) (map_append f xs ys)
 
-map_drop : {A B : Type 0} (f : A → B) (n : ℕ) (xs : List A) → map f (drop n xs) ≡ drop n (map f xs)
+pub map_drop : {A B : Type 0} (f : A → B) (n : ℕ) (xs : List A) → map f (drop n xs) ≡ drop n (map f xs)
 map_drop f zero xs = refl
 map_drop f (suc n) [] = refl
 map_drop f (suc n) (x ∷ xs) = map_drop f n xs
@@ -55,9 +55,9 @@ pub by_grammar : (walk : Walk) (count : ℕ) (rest : List Symbol) (next : Symbol
     → TellsPrefix count (rest ++ next ∷ []) able → TellsFollowing walk count rest next able
 by_grammar walk count rest next b able stays is tells before known =
     let told = tells known.front known.items known.many in
-    let whole : known.front ++ (rest ++ next ∷ []) ≡ before ++ next ∷ [] = sym (append_assoc known.front rest (next ∷ [])) ∙ ap (λ ts. ts ++ next ∷ []) (sym known.whole) in (
-      (λ yes. record { prefix = subst IsPrefix whole (told.0 yes); nest = (known.walked (next ∷ [])).1 (stays.0 (let t : IsTrue b = is in t)) }),
-      (λ h. told.1 (subst IsPrefix (sym whole) h.prefix)),
+    let alike = known.alike (next ∷ []) in (
+      (λ yes. record { prefix = alike.1 (told.0 yes); nest = (known.walked (next ∷ [])).1 (stays.0 (let t : IsTrue b = is in t)) }),
+      (λ h. told.1 (alike.0 h.prefix)),
     )
 
 pub grammar_tells : (walk : Walk) (count : ℕ) (rest all : List Seen) (next : Seen) (b able : Bool) → (IsTrue b ↔ StaysWithin walk (plain_symbol next ∷ [])) → b ≡ true
@@ -82,32 +82,35 @@ pub none_listed : (before tried : List Token) (all : List Symbol) → all ≡ sy
 none_listed before tried all same deep =
     none_behind before [] tried (λ t h. deep (symbol_of t ∷ []) (subst IsWithinNest (with_token before t ∙ ap (λ ts. ts ++ symbol_of t ∷ []) (sym same)) h.nest)) none
 
+-- tokens behind whole items go on as they are
+same_alike : (before front rest : List Symbol) → before ≡ front ++ rest → (more : List Symbol) → IsPrefix (before ++ more) ↔ IsPrefix (front ++ (rest ++ more))
+same_alike before front rest is more =
+    let whole : before ++ more ≡ front ++ (rest ++ more) = ap (λ l. l ++ more) is ∙ append_assoc front rest more in
+    ((λ h. subst IsPrefix whole h), (λ h. subst IsPrefix (sym whole) h))
+
 -- what is known of all tokens before the place
-pub known_behind : (walk : Walk) (count : ℕ) (seen : List Seen) (before : List Symbol) → map plain_symbol seen ≡ before → IsWalkOver (map plain_symbol seen) (Some walk)
-    → count ≤ length seen → AreItems (take count (map plain_symbol seen)) → IsBehind walk count (map plain_symbol (drop count seen)) before
-known_behind walk count seen before same walked within items =
-    let many = as_many plain_symbol seen in
-    record {
-      walked = subst (λ ts. IsWalkOver ts (Some walk)) same walked;
-      front = take count (map plain_symbol seen);
-      items = items;
-      many = length-take-le count (map plain_symbol seen) (omega (arith, many, within));
-      whole = sym same ∙ sym (take-append-drop count (map plain_symbol seen)) ∙ ap (λ r. take count (map plain_symbol seen) ++ r) (sym (map_drop plain_symbol count seen));
-    }
+pub known_behind : (walk : Walk) (count : ℕ) (tokens : List Symbol) → IsWalkOver tokens (Some walk) → count ≤ length tokens → AreItems (take count tokens)
+    → IsBehind walk count (drop count tokens) tokens
+known_behind walk count tokens walked within items = record {
+  walked = walked;
+  front = take count tokens;
+  items = items;
+  many = length-take-le count tokens within;
+  alike = same_alike tokens (take count tokens) (drop count tokens) (sym (take-append-drop count tokens));
+}
 
 -- the same of what code holds
-pub behind_all : (walk : Walk) (count : ℕ) (seen one two three : List Seen) (tokens : List Token) (o : Option Walk) → one ≡ seen → two ≡ seen → three ≡ seen
-    → map plain_symbol seen ≡ symbols_of tokens → IsWalkOver (map plain_symbol one) o → o ≡ Some walk → count ≤ length two → AreItems (take count (map plain_symbol two))
-    → IsBehind walk count (map plain_symbol (take (length three - count) (drop count three))) (symbols_of tokens)
-behind_all walk count seen one two three tokens o e1 e2 e3 same walked is within items =
-    let over : IsWalkOver (map plain_symbol seen) (Some walk) =
-    subst (λ l. IsWalkOver (map plain_symbol l) (Some walk)) e1 (subst (λ p. IsWalkOver (map plain_symbol one) p) is walked) in
-    let inside : count ≤ length seen = subst (λ l. count ≤ length l) e2 within in
-    let front : AreItems (take count (map plain_symbol seen)) = subst (λ l. AreItems (take count (map plain_symbol l))) e2 items in
-    let many = length-drop count three in
-    let rest : take (length three - count) (drop count three) ≡ drop count seen =
-    take_all (length three - count) (drop count three) (omega (arith, many)) ∙ ap (drop count) e3 in
-    subst (λ l. IsBehind walk count (map plain_symbol l) (symbols_of tokens)) (sym rest) (known_behind walk count seen (symbols_of tokens) same over inside front)
+pub behind_items : (walk : Walk) (count : ℕ) (seen rest : List Seen) (tokens : List Token) → rest ≡ take (length seen - count) (drop count seen)
+    → symbols_of tokens ≡ map plain_symbol seen → IsWalkOver (map plain_symbol seen) (Some walk) → count ≤ length seen → AreItems (take count (map plain_symbol seen))
+    → IsBehind walk count (map plain_symbol rest) (symbols_of tokens)
+behind_items walk count seen rest tokens e same walked within items =
+    let many = as_many plain_symbol seen in
+    let left = length-drop count seen in
+    let all : rest ≡ drop count seen = e ∙ take_all (length seen - count) (drop count seen) (omega (arith, left)) in
+    let shown : map plain_symbol rest ≡ drop count (map plain_symbol seen) = ap (map plain_symbol) all ∙ map_drop plain_symbol count seen in
+    subst (λ l. IsBehind walk count l (symbols_of tokens)) (sym shown)
+    (subst (λ l. IsBehind walk count (drop count (map plain_symbol seen)) l) (sym same)
+    (known_behind walk count (map plain_symbol seen) walked (omega (arith, many, within)) items))
 
 pub rest_sound : (count : ℕ) (seen three : List Seen) → three ≡ seen → AreSound seen → AreSound (take (length three - count) (drop count three))
 rest_sound count seen three e sound =
@@ -115,6 +118,17 @@ rest_sound count seen three e sound =
     let rest : take (length three - count) (drop count three) ≡ drop count seen =
     take_all (length three - count) (drop count three) (omega (arith, many)) ∙ ap (drop count) e in
     subst AreSound (sym rest) (sound_drop count seen sound)
+
+pub sound_take : (n : ℕ) (xs : List Seen) → AreSound xs → AreSound (take n xs)
+sound_take zero xs all = tt
+sound_take (suc n) [] all = tt
+sound_take (suc n) (x ∷ xs) all = (all.0, sound_take n xs all.1)
+
+-- what is known where code holds the tokens once more
+pub walked_again : (walk : Walk) (seen one two : List Seen) (tokens : List Token) (o : Option Walk) → one ≡ seen → two ≡ seen → map plain_symbol seen ≡ symbols_of tokens
+    → IsWalkOver (map plain_symbol one) o → o ≡ Some walk → (symbols_of tokens ≡ map plain_symbol two) × IsWalkOver (map plain_symbol two) (Some walk)
+walked_again walk seen one two tokens o e1 e2 same walked is =
+    (sym same ∙ ap (map plain_symbol) (sym e2), subst (λ l. IsWalkOver (map plain_symbol l) (Some walk)) (e1 ∙ sym e2) (subst (λ p. IsWalkOver (map plain_symbol one) p) is walked))
 
 pub as_many_seen : (seen : List Seen) (tokens : List Token) → map plain_symbol seen ≡ symbols_of tokens → length seen ≡ length tokens
 as_many_seen seen tokens e = sym (as_many plain_symbol seen) ∙ ap length e ∙ as_many symbol_of tokens

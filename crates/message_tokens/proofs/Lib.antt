@@ -1,2 +1,3 @@
 pub mod GoingOn
 mod KindLemmas
+pub mod Bodies

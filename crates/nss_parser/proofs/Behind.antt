@@ -22,7 +22,7 @@ use Rattle.nss_parser.proofs.Whole.{body_reads, whole_reads, numbered_length, ta
 
 -- ---- items before others
 
-items_join : {xs ys : SourceItems} {i j : List Numbered} → Items xs i → Items ys j → Items (xs ++ ys) (i ++ j)
+pub items_join : {xs ys : SourceItems} {i j : List Numbered} → Items xs i → Items ys j → Items (xs ++ ys) (i ++ j)
 items_join spelled.none b = b
 items_join {ys = ys} {j = j} (spelled.more {x = x} {all = all} {xs = one} {ys = rest} h hs) b =
     subst (λ (l : List Numbered). Items (x ∷ (all ++ ys)) l) (sym (append_assoc one rest j)) (spelled.more h (items_join hs b))
@@ -45,7 +45,7 @@ behind_item {x} {one} h w (spelled.more {x = y} {all = more} {xs = first} {ys = 
     let same : rest ≡ w = cc in (more, subst (λ (l : List Numbered). Items more l) same ps)
 
 -- what follows whole items in a unit are items
-items_rest : {xs : SourceItems} {i : List Numbered} → Items xs i → (ys : SourceItems) (w : List Numbered) → Items ys (i ++ w) → (more : SourceItems) × Items more w
+pub items_rest : {xs : SourceItems} {i : List Numbered} → Items xs i → (ys : SourceItems) (w : List Numbered) → Items ys (i ++ w) → (more : SourceItems) × Items more w
 items_rest spelled.none ys w h = (ys, h)
 items_rest (spelled.more {xs = one} {ys = rest} p ps) ys w h =
     let (more, hs) = behind_item p (rest ++ w) h (append_assoc one rest w) in items_rest ps more w hs

@@ -24,6 +24,7 @@ pub mod StatementRight
 pub mod Whole
 pub mod OneRefusal
 pub mod Behind
+pub mod OpenBodies
 pub mod ReaderLemmas
 pub mod Sits
 pub mod Weight

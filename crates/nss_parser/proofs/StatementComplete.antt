@@ -286,7 +286,7 @@ module _ (d : ℕ) (inner : Parser SourceStmt) where
   unfolding first take same_terminal
   last_entry labels t k before rest = refl
 
-  next_entry : (labels : Bool) (t : ℕ) (before : SourceStmts) (s : SourceStmt) (i j : List Numbered) → sees terminal.CloseBrace i ≡ false → entry d inner labels i ≡ Got s j
+  pub next_entry : (labels : Bool) (t : ℕ) (before : SourceStmts) (s : SourceStmt) (i j : List Numbered) → sees terminal.CloseBrace i ≡ false → entry d inner labels i ≡ Got s j
       → entries_from d inner labels (suc t) before i ≡ entries_from d inner labels t (joined_stmts before (stmt.more_stmts s stmt.no_stmt)) j
   next_entry labels t before s i j e h = rw (e, h) refl
 
@@ -521,7 +521,7 @@ mutual
       deeply d (fixed n terminal.Return ∷ ((xs ++ fixed k terminal.Semicolon ∷ []) ++ rest)) (Got (stmt.return_from n x) rest) lt (λ e le.
       return_step e (statement e) n k x ((xs ++ fixed k terminal.Semicolon ∷ []) ++ rest) rest (complete_optional h terminal.Semicolon semicolon_optional e k [] rest (omega arith)))
 
-  complete_entry : {labels : Bool} {s : SourceStmt} {xs : List Numbered} → Entry labels s xs
+  pub complete_entry : {labels : Bool} {s : SourceStmt} {xs : List Numbered} → Entry labels s xs
       → (e : ℕ) (rest : List Numbered) → sees terminal.Else rest ≡ false → suc (length (xs ++ rest)) < e
       → entry e (statement e) labels (xs ++ rest) ≡ Got s rest
   complete_entry (grammar.statement {labels = labels} {s = s} {ss = ss} h) e rest shut lt =

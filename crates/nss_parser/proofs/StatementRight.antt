@@ -228,7 +228,7 @@ module _ (d : ℕ) (inner : Parser SourceStmt)
   unfolding entry
   right_entry labels i = right_entry_by labels (type_begins (first i)) i
 
-  right_entries_from : (labels : Bool) (t : ℕ) (before : SourceStmts) (i : List Numbered)
+  pub right_entries_from : (labels : Bool) (t : ℕ) (before : SourceStmts) (i : List Numbered)
       → Right (λ all xs rest. (more : SourceStmts) × (all ≡ joined_stmts before more) × Braced labels more xs)
       (Viable (Braced labels)) ((t ≤ length i) ⊎ (d ≤ suc (length i))) i (entries_from d inner labels t before i)
   right_entries_from labels zero before i = right_deep (inl (omega arith))

@@ -219,7 +219,7 @@ some_parameters : (d : ℕ) (i : List Numbered) → sees terminal.Close i ≡ fa
 unfolding parameters
 some_parameters d i e = rw e refl
 
-complete_parameter_list : {all : List SourceParameter} {xs : List Numbered} → Parameters all xs → (d k : ℕ) (rest : List Numbered)
+pub complete_parameter_list : {all : List SourceParameter} {xs : List Numbered} → Parameters all xs → (d k : ℕ) (rest : List Numbered)
     → length (xs ++ fixed k terminal.Close ∷ rest) < d → parameters d (xs ++ fixed k terminal.Close ∷ rest) ≡ Got all rest
 complete_parameter_list spelled.absent d k rest lt = no_parameters d k rest
 complete_parameter_list (spelled.present {all = all} {xs = xs} hs) d k rest lt =
@@ -283,7 +283,7 @@ module _ (d safe : ℕ) (fits : safe ≤ d) (entries : Parser SourceStmts)
   unfolding function take
   function_step a t x all b i j rest ps bs = rw (ps, bs) refl
 
-  opens_function : (n k a : ℕ) (t : TypeName) (f : List ℕ) (i : List Numbered)
+  pub opens_function : (n k a : ℕ) (t : TypeName) (f : List ℕ) (i : List Numbered)
       → after_type d entries n t (at k (symbol.Name f) ∷ fixed a terminal.Open ∷ i) ≡ function d entries t (record { token = k; name = f }) (fixed a terminal.Open ∷ i)
   unfolding after_type first same_terminal
   opens_function n k a t f i = rw (identifier_step k f (fixed a terminal.Open ∷ i)) refl
@@ -294,7 +294,7 @@ module _ (d safe : ℕ) (fits : safe ≤ d) (entries : Parser SourceStmts)
   opens_global n k t f z absent = rw (identifier_step k f z, absent) refl
 
   -- an item that begins with a type
-  type_item : {n : ℕ} {t : TypeName} {ts : List Numbered} → TypeTokens n t ts → (k : ℕ) (f : List ℕ) (z : List Numbered)
+  pub type_item : {n : ℕ} {t : TypeName} {ts : List Numbered} → TypeTokens n t ts → (k : ℕ) (f : List ℕ) (z : List Numbered)
       → item d entries (ts ++ at k (symbol.Name f) ∷ z) ≡ after_type d entries n t (at k (symbol.Name f) ∷ z)
   unfolding item after_struct first take same_terminal
   type_item (grammar.word n m t is) k f z =

@@ -1,6 +1,7 @@
 //! Laws of the grammar, each the contract of a function that does nothing.
 
 ghost use Rattle.nss_parser.specs.Fault.{NoRefusalOfTrees, OneRefusal};
+ghost use Rattle.nss_parser.specs.Front.{OpenBodiesAlike};
 ghost use Rattle.nss_parser.specs.ReadWhole.{ReadingGivesTree};
 ghost use Rattle.nss_parser.specs.Sizes.{EachTreeIsKnown};
 ghost use Rattle.nss_parser.specs.Weight.{EachTreeWithinTokens};
@@ -38,4 +39,9 @@ pub fn within_tokens()
 /// tokens are many.
 pub fn each_tree_is_known()
     ensures known { EachTreeIsKnown }
+{}
+
+/// What can follow the entries of an open body doesn't depend on them, nor on what stands before.
+pub fn open_bodies_alike()
+    ensures alike { OpenBodiesAlike }
 {}
