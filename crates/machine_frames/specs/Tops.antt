@@ -43,6 +43,11 @@ abbrev pub int_at : (ℤ → ℤ) → ℕ → List Cell → Option (List Cell)
 int_at f depth cells = on_int (drop depth cells)
     (λ n rest. Some (slice_set cells depth (Holds (Int (f n)))))
 
+-- the int that a cell holds
+abbrev pub int_in : Cell → Option ℤ
+int_in (Holds (Int n)) = Some n
+int_in _ = None
+
 -- the BP that a base cell on top keeps
 abbrev pub bp_on_top : List Cell → Option ℕ
 bp_on_top (Base bp ∷ cells) = Some bp

@@ -10,10 +10,10 @@ ghost use Rattle.machine_rules.specs.Act.{Moves, Divides, Returns, based, subrou
 ghost use Rattle.machine_rules.specs.Act.{is_division, restored};
 ghost use Rattle.machine_rules.specs.Act.{returned, stored, stored_cells};
 ghost use Rattle.std.specs.Prelude.{◌∷◌};
-ghost use Rattle.std.specs.Option.{option_map};
+ghost use Rattle.std.specs.Option.{option_and_then, option_map};
 ghost use Rattle.std.specs.Vec.{vec_len, vec_capacity};
 ghost use Rattle.decoded_code.specs.Steps.{op_of};
-ghost use Rattle.machine_frames.specs.Tops.{bp_on_top};
+ghost use Rattle.machine_frames.specs.Tops.{bp_on_top, int_in};
 ghost use Rattle.machine_rules.specs.Frames.{Frame as FrameView};
 
 use crate::change::{change, jump, operate, zero_on_top};
@@ -124,6 +124,25 @@ impl Frame {
             Some(self.calls[len - 1 - i])
         } else {
             None
+        }
+    }
+
+    /// How many cells are on its stack.
+    pub fn height(&self) -> usize
+        ensures count { result ≡ length self.now.stack.cells }
+    {
+        self.stack.len()
+    }
+
+    /// The int in the cell over which so many others lie; `None` exactly where it holds none.
+    pub fn int_at(&self, above: usize) -> Option<i32>
+        requires inside { above < length self.now.stack.cells }
+        ensures int { result
+            ≡ option_and_then int_in (slice_get self.now.stack.cells above) }
+    {
+        match cell(&self.stack, above) {
+            Cell::Value(Value::Int(n)) => Some(*n),
+            _ => None,
         }
     }
 

@@ -9,3 +9,4 @@ pub mod Calls
 pub mod Stepping
 pub mod Beginning
 mod RemarkLemmas
+mod BegunLemmas

@@ -14,7 +14,7 @@ use Rattle.play_remarks.specs.declared.Remark.{Remark}
 use Rattle.play_remarks.specs.declared.Spot.{Spot}
 use Rattle.ncs_machine.specs.declared.entry.Ran.{Ran}
 use Rattle.ncs_machine.specs.declared.entry.Ran.TheVariants.{Ended, Divide, Limit, NoMemory}
-use Rattle.ncs_machine.specs.Remarks.{IsRemark, MayRemark, WhereStopped, returns_of, spot_of, under_way, waits_for}
+use Rattle.ncs_machine.specs.Remarks.{Begun, IsRemark, MayRemark, WhereStopped, returns_of, spot_of, under_way, waits_for}
 
 -- ---- the first of a list
 
@@ -143,7 +143,7 @@ all_put n f g waiting old first now same none a b =
 
 -- ---- a remark of a run's last state
 
-pub remark_is : (answer : Ran) (x y : Spot) (a b : State (World Saved)) (o : Option Remark) → x ≡ y → WhereStopped answer (a ≡ b)
+pub remark_is : (answer : Ran) (x y : Begun) (a b : State (World Saved)) (o : Option Remark) → x ≡ y → WhereStopped answer (a ≡ b)
     → IfSome o (λ r. MayRemark answer x a (Some r)) → IfSome o (λ r. MayRemark answer y b (Some r))
 remark_is answer x y a b None first last h = h
 remark_is Ended x y a b (Some r) first last h = h

@@ -8,13 +8,14 @@ ghost use Rattle.ncs_machine.specs.Endings.{IsCut, IsRunOf, WhereCut};
 ghost use Rattle.ncs_machine.specs.Host.{engine_view, first_frame, host, run_from, scripts_of};
 ghost use Rattle.ncs_machine.specs.Host.{tables_of};
 ghost use Rattle.ncs_machine.specs.InSetting.{seen};
-ghost use Rattle.ncs_machine.specs.Remarks.{MayRemark, WhereStopped, spot_of};
+ghost use Rattle.ncs_machine.specs.Remarks.{MayRemark, WhereStopped, begun_as};
 ghost use Rattle.ncs_machine.specs.Settings.{IsSet, checked_listing, code_setting};
 ghost use Rattle.ncs_machine.specs.Settings.{host_in, scripts_in, tables_in};
 ghost use Rattle.ncs_machine.specs.Steps.{state};
 
+use crate::begun::Begun;
 use crate::machine::{Machine, StepOutcome};
-use crate::remarks::{end_remark, spot_of};
+use crate::remarks::end_remark;
 use crate::scene::Scene;
 use crate::scripts::{Begin, Scripts};
 use crate::setting::PlaySetting;
@@ -111,11 +112,11 @@ fn run_remarked(
         (tables_in (seen setting.now)) world.old.world world.new.world }
     ensures cut { WhereCut result.0.0 (IsCut (host_in (seen setting.now)) result.0.1 result.0.2
         (entry frame world.old.world) world.new.world) }
-    ensures remark { IfSome result.1 (λ remark. MayRemark result.0.0 (spot_of frame) (run_of
+    ensures remark { IfSome result.1 (λ remark. MayRemark result.0.0 (begun_as frame) (run_of
         (host_in (seen setting.now)) limit (entry frame world.old.world)).last (Some remark)) }
 {
     setting.code.keeps();
-    let begun = spot_of(&frame);
+    let begun = Begun::of(&frame);
     let mut machine = Machine::of(alloc, frame);
     let ran = run_machine(
         alloc,
@@ -126,7 +127,7 @@ fn run_remarked(
         setting.code.table(),
         limit,
     );
-    let remark = end_remark(alloc, ran.0, begun, &machine, world);
+    let remark = end_remark(alloc, ran.0, &begun, &machine, world);
     (ran, remark)
 }
 

@@ -6,6 +6,7 @@
 //! before it runs. docs/MACHINE.md tells the machine in words.
 #![tactic(auto)]
 
+mod begun;
 mod call;
 mod entry;
 mod laws;

@@ -1,10 +1,11 @@
 //! What is remarked where an entry ends before its end.
 ghost use Rattle.std.specs.Prelude.{◌≡◌, ◌≤◌, ◌++◌, ◌∷◌, [], length, take, IfOk, IfSome, OnOk, Some};
 ghost use Rattle.std.specs.List.{flat_map};
-ghost use Rattle.ncs_machine.specs.Remarks.{IsRemark, MayRemark, returns_of, spot_of};
+ghost use Rattle.ncs_machine.specs.Remarks.{IsRemark, MayRemark, returns_of};
 ghost use Rattle.ncs_machine.specs.Remarks.{time_of, under_way, waits_for};
 ghost use Rattle.ncs_machine.specs.Steps.{state};
 
+use crate::begun::{Begun, spot_of};
 use crate::entry::Ran;
 use crate::machine::Machine;
 use machine_frames::Frame;
@@ -19,16 +20,6 @@ const MOST_RETURNS: usize = 1_000;
 
 /// The last time of a play.
 const LAST_TIME: u64 = 4_294_967_295;
-
-/// Where the next instruction of a script stands.
-pub(crate) fn spot_of(frame: &Frame) -> Spot
-    ensures spot { result ≡ spot_of frame.now }
-{
-    Spot {
-        script: frame.script(),
-        place: frame.place(),
-    }
-}
 
 /// A time of a play.
 fn time_of(clock: u64) -> u32
@@ -100,24 +91,25 @@ fn returns_of(alloc: Global, machine: &Machine, most: usize) -> Result<Vec<Spot>
     Ok(returns)
 }
 
-/// The remark of an entry that began there and ended so before its end.
+/// The remark of an entry that began so and ended so before its end.
 fn remark_of(
     alloc: Global,
     ending: Ending,
-    begun: Spot,
+    begun: &Begun,
     machine: &Machine,
     world: &World<Saved>,
 ) -> Result<Remark, NoMemory>
-    ensures remark { IfOk result (IsRemark ending begun (state machine.now world.now.world)) }
+    ensures remark { IfOk result (IsRemark ending begun.now (state machine.now world.now.world)) }
 {
     let returns = returns_of(alloc, machine, MOST_RETURNS)?;
+    let values = Vec::from_slice(alloc, begun.ints())?;
     Ok(Remark {
         ending,
         time: time_of(world.clock()),
         at: spot_of(machine.frame()),
         returns,
-        begun,
-        values: Vec::new(alloc),
+        begun: begun.spot(),
+        values,
     })
 }
 
@@ -125,11 +117,11 @@ fn remark_of(
 fn run_remark(
     alloc: Global,
     ran: Ran,
-    begun: Spot,
+    begun: &Begun,
     machine: &Machine,
     world: &World<Saved>,
 ) -> Result<Option<Remark>, NoMemory>
-    ensures remark { IfOk result (MayRemark ran begun (state machine.now world.now.world)) }
+    ensures remark { IfOk result (MayRemark ran begun.now (state machine.now world.now.world)) }
 {
     let ending = match ran {
         Ran::Divide => Ending::Divide,
@@ -143,11 +135,11 @@ fn run_remark(
 pub(crate) fn end_remark(
     alloc: Global,
     ran: Ran,
-    begun: Spot,
+    begun: &Begun,
     machine: &Machine,
     world: &World<Saved>,
 ) -> Option<Remark>
-    ensures remark { IfSome result (λ remark. MayRemark ran begun
+    ensures remark { IfSome result (λ remark. MayRemark ran begun.now
         (state machine.now world.now.world) (Some remark)) }
 {
     if !world.keeps_remarks() {

@@ -27,7 +27,7 @@ returns-clause-cut g c =
 
 pub returns-clause-remark : goal.returns-clause-remark
 returns-clause-remark g c =
-    remark_is _ _ _ _ _ _ c.spot_of-begun.ensures.spot
+    remark_is _ _ _ _ _ _ c.of-begun.ensures.begun
     (last_here _ _ _ 0 0 _ _ _ _ _ _ (setting_is c.args.setting.now.code _ _ (known_by c.args.setting.now.hooks.now) c.scripts.ensures.scripts c.table.ensures.table)
     c.of-machine.ensures.frames c.run_machine-ran.ensures.last)
     c.end_remark-remark.ensures.remark
