@@ -6,9 +6,14 @@ use Rattle.stack_check.specs.declared.facts.Trial.{Trial}
 use Rattle.stack_lists.specs.Held.{shape_of}
 use Rattle.stack_check.specs.Inference.{CallsOfWait, CallsWait, UnseenOwed}
 use Rattle.stack_check.proofs.Following.{calls_wait, sees_few}
-use Rattle.stack_check.proofs.Seeing.{see_owed, see_within}
+use Rattle.stack_check.proofs.Seeing.{see_owed, see_trial, see_within}
 use Rattle.stack_check.proofs.Windows.{whole_same}
 use Rattle.stack_check.proofs.see.see.Goals as goal
+
+pub unreachable-requires : goal.unreachable-requires
+unreachable-requires c =
+    see_trial c.args.judged.now.table.now c.args.judged.now.code.now c.args.heap.now c.args.facts.now c.args.from.trial c.args.from.place c.args.from.held
+    c.requires.keeps c.requires.row c.in-None.ensures.item
 
 pub returns-then-has_seen_all-clause-within : goal.returns-then-has_seen_all-clause-within
 returns-then-has_seen_all-clause-within c =
@@ -37,13 +42,13 @@ narrow-requires-clause-owed c =
 
 pub returns-clause-again : goal.returns-clause-again
 returns-clause-again c = λ e.
-    calls_wait c.args.todo.now c.note_growth.new.todo c.look_again.new.todo c.add.new.self c.args.facts.now c.args.from.trial c.in-Some.trial.now _
-    (sym c.in-Some.ensures.item) c.in_ok-note_growth-in-Some.ensures.calls c.in_ok-look_again-in-Some.ensures c.in_ok-add-in-Some.ensures.added
+    calls_wait c.args.todo.now c.note_growth.new.todo c.look_again.new.todo c.args.facts.now c.args.from.trial c.in-Some.trial.now
+    (sym c.in-Some.ensures.item) c.in_ok-note_growth-in-Some.ensures.calls c.in_ok-look_again-in-Some.ensures
 
 pub returns-clause-few : goal.returns-clause-few
 returns-clause-few c =
-    sees_few c.args.todo.now c.note_growth.new.todo c.look_again.new.todo c.add.new.self c.in-Some.trial.now.entry _ c.in_ok-note_growth-in-Some.ensures.waits
-    c.in_ok-note_growth-in-Some.ensures.calls c.in_ok-look_again-in-Some.ensures c.in_ok-add-in-Some.ensures.added c.in_ok-add-in-Some.ensures.calls
+    sees_few c.args.todo.now c.note_growth.new.todo c.look_again.new.todo c.in-Some.trial.now.entry c.in_ok-note_growth-in-Some.ensures.waits
+    c.in_ok-note_growth-in-Some.ensures.calls c.in_ok-look_again-in-Some.ensures
 
 some_is : {A : Type 0} (a b : A) → Some a ≡ Some b → a ≡ b
 some_is a b h = cc
@@ -54,10 +59,9 @@ wait_of a b facts number trial h k = subst (λ (t : Trial). CallsWait a b t.entr
 
 pub returns-clause-hands : goal.returns-clause-hands
 returns-clause-hands c =
-    hands_seen c.args.facts.now c.narrow.new.facts c.args.todo.now c.note_growth.new.todo c.look_again.new.todo c.add.new.self c.args.from.trial
-    c.in-Some.trial.now _ c.narrow.ensures.set (sym c.in-Some.ensures.item) c.in_ok-note_growth-in-Some.ensures.waits c.in_ok-note_growth-in-Some.ensures.calls
+    hands_seen c.args.facts.now c.narrow.new.facts c.args.todo.now c.note_growth.new.todo c.look_again.new.todo c.args.from.trial
+    c.in-Some.trial.now c.narrow.ensures.set (sym c.in-Some.ensures.item) c.in_ok-note_growth-in-Some.ensures.waits c.in_ok-note_growth-in-Some.ensures.calls
     c.in_ok-look_again-in-Some.ensures
-    (wait_of c.args.todo.now c.add.new.self c.args.facts.now c.args.from.trial c.in-Some.trial.now (sym c.in-Some.ensures.item)
-    (calls_wait c.args.todo.now c.note_growth.new.todo c.look_again.new.todo c.add.new.self c.args.facts.now c.args.from.trial c.in-Some.trial.now _
-    (sym c.in-Some.ensures.item) c.in_ok-note_growth-in-Some.ensures.calls c.in_ok-look_again-in-Some.ensures c.in_ok-add-in-Some.ensures.added))
-    c.in_ok-add-in-Some.ensures.added c.in_ok-add-in-Some.ensures.calls
+    (wait_of c.args.todo.now c.look_again.new.todo c.args.facts.now c.args.from.trial c.in-Some.trial.now (sym c.in-Some.ensures.item)
+    (calls_wait c.args.todo.now c.note_growth.new.todo c.look_again.new.todo c.args.facts.now c.args.from.trial c.in-Some.trial.now
+    (sym c.in-Some.ensures.item) c.in_ok-note_growth-in-Some.ensures.calls c.in_ok-look_again-in-Some.ensures))
