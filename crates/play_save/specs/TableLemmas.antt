@@ -1,6 +1,6 @@
 -- Tables of shapes by the numbers of scripts, one for each. No contract speaks of these lemmas; they
 -- serve the proofs of play_save and of play_states.
-use Rattle.std.proofs.Common.{ℕ, zero, suc, List, [], ◌∷◌, ◌≡◌, subst}
+use Rattle.std.proofs.Common.{zero, suc, List, [], ◌∷◌, ◌≡◌, subst}
 use Rattle.std.specs.List.{AllByRecursion}
 use Rattle.nwq_value.specs.Engine.{EngineTable}
 use Rattle.machine_rules.specs.Machine.{Script}
