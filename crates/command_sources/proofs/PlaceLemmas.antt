@@ -2,6 +2,8 @@
 use Rattle.std.proofs.Common.{◌≡◌, ℕ, zero, suc, List, [], ◌∷◌, length, map, Option, Some, None, Result, Ok, Err, IfOk, refl, sym, ap, ◌∙◌, subst}
 use Rattle.std.specs.List.{AllByRecursion, slice_get}
 use Rattle.std.specs.Option.{option_map}
+use Rattle.std.proofs.lemmas.List.Elements.{All-from_recursion}
+use Rattle.std.proofs.lemmas.Option.{get_or_from_slice_get, slice_get-map, slice_get_within}
 use Rattle.nwq_value.specs.declared.memory.NoMemory.{NoMemory}
 use Rattle.nss_lexer.specs.declared.token.Token.{Token}
 use Rattle.nss_lexer.specs.Splitting.{Lexeme, plain}
@@ -12,24 +14,17 @@ use Rattle.nss_include.specs.View.{StandsIn}
 use Rattle.nss_symbols.specs.Tokens.{symbol_of, symbols_of}
 use Rattle.command_sources.specs.Units.{grammar_symbols, file_at, spot_of, spot_at}
 
-map_get : {A B : Type 0} (f : A → B) (xs : List A) (i : ℕ) → slice_get (map f xs) i ≡ option_map f (slice_get xs i)
-map_get f [] i = refl
-map_get f (x ∷ xs) zero = refl
-map_get f (x ∷ xs) (suc i) = map_get f xs i
-
-all_get : {A : Type 0} (P : A → Type 0) (xs : List A) (i : ℕ) (x : A) → AllByRecursion P xs → slice_get xs i ≡ Some x → P x
-all_get P [] i x h e = absurd (let no : ⊥ = cc in no)
-all_get P (y ∷ xs) zero x h e = let same : y ≡ x = cc in subst P same h.0
-all_get P (y ∷ xs) (suc i) x h e = all_get P xs i x h.1 e
-
 -- what the lexer's token of this number is among the unit's
 token_get : (tokens : List Token) (lexemes : List Lexeme) (i : ℕ) (found : Option Token) → map plain tokens ≡ lexemes → found ≡ slice_get tokens i
     → slice_get lexemes i ≡ option_map plain found
-token_get tokens lexemes i found same e = ap (λ ts. slice_get ts i) (sym same) ∙ map_get plain tokens i ∙ ap (option_map plain) (sym e)
+token_get tokens lexemes i found same e = ap (λ ts. slice_get ts i) (sym same) ∙ slice_get-map plain tokens i ∙ ap (option_map plain) (sym e)
 
 pub token_stands : (files : List Source) (tokens : List Token) (lexemes : List Lexeme) (i : ℕ) (t : Token) → AllByRecursion (StandsIn files) lexemes
     → map plain tokens ≡ lexemes → Some t ≡ slice_get tokens i → StandsIn files (plain t)
-token_stands files tokens lexemes i t placed same e = all_get (StandsIn files) lexemes i (plain t) placed (token_get tokens lexemes i (Some t) same e)
+token_stands files tokens lexemes i t placed same e =
+    let found : slice_get lexemes i ≡ Some (plain t) = token_get tokens lexemes i (Some t) same e in
+    subst (StandsIn files) (get_or_from_slice_get lexemes i (plain t) (plain t) found)
+    (All-from_recursion (StandsIn files) lexemes placed i (plain t) (slice_get_within lexemes i (plain t) found))
 
 -- a place in a file of this number
 spot_there : (files : List Source) (n : ℕ) (at : Source → ℕ) (spot : Spot) → option_map (λ (f : Source). spot_in f (at f)) (slice_get files n) ≡ Some spot
