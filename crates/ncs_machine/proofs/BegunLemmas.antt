@@ -2,8 +2,8 @@
 use Rattle.std.proofs.Common.{arith, ◌≡◌, ◌≤◌, ◌<◌, ◌+◌, ◌-◌, ◌++◌, ◌∷◌, ℕ, suc, zero, List, [], length, min, take, reverse, Option, Some, None, ℤ, set, slice_get, sym, ap, ◌∙◌, refl, subst}
 use Rattle.std.specs.List.{cons_option, filter_map}
 use Rattle.std.specs.Option.{option_and_then, option_to_list}
-use Rattle.std.proofs.lemmas.List.{get_or-reverse, length-reverse, take_all}
-use Rattle.std.proofs.lemmas.Option.{none-some, slice_get-get_or}
+use Rattle.std.proofs.lemmas.List.{length-reverse, take_all}
+use Rattle.std.proofs.lemmas.Option.{none-some}
 use Rattle.play_remarks.specs.declared.Spot.{Spot}
 use Rattle.ncs_machine.specs.Remarks.{Begun, most_cells}
 use Rattle.ncs_machine.proofs.RemarkLemmas.{back_lies}

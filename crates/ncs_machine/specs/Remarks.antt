@@ -1,5 +1,5 @@
 -- What is remarked where an entry ends before its end.
-use Rattle.std.specs.Prelude.{◌≡◌, ◌++◌, ◌∷◌, [], ℕ, ℤ, List, Option, None, map, reverse, take, nat_le, if◌then◌else◌}
+use Rattle.std.specs.Prelude.{◌≡◌, ◌++◌, ◌∷◌, ℕ, ℤ, List, Option, None, map, reverse, take, nat_le, if◌then◌else◌}
 use Rattle.std.specs.List.{filter_map, flat_map}
 use Rattle.std.specs.Option.{MatchOption}
 use Rattle.nwq_value.specs.Limits.{time_limit}

@@ -1,6 +1,5 @@
-use Rattle.std.proofs.Common.{arith, ◌≡◌, ◌++◌, ◌∷◌, [], ◌<◌, ◌≤◌, length, take, ap, ◌∙◌, sym, subst, w32, to_z, of_z}
+use Rattle.std.proofs.Common.{w32, to_z, of_z}
 use Rattle.std.proofs.lemmas.Int.{to_z-of_z}
-use Rattle.ncs_machine.specs.Remarks.{Begun, most_cells}
 use Rattle.ncs_machine.proofs.BegunLemmas.{put_ints}
 use Rattle.ncs_machine.proofs.begun.Begun.put.Goals as goal
 
