@@ -1,5 +1,5 @@
 -- A trial is added, and what a routine gives is kept.
-use Rattle.std.proofs.Common.{arith, ◌≡◌, ◌≤◌, ℕ, zero, suc, List, [], ◌∷◌, ◌++◌, length, Option, None, Some, slice_get, slice_set, inl, inr, ◌⊎◌, sym, subst, ◌∙◌, ap, refl}
+use Rattle.std.proofs.Common.{arith, ◌≡◌, ◌≢◌, ◌≤◌, ℕ, zero, suc, List, [], ◌∷◌, ◌++◌, length, Option, None, Some, slice_get, slice_set, inl, inr, ◌⊎◌, sym, subst, ◌∙◌, ap, refl}
 use Rattle.std.specs.Prelude.{get_or, OnOk, Result, Ok, Err}
 use Rattle.std.proofs.lemmas.Bool.{cases_eq}
 use Rattle.nwq_value.specs.declared.memory.NoMemory.{NoMemory}
@@ -25,7 +25,7 @@ number_is zero n h = absurd cc
 number_is (suc k) n h = sym (some_is (suc k) n h)
 
 pub set_start : (before : Facts) (number : ℕ) → CurrentSet before before Start number
-set_start before number = record { trials = refl; rows = refl; only = λ e n c. inl c }
+set_start before number = record { trials = refl; rows = refl; only = λ e n c. inl c; others = λ e ne. refl }
 
 called_only : (before after : Facts) (target number : ℕ) → PutAt before.called after.called target number → after.stored ≡ before.stored → (e : Entry) (n : ℕ)
     → current after e ≡ Some n → (current before e ≡ Some n) ⊎ ((e ≡ Called target) × (n ≡ number))
@@ -45,16 +45,38 @@ stored_only before after site number p s (Stored t) n c = elim (cases_eq t site)
   | inr ne ↦ inl (ap number_in (sym (p.others t ne)) ∙ c)
 ]
 
+called_others : (before after : Facts) (target number : ℕ) → PutAt before.called after.called target number → after.stored ≡ before.stored → (e : Entry)
+    → e ≢ Called target → current after e ≡ current before e
+called_others before after target number p s Start ne = refl
+called_others before after target number p s (Called t) ne = ap number_in (p.others t (λ i. ne (ap Called i)))
+called_others before after target number p s (Stored site) ne = ap (λ ns. number_in (get_or ns site 0)) s
+
+stored_others : (before after : Facts) (site number : ℕ) → PutAt before.stored after.stored site number → after.called ≡ before.called → (e : Entry)
+    → e ≢ Stored site → current after e ≡ current before e
+stored_others before after site number p s Start ne = refl
+stored_others before after site number p s (Called t) ne = ap (λ ns. number_in (get_or ns t 0)) s
+stored_others before after site number p s (Stored t) ne = ap number_in (p.others t (λ i. ne (ap Stored i)))
+
 pub set_called : (before : Facts) (called : List ℕ) (target number : ℕ) (r : Result (Unit {0}) NoMemory) → OnOk r (PutAt before.called called target number)
     → OnOk r (CurrentSet before (record before { called = called }) (Called target) number)
 set_called before called target number (Ok u) p =
-    record { trials = refl; rows = refl; only = called_only before (record before { called = called }) target number p refl }
+    record {
+      trials = refl;
+      rows = refl;
+      only = called_only before (record before { called = called }) target number p refl;
+      others = called_others before (record before { called = called }) target number p refl;
+    }
 set_called before called target number (Err e) p = tt
 
 pub set_stored : (before : Facts) (stored : List ℕ) (site number : ℕ) (r : Result (Unit {0}) NoMemory) → OnOk r (PutAt before.stored stored site number)
     → OnOk r (CurrentSet before (record before { stored = stored }) (Stored site) number)
 set_stored before stored site number (Ok u) p =
-    record { trials = refl; rows = refl; only = stored_only before (record before { stored = stored }) site number p refl }
+    record {
+      trials = refl;
+      rows = refl;
+      only = stored_only before (record before { stored = stored }) site number p refl;
+      others = stored_others before (record before { stored = stored }) site number p refl;
+    }
 set_stored before stored site number (Err e) p = tt
 
 pub ruleset setting = (set_start, set_called, set_stored)
@@ -70,10 +92,10 @@ pub no_row : (facts : Facts) (number place : ℕ) → Formed facts → number �
 no_row facts number place formed e =
     none_or (row_in facts.rows number place) (λ h r. absurd (let l = formed.owned number place h r in omega (arith, l, e)))
 
-pub trial_added : (before after : Facts) (rows : List ShapeRow) (trial : Trial) (number : ℕ) → Formed before → number ≡ length before.trials
-    → RowAdded before.rows rows number (first_place trial.entry) (first_held trial)
+pub trial_added : (before after : Facts) (rows : List ShapeRow) (trial : Trial) (number : ℕ) → Formed before → current before trial.entry ≡ None
+    → number ≡ length before.trials → RowAdded before.rows rows number (first_place trial.entry) (first_held trial)
     → CurrentSet (record before { trials = before.trials ++ trial ∷ []; rows = rows }) after trial.entry number → TrialAdded before after trial
-trial_added before after rows trial number formed e a s = record {
+trial_added before after rows trial number formed new e a s = record {
   trials = s.trials;
   kept = λ t p h r. ap (λ rs. row_in rs t p) s.rows ∙ a.kept t p h r;
   here = ap (λ n. row_in after.rows n (first_place trial.entry)) (sym e) ∙ ap (λ rs. row_in rs number (first_place trial.entry)) s.rows ∙ a.here;
@@ -85,10 +107,16 @@ trial_added before after rows trial number formed e a s = record {
     | inl old ↦ inl (sym (same_current before rows trial entry) ∙ old)
     | inr is ↦ inr (is.0, is.1 ∙ e)
   ];
+  counts = λ entry n c.
+      s.others entry (λ i. never n (sym new ∙ ap (current before) (sym i) ∙ c)) ∙ same_current before rows trial entry ∙ c;
   more = ap (λ (rs : List ShapeRow). length rs) s.rows ∙ a.more;
   room = a.room;
+  end = s.rows ∙ a.end ∙ ap (λ n. before.rows ++ record { trial = n; place = first_place trial.entry; held = first_held trial } ∷ []) e;
 }
   where
+    never : (n : ℕ) → None ≡ Some n → ⊥
+    never n h = absurd cc
+
     same_current : (before : Facts) (rows : List ShapeRow) (trial : Trial) (entry : Entry)
         → current (record before { trials = before.trials ++ trial ∷ []; rows = rows }) entry ≡ current before entry
     same_current before rows trial Start = refl

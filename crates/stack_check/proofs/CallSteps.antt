@@ -233,4 +233,17 @@ calls_of facts target number callee e ne h = record { number = number; counts = 
     counts zero e ne = absurd (ne refl)
     counts (suc n) e ne = ap Rattle.stack_check.specs.Facts.number_in (sym e)
 
-pub ruleset counting = (calls_of)
+pub calls_none : (facts : Facts) (target number : ℕ) → number ≡ get_or facts.called target 0 → number ≡ 0 → current facts (Called target) ≡ None
+calls_none facts target number e z = ap Rattle.stack_check.specs.Facts.number_in (sym e ∙ z)
+
+-- what counts is there
+pub calls_there : (facts : Facts) (target number : ℕ) → Formed facts → number ≡ get_or facts.called target 0 → (number ≡ 0 → ⊥)
+    → None ≡ slice_get facts.trials number → current facts (Called target) ≡ None
+calls_there facts target zero formed e ne none = absurd (ne refl)
+calls_there facts target (suc n) formed e ne none =
+    let t = formed.currents (Called target) (suc n) (ap Rattle.stack_check.specs.Facts.number_in (sym e)) in absurd (nothing t.trial (none ∙ t.has))
+  where
+    nothing : (t : Trial) → None ≡ Some t → ⊥
+    nothing t h = absurd cc
+
+pub ruleset counting = (calls_of, calls_none, calls_there)

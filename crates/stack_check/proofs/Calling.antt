@@ -343,7 +343,7 @@ call_parts heap facts n held caller trial over i has b w =
       },
     )
 
-callee_known : (heap : Heap) (facts : Facts) (target m : ℕ) (trial : Trial) → current facts (Called target) ≡ Some m → slice_get facts.trials m ≡ Some trial
+pub callee_known : (heap : Heap) (facts : Facts) (target m : ℕ) (trial : Trial) → current facts (Called target) ≡ Some m → slice_get facts.trials m ≡ Some trial
     → callee_at heap facts target ≡ Some (kept_callee heap trial)
 callee_known heap facts target m trial c has =
     ap (λ o. option_map (kept_callee heap) (option_and_then (slice_get facts.trials) o)) c ∙ ap (option_map (kept_callee heap)) has

@@ -16,19 +16,24 @@ use Rattle.stack_check.specs.declared.facts.Facts.{Facts}
 use Rattle.stack_check.specs.declared.seen.Seen.{Seen}
 use Rattle.stack_check.specs.declared.seen.Seen.TheVariants.{Quiet, Changed, Bad}
 use Rattle.stack_lists.specs.Shared.{read}
-use Rattle.stack_lists.specs.Held.{AllAtMost, HeapGrows, IsIn, shape_of}
+use Rattle.stack_lists.specs.Held.{AllAtMost, IsIn, shape_of}
 use Rattle.stack_lists.specs.Rows.{RowAdded, row_in}
 use Rattle.stack_check.specs.Facts.{FindsMore, current, found, left, seen_of, number_in, first_place, first_held, callee_of, trial_table}
 use Rattle.stack_check.specs.Checked.{CheckedCode, StoredStand, found_of, kept_table, most_turns}
 use Rattle.stack_lists.specs.declared.todo.Spot.{Spot}
-use Rattle.stack_lists.specs.Worklist.{Worklist, waiting}
+use Rattle.stack_lists.specs.Worklist.{SameCalls, Worklist, waiting}
 use Rattle.std.proofs.lemmas.List.{length-append}
-use Rattle.stack_check.specs.Inference.{NothingNew, IsTrialOf, IsWhole, TrialIn, IsOver, GivenOver, Beyond, RowFits, TrialFits, Keeps, Visited, WhereQuiet, Takes, SeesRow, SeesAll, SeesDrained}
-use Rattle.stack_check.specs.Inference.{SeesTurn, IsFound}
-use Rattle.stack_lists.specs.Growth.{heap_same, heap_then, same_shape, read_empty}
+use Rattle.std.proofs.lemmas.List.Elements.{Contains-push}
+use Rattle.std.specs.Prelude.{Contains}
+use Rattle.stack_check.specs.Inference.{AreSettled, Goes, NothingNew, IsTrialOf, IsWhole, TrialIn, IsOver, GivenOver, Beyond, RowFits, TrialFits, Keeps, Visited, WhereQuiet}
+use Rattle.stack_check.specs.Inference.{IsFound, SeesRow, SeesTurn, Takes}
+use Rattle.stack_lists.specs.Growth.{same_shape, read_empty}
+use Rattle.stack_check.proofs.Marking.{calls_few, marks_begin, marks_same}
+use Rattle.stack_check.proofs.Meeting.{meets_settled}
+use Rattle.stack_check.proofs.Settling.{settled_out, settled_same}
 use Rattle.stack_check.proofs.Left.{total_under}
 use Rattle.stack_check.proofs.Windows.{deeper_none}
-use Rattle.stack_check.proofs.Tables.{at_of, found_in, table_same, whole_over, whole_own}
+use Rattle.stack_check.proofs.Tables.{at_of, found_in, whole_over, whole_own}
 
 some_is : {A : Type 0} (a b : A) → Some a ≡ Some b → a ≡ b
 some_is a b h = cc
@@ -38,45 +43,49 @@ none_some P a h = absurd cc
 
 -- ---- one turn
 
-pub record DrainedSoFar (header : EngineTable) (code : List PlainOp) (first now : Heap) (before facts : Facts) : Type 0 where
-  pub grows : HeapGrows first now
+pub record DrainedSoFar (header : EngineTable) (code : List PlainOp) (heap : Heap) (before facts : Facts) (w : Worklist) : Type 0 where
   pub same : facts ≡ before
-  pub keeps : Keeps header code now facts
+  pub keeps : Keeps header code heap facts
+  pub settled : AreSettled header code heap facts w
 
-pub drain_begin : (header : EngineTable) (code : List PlainOp) (heap : Heap) (facts : Facts) → Keeps header code heap facts
-    → DrainedSoFar header code heap heap facts facts
-drain_begin header code heap facts k = record { grows = heap_same heap; same = refl; keeps = k }
+pub drain_begin : (header : EngineTable) (code : List PlainOp) (heap : Heap) (facts : Facts) (w : Worklist) → Keeps header code heap facts
+    → AreSettled header code heap facts w → DrainedSoFar header code heap facts facts w
+drain_begin header code heap facts w k s = record { same = refl; keeps = k; settled = s }
 
-drain_quiet : (header : EngineTable) (code : List PlainOp) (first now next : Heap) (before facts after : Facts) (t p : ℕ)
-    → DrainedSoFar header code first now before facts → SeesRow header code now next facts after t p Quiet → DrainedSoFar header code first next before after
-drain_quiet header code first now next before facts after t p s l =
-    record { grows = heap_then first now next s.grows l.grows; same = l.quiet.0 ∙ s.same; keeps = l.keeps }
-
-pub drain_step : (header : EngineTable) (code : List PlainOp) (first now next : Heap) (before facts after : Facts) (t p : ℕ) (seen : Seen)
-    → DrainedSoFar header code first now before facts → SeesRow header code now next facts after t p seen → seen ≡ Quiet
-    → DrainedSoFar header code first next before after
-drain_step header code first now next before facts after t p seen s l e =
-    drain_quiet header code first now next before facts after t p s (subst (λ s. SeesRow header code now next facts after t p s) e l)
-
-pub drain_changed : (header : EngineTable) (code : List PlainOp) (first now next : Heap) (before facts after : Facts) (t p : ℕ) (seen : Seen)
-    → DrainedSoFar header code first now before facts → SeesRow header code now next facts after t p seen → seen ≡ Changed
-    → SeesDrained header code first next before after Changed
-drain_changed header code first now next before facts after t p seen s l e = record {
-  grows = heap_then first now next s.grows l.grows;
+pub drain_step : (header : EngineTable) (code : List PlainOp) (now next : Heap) (before facts after : Facts) (w v : Worklist) (seen : Seen)
+    → DrainedSoFar header code now before facts w → SeesRow header code next facts after seen → Goes seen (AreSettled header code next after v) → seen ≡ Quiet
+    → DrainedSoFar header code next before after v
+drain_step header code now next before facts after w v seen s l g e = record {
+  same = subst (λ s. WhereQuiet s (after ≡ facts)) e l.same ∙ s.same;
   keeps = subst (λ s. Visited header code next after s) e l.keeps;
-  same = tt;
+  settled = subst (λ s. Goes s (AreSettled header code next after v)) e g;
+}
+
+pub drain_changed : (header : EngineTable) (code : List PlainOp) (now next : Heap) (before facts after : Facts) (w v : Worklist) (seen : Seen)
+    → DrainedSoFar header code now before facts w → SeesRow header code next facts after seen → Goes seen (AreSettled header code next after v)
+    → seen ≡ Changed → SeesTurn header code next before after v Changed
+drain_changed header code now next before facts after w v seen s l g e = record {
+  keeps = subst (λ s. Visited header code next after s) e l.keeps;
+  settled = subst (λ s. Goes s (AreSettled header code next after v)) e g;
+  quiet = tt;
   takes = subst (λ f. FindsMore f after) s.same (subst (λ s. Takes facts after s) e l.takes);
 }
 
-pub drain_bad : (header : EngineTable) (code : List PlainOp) (first now next : Heap) (before facts after : Facts) (t p : ℕ) (seen : Seen)
-    → DrainedSoFar header code first now before facts → SeesRow header code now next facts after t p seen → seen ≡ Bad
-    → SeesDrained header code first next before after Bad
-drain_bad header code first now next before facts after t p seen s l e =
-    record { grows = heap_then first now next s.grows l.grows; keeps = subst (λ s. Visited header code next after s) e l.keeps; same = tt; takes = tt }
+pub drain_bad : (header : EngineTable) (code : List PlainOp) (next : Heap) (before facts after : Facts) (v : Worklist) (seen : Seen)
+    → SeesRow header code next facts after seen → seen ≡ Bad → SeesTurn header code next before after v Bad
+drain_bad header code next before facts after v seen l e =
+    record { keeps = subst (λ s. Visited header code next after s) e l.keeps; settled = tt; quiet = tt; takes = tt }
 
-pub drain_done : (header : EngineTable) (code : List PlainOp) (first now : Heap) (before facts : Facts) → DrainedSoFar header code first now before facts
-    → SeesDrained header code first now before facts Quiet
-drain_done header code first now before facts s = record { grows = s.grows; keeps = s.keeps; same = s.same; takes = tt }
+-- nothing waits
+pub drain_done : (header : EngineTable) (code : List PlainOp) (heap : Heap) (before facts : Facts) (now out : Worklist)
+    → DrainedSoFar header code heap before facts now → (waiting now ≡ []) × (waiting out ≡ []) → SameCalls now out
+    → SeesTurn header code heap before facts out Quiet
+drain_done header code heap before facts now out s e calls = record {
+  keeps = s.keeps;
+  settled = settled_same header code heap facts now out (e.1 ∙ sym e.0) calls s.settled;
+  quiet = (s.same, meets_settled header code heap facts now s.keeps s.settled e.0);
+  takes = tt;
+}
 
 -- what was handed out is waiting no more
 pub drain_less : (a b c : Worklist) (spot : Spot) (seen : Seen) → waiting a ≡ waiting b ++ spot ∷ [] → NothingNew b c seen → seen ≡ Quiet
@@ -87,49 +96,7 @@ drain_less a b c spot seen h k e =
     let y = ap (λ (z : List Spot). length z) h ∙ length-append (waiting b) (spot ∷ []) in
     omega (arith, x, y)
 
-pub ruleset draining = (drain_begin, drain_step, drain_changed, drain_bad, drain_done, drain_less)
-
--- ---- one turn
-
-pub turn_changed : (header : EngineTable) (code : List PlainOp) (a b : Heap) (before facts : Facts) (seen : Seen) → SeesDrained header code a b before facts seen
-    → seen ≡ Changed → SeesTurn header code b before facts Changed
-turn_changed header code a b before facts seen s e =
-    record { keeps = subst (λ s. Visited header code b facts s) e s.keeps; quiet = tt; takes = subst (λ s. Takes before facts s) e s.takes }
-
-pub turn_bad : (header : EngineTable) (code : List PlainOp) (a b : Heap) (before facts : Facts) (seen : Seen) → SeesDrained header code a b before facts seen
-    → seen ≡ Bad → SeesTurn header code b before facts Bad
-turn_bad header code a b before facts seen s e = record { keeps = subst (λ s. Visited header code b facts s) e s.keeps; quiet = tt; takes = tt }
-
-pub turn_keeps : (header : EngineTable) (code : List PlainOp) (a b : Heap) (before facts : Facts) (seen : Seen) → SeesDrained header code a b before facts seen
-    → seen ≡ Quiet → Keeps header code b facts
-turn_keeps header code a b before facts seen s e = subst (λ s. Visited header code b facts s) e s.keeps
-
-pub pass_turn : (header : EngineTable) (code : List PlainOp) (first heap heap' : Heap) (before facts facts' : Facts) (drained seen : Seen)
-    → SeesDrained header code first heap before facts drained → drained ≡ Quiet
-    → SeesAll header code heap heap' facts facts' seen → SeesTurn header code heap' before facts' seen
-pass_turn header code first heap heap' before facts facts' drained seen d e s = record {
-  keeps = s.keeps;
-  quiet = quiet seen s.quiet;
-  takes = subst (λ f. Takes f facts' seen) (subst (λ s. WhereQuiet s (facts ≡ before)) e d.same) s.takes;
-}
-  where
-    k : Keeps header code heap facts
-    k = turn_keeps header code first heap before facts drained d e
-
-    same : facts ≡ before
-    same = subst (λ s. WhereQuiet s (facts ≡ before)) e d.same
-
-    quiet : (seen : Seen) → WhereQuiet seen ((facts' ≡ facts) × MeetsRules header code (trial_table heap facts))
-        → WhereQuiet seen ((facts' ≡ before) × MeetsRules header code (trial_table heap' facts'))
-    quiet Quiet q = (
-      q.0 ∙ same,
-      subst (λ f. MeetsRules header code (trial_table heap' f)) (sym q.0)
-          (subst (λ t. MeetsRules header code t) (sym (table_same header code heap heap' facts k s.grows)) q.1),
-    )
-    quiet Changed q = tt
-    quiet Bad q = tt
-
-pub ruleset turning = (turn_changed, turn_bad, turn_keeps, pass_turn)
+pub ruleset draining = (drain_begin, drain_step, drain_changed, drain_bad, drain_done, drain_less, settled_out)
 
 -- ---- the start
 
@@ -244,28 +211,54 @@ starts header code heap empty rows trials called stored e a t c s =
     (subst (λ ns. Keeps header code heap (record { trials = first_trial ∷ []; called = []; stored = ns; rows = rows })) (sym s)
     (start_keeps header code heap rows (subst (λ r. RowAdded r rows 0 13 nothing_held) e a))))
 
-pub ruleset starting = (starts)
+-- its first row waits
+pub starts_settled : (header : EngineTable) (code : List PlainOp) (heap : Heap) (empty : List ShapeRow) (facts : Facts) (w v : Worklist) → empty ≡ []
+    → RowAdded empty facts.rows 0 13 nothing_held → waiting v ≡ waiting w ++ record { trial = 0; place = 13 } ∷ [] → SameCalls w v
+    → (w.calls ≡ []) × (w.marks ≡ []) → AreSettled header code heap facts v
+starts_settled header code heap empty facts w v e a i calls none = record {
+  rows = λ t p held r.
+      let is = first_row facts.rows t p held (subst (λ rows. RowAdded rows facts.rows 0 13 nothing_held) e a) r in
+      inl (subst (λ z. Contains z (record { trial = t; place = p })) (sym i)
+      (subst (λ t. Contains (waiting w ++ record { trial = 0; place = 13 } ∷ []) (record { trial = t; place = p })) (sym is.0)
+      (subst (λ p. Contains (waiting w ++ record { trial = 0; place = 13 } ∷ []) (record { trial = 0; place = p })) (sym is.1)
+      (Contains-push (waiting w) (record { trial = 0; place = 13 })))));
+  marks = marks_same code facts.rows w v calls (marks_begin code facts.rows w none.0 none.1);
+}
+
+pub one_waits : (w v : Worklist) (spot : Spot) → waiting v ≡ waiting w ++ spot ∷ [] → length (waiting v) ≡ length (waiting w) + 1
+one_waits w v spot e = ap (λ (z : List Spot). length z) e ∙ length-append (waiting w) (spot ∷ [])
+
+pub ruleset starting = (starts, starts_settled, one_waits)
 
 -- ---- the end
 
-pub ends_found : (header : EngineTable) (code : List PlainOp) (heap : Heap) (before facts : Facts) (seen : Seen) → SeesTurn header code heap before facts seen
-    → seen ≡ Quiet → IsFound header code heap facts
-ends_found header code heap before facts seen s e =
+pub ends_found : (header : EngineTable) (code : List PlainOp) (heap : Heap) (before facts : Facts) (w : Worklist) (seen : Seen)
+    → SeesTurn header code heap before facts w seen → seen ≡ Quiet → IsFound header code heap facts
+ends_found header code heap before facts w seen s e =
     record { keeps = subst (λ s. Visited header code heap facts s) e s.keeps; meets = (subst (λ s. WhereQuiet s ((facts ≡ before) × MeetsRules header code (trial_table heap facts))) e s.quiet).1 }
 
-pub ends_none : (header : EngineTable) (code : List PlainOp) (heap : Heap) (before facts : Facts) (seen : Seen) → SeesTurn header code heap before facts seen
-    → seen ≡ Bad → WellStacked header code → ⊥
-ends_none header code heap before facts seen s e = subst (λ s. Visited header code heap facts s) e s.keeps
+pub ends_none : (header : EngineTable) (code : List PlainOp) (heap : Heap) (before facts : Facts) (w : Worklist) (seen : Seen)
+    → SeesTurn header code heap before facts w seen → seen ≡ Bad → WellStacked header code → ⊥
+ends_none header code heap before facts w seen s e = subst (λ s. Visited header code heap facts s) e s.keeps
 
-pub goes_on : (header : EngineTable) (code : List PlainOp) (heap : Heap) (before facts : Facts) (seen : Seen) → SeesTurn header code heap before facts seen
-    → seen ≡ Changed → Keeps header code heap facts
-goes_on header code heap before facts seen s e = subst (λ s. Visited header code heap facts s) e s.keeps
+pub ends_few : (header : EngineTable) (code : List PlainOp) (heap : Heap) (before facts : Facts) (w : Worklist) (seen : Seen)
+    → SeesTurn header code heap before facts w seen → seen ≡ Quiet → length w.calls ≤ length facts.rows
+ends_few header code heap before facts w seen s e =
+    let all : AreSettled header code heap facts w = subst (λ s. Goes s (AreSettled header code heap facts w)) e s.settled in calls_few code facts.rows w all.marks
 
-pub goes_down : (header : EngineTable) (code : List PlainOp) (heap : Heap) (before facts : Facts) (seen : Seen) → SeesTurn header code heap before facts seen
-    → seen ≡ Changed → FindsMore before facts
-goes_down header code heap before facts seen s e = subst (λ s. Takes before facts s) e s.takes
+pub goes_on : (header : EngineTable) (code : List PlainOp) (heap : Heap) (before facts : Facts) (w : Worklist) (seen : Seen)
+    → SeesTurn header code heap before facts w seen → seen ≡ Changed → Keeps header code heap facts
+goes_on header code heap before facts w seen s e = subst (λ s. Visited header code heap facts s) e s.keeps
 
-pub ruleset ending = (ends_found, ends_none, goes_on, goes_down)
+pub goes_settled : (header : EngineTable) (code : List PlainOp) (heap : Heap) (before facts : Facts) (w : Worklist) (seen : Seen)
+    → SeesTurn header code heap before facts w seen → seen ≡ Changed → AreSettled header code heap facts w
+goes_settled header code heap before facts w seen s e = subst (λ s. Goes s (AreSettled header code heap facts w)) e s.settled
+
+pub goes_down : (header : EngineTable) (code : List PlainOp) (heap : Heap) (before facts : Facts) (w : Worklist) (seen : Seen)
+    → SeesTurn header code heap before facts w seen → seen ≡ Changed → FindsMore before facts
+goes_down header code heap before facts w seen s e = subst (λ s. Takes before facts s) e s.takes
+
+pub ruleset ending = (ends_found, ends_none, ends_few, goes_on, goes_settled, goes_down)
 
 -- ---- turns
 

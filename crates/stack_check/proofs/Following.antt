@@ -20,8 +20,8 @@ use Rattle.stack_lists.specs.Rows.{row_in}
 use Rattle.stack_lists.specs.declared.todo.Again.{Again}
 use Rattle.stack_lists.specs.declared.todo.Call.{Call}
 use Rattle.stack_lists.specs.declared.todo.Spot.{Spot}
-use Rattle.stack_lists.specs.Worklist.{CallKept, CallersAdded, SameCalls, Worklist, spot_of, waiting}
-use Rattle.stack_check.specs.Inference.{Adds, AddsCalls, CallsAgain, CallsOfWait, CallsWait, IsKept, IsNext, Keeps, NothingNew, Visited, WhereQuiet, Owed, RowIs, Reached, RowsKept, Takes, AllLed}
+use Rattle.stack_lists.specs.Worklist.{CallKept, CallersAdded, SameCalls, Worklist, calls_of, spot_of, stands_at, waiting}
+use Rattle.stack_check.specs.Inference.{Adds, AddsCalls, CallsAgain, CallsOfWait, CallsWait, IsKept, Keeps, NothingNew, Visited, WhereQuiet, Owed, RowIs, Reached, RowsKept, Takes, AllLed}
 use Rattle.stack_check.specs.Inference.{after_change}
 use Rattle.stack_check.specs.Facts.{FindsMore}
 use Rattle.stack_check.proofs.Left.{more_row}
@@ -130,6 +130,11 @@ waits_same a b c Quiet h k = k ∙ h
 waits_same a b c Changed h k = tt
 waits_same a b c Bad h k = tt
 
+pub waits_both : (a b c : Worklist) (seen : Seen) → NothingNew a b seen → NothingNew b c seen → NothingNew a c seen
+waits_both a b c Quiet h k = k ∙ h
+waits_both a b c Changed h k = tt
+waits_both a b c Bad h k = tt
+
 pub waits_changed : (a b : Worklist) (seen now : Seen) → now ≡ after_change seen → NothingNew a b now
 waits_changed a b Quiet now e = subst (λ s. NothingNew a b s) (sym e) tt
 waits_changed a b Changed now e = subst (λ s. NothingNew a b s) (sym e) tt
@@ -156,9 +161,6 @@ waits_after a b c Quiet k h = h ∙ k
 waits_after a b c Changed k h = tt
 waits_after a b c Bad k h = tt
 
-pub next_of : (a b : Worklist) (spot : Spot) → waiting b ≡ waiting a ++ spot ∷ [] → IsNext b spot
-next_of a b spot h = record { others = waiting a; is = h }
-
 pub kept_of : (a b : Worklist) (row target : ℕ) (spot : Spot) → CallKept a b row (record { spot = spot; target = target }) → IsKept b target spot
 kept_of a b row target spot k = k.here
 
@@ -169,18 +171,15 @@ waiting_length w =
     let z = length-append w.later w.soon in
     omega (arith, x, y, z)
 
--- what was handed in before the spot waits, too
-wait_more : (a mid b c : Worklist) (entry : Entry) (spot : Spot) → SameCalls a mid → CallsAgain mid b entry → waiting c ≡ waiting b ++ spot ∷ []
-    → CallsWait a c entry
-wait_more a mid b c Start spot s again w = tt
-wait_more a mid b c (Called target) spot s again w = λ call i.
-    subst (λ z. Contains z call.spot) (sym w)
-    (Contains-append_left (waiting b) (spot ∷ []) call.spot (again.all call (subst (λ z. Contains z call) (sym (s.by target)) i)))
-wait_more a mid b c (Stored site) spot s again w = tt
+-- the routine's calls wait
+wait_again : (a mid b : Worklist) (entry : Entry) → SameCalls a mid → CallsAgain mid b entry → CallsWait a b entry
+wait_again a mid b Start s again = tt
+wait_again a mid b (Called target) s again = λ call i. again.all call (subst (λ z. Contains z call) (sym (s.by target)) i)
+wait_again a mid b (Stored site) s again = tt
 
-pub calls_wait : (a mid b c : Worklist) (facts : Facts) (number : ℕ) (trial : Trial) (spot : Spot) → slice_get facts.trials number ≡ Some trial
-    → SameCalls a mid → CallsAgain mid b trial.entry → waiting c ≡ waiting b ++ spot ∷ [] → CallsOfWait a c facts number
-calls_wait a mid b c facts number trial spot h s again w = record { trial = trial; has = h; by = wait_more a mid b c trial.entry spot s again w }
+pub calls_wait : (a mid b : Worklist) (facts : Facts) (number : ℕ) (trial : Trial) → slice_get facts.trials number ≡ Some trial
+    → SameCalls a mid → CallsAgain mid b trial.entry → CallsOfWait a b facts number
+calls_wait a mid b facts number trial h s again = record { trial = trial; has = h; by = wait_again a mid b trial.entry s again }
 
 -- ---- how many are handed in
 
@@ -241,20 +240,12 @@ again_few a b Start e = subst (λ w. AddsCalls a w 0) (sym e) (adds_calls_none a
 again_few a b (Called target) k = callers_few a b target k
 again_few a b (Stored site) e = subst (λ w. AddsCalls a w 0) (sym e) (adds_calls_none a 0)
 
--- the calls of a routine are handed in, and a spot
-pub sees_few : (a mid b c : Worklist) (entry : Entry) (spot : Spot) → waiting mid ≡ waiting a → SameCalls a mid → CallsAgain mid b entry
-    → waiting c ≡ waiting b ++ spot ∷ [] → SameCalls b c → AddsCalls a c 1
-sees_few a mid b c entry spot w s again last t =
+-- the calls of a routine are handed in
+pub sees_few : (a mid b : Worklist) (entry : Entry) → waiting mid ≡ waiting a → SameCalls a mid → CallsAgain mid b entry → AddsCalls a b 0
+sees_few a mid b entry w s again =
     let k = again_few mid b entry again in
     let x = ap (λ (z : List Spot). length z) w in
-    let y = ap (λ (z : List Spot). length z) last ∙ length-append (waiting b) (spot ∷ []) in
-    record {
-      few = omega (arith, k.few, k.longer, x, y, s.count, t.count);
-      longer = omega (arith, k.longer, s.count, t.count);
-    }
-
-pub callers_add : (a b : Worklist) (target n : ℕ) → CallersAdded a b target → AddsCalls a b n
-callers_add a b target n k = adds_calls_up a b 0 n (callers_few a b target k) (omega arith)
+    record { few = omega (arith, k.few, k.longer, x, s.count); longer = omega (arith, k.longer, s.count) }
 
 pub adds_one : (a b : Worklist) (spot : Spot) → waiting b ≡ waiting a ++ spot ∷ [] → SameCalls a b → Adds a b 1
 adds_one a b spot w s = adds_spot a b spot 1 w s (omega arith)
@@ -262,21 +253,29 @@ adds_one a b spot w s = adds_spot a b spot 1 w s (omega arith)
 pub spots_first : (a b : Worklist) → Adds a b 1 → AddsCalls a b 3
 spots_first a b h = calls_of_spots a b 1 3 h (omega arith)
 
-pub sees_two : (a b : Worklist) → AddsCalls a b 1 → AddsCalls a b 2
-sees_two a b h = adds_calls_up a b 1 2 h (omega arith)
+pub sees_two : (a b : Worklist) → AddsCalls a b 0 → AddsCalls a b 2
+sees_two a b h = adds_calls_up a b 0 2 h (omega arith)
 
-pub sees_three : (a b c : Worklist) → AddsCalls a b 1 → c ≡ b → AddsCalls a c 3
-sees_three a b c h e = subst (λ w. AddsCalls a w 3) (sym e) (adds_calls_up a b 1 3 h (omega arith))
+pub sees_three : (a b c : Worklist) → AddsCalls a b 0 → c ≡ b → AddsCalls a c 3
+sees_three a b c h e = subst (λ w. AddsCalls a w 3) (sym e) (adds_calls_up a b 0 3 h (omega arith))
+
+-- the spot that was looked at is handed in again
+pub adds_back : (a b c : Worklist) → AddsCalls a b 3 → Adds b c 1 → AddsCalls a c 4
+adds_back a b c h k = adds_calls_then a b c 3 1 h k
 
 pub adds_calls_same : (a b c : Worklist) (n : ℕ) → b ≡ a → AddsCalls b c n → AddsCalls a c n
 adds_calls_same a b c n e k = subst (λ w. AddsCalls w c n) e k
 
-pub callers_three : (a b : Worklist) (target : ℕ) → CallersAdded a b target → AddsCalls a b 3
-callers_three a b target k = callers_add a b target 3 k
+pub calls_three : (a b : Worklist) (target : ℕ) → waiting b ≡ waiting a ++ map stands_at (calls_of a target) → length (calls_of a target) ≤ length a.calls
+    → SameCalls a b → AddsCalls a b 3
+calls_three a b target w l s = record {
+  few =
+      let x = ap (λ (z : List Spot). length z) w ∙ length-append (waiting a) (map stands_at (calls_of a target)) in
+      let y = length-map (calls_of a target) stands_at in omega (arith, x, y, l, s.count);
+  longer = omega (arith, s.count);
+}
 
-pub ruleset adding = (adds_none, adds_one, spots_first, sees_two, sees_three, adds_calls_none, adds_calls_same, callers_three)
-
-pub ruleset nexting = (next_of)
+pub ruleset adding = (adds_none, adds_one, spots_first, sees_two, sees_three, adds_back, waits_both, adds_calls_none, adds_calls_same, calls_three)
 
 pub ruleset keeping = (waits_after, kept_of, adds_calls_kept)
 

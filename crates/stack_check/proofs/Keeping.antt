@@ -136,7 +136,7 @@ one_row table heap before after n p held m trial a f new = record {
   under = f.under;
 }
 
-currents_same : (before after : Facts) (entry : Entry) → after.called ≡ before.called → after.stored ≡ before.stored → current after entry ≡ current before entry
+pub currents_same : (before after : Facts) (entry : Entry) → after.called ≡ before.called → after.stored ≡ before.stored → current after entry ≡ current before entry
 currents_same before after Start c s = refl
 currents_same before after (Called target) c s = ap (λ ns. Rattle.stack_check.specs.Facts.number_in (get_or ns target 0)) c
 currents_same before after (Stored site) c s = ap (λ ns. Rattle.stack_check.specs.Facts.number_in (get_or ns site 0)) s

@@ -5,6 +5,7 @@ pub mod Tables
 pub mod Reaching
 pub mod Steps
 pub mod Following
+pub mod Marking
 pub mod Handing
 pub mod Adding
 pub mod Seeing
@@ -14,7 +15,8 @@ pub mod CallSteps
 pub mod ReturnSteps
 pub mod Visits
 pub mod Storing
-pub mod Passing
+pub mod Settling
+pub mod Meeting
 pub mod Ending
 pub mod Costs
 pub mod Fitting

@@ -56,7 +56,7 @@ at_two table entry a b shape h t (inr e) = ap (table.at entry) e ∙ h.1
 
 -- where the table's shape after an instruction stands, it stands at each place to which the
 -- instruction leads
-leads_led : (table : ShapeTable) (entry : Entry) (place : ℕ) (op : PlainOp) (after : TopShape) → Leads table entry place op after → (t : ℕ)
+pub leads_led : (table : ShapeTable) (entry : Entry) (place : ℕ) (op : PlainOp) (after : TopShape) → Leads table entry place op after → (t : ℕ)
     → IsLed (leads_of place (next_place place op) op) t → table.at entry t ≡ Some after
 unfolding leads_of
 leads_led table entry place (ops.Jmp offset) after h t led = at_one table entry _ after h t led
@@ -64,7 +64,7 @@ leads_led table entry place (ops.Jz offset) after h t led = at_two table entry _
 leads_led table entry place (ops.Jnz offset) after h t led = at_two table entry _ _ after h t led
 leads_led table entry place op after h t led = at_one table entry _ after h t led
 
-leads_from : (table : ShapeTable) (entry : Entry) (place : ℕ) (op : PlainOp) (after : TopShape)
+pub leads_from : (table : ShapeTable) (entry : Entry) (place : ℕ) (op : PlainOp) (after : TopShape)
     → ((t : ℕ) → IsLed (leads_of place (next_place place op) op) t → table.at entry t ≡ Some after) → Leads table entry place op after
 unfolding leads_of
 leads_from table entry place (ops.Jmp offset) after h = h _ refl

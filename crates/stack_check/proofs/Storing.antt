@@ -49,7 +49,10 @@ pub counts_of : (facts : Facts) (site number : ℕ) → number ≡ get_or facts.
 counts_of facts site zero e ne = absurd (ne refl)
 counts_of facts site (suc n) e ne = ap number_in (sym e)
 
-pub ruleset counting = (counts_of)
+pub counts_none : (facts : Facts) (site number : ℕ) → number ≡ get_or facts.stored site 0 → number ≡ 0 → current facts (Stored site) ≡ None
+counts_none facts site number e z = ap number_in (sym e ∙ z)
+
+pub ruleset counting = (counts_of, counts_none)
 
 first_is : (heap : Heap) (held : Held) (site : ℕ) → (held.saved ≡ 0) × (held.pending ≡ 0)
     → shape_of heap (first_held

@@ -1,6 +1,6 @@
 -- What an inference keeps true: what it has found is there in every table that meets the rules,
 -- perhaps with fewer slots beneath.
-use Rattle.std.specs.Prelude.{◌≡◌, ◌≤◌, ◌<◌, ◌+◌, ◌-◌, ◌^◌, ℕ, ℤ, List, [], ◌++◌, ◌∷◌, length, take, min, Bool, true, false, Option, None, Some, IfSome, slice_get, ◌⊎◌, Contains}
+use Rattle.std.specs.Prelude.{◌≡◌, ◌≢◌, ◌≤◌, ◌<◌, ◌+◌, ◌-◌, ◌^◌, ℕ, zero, suc, ℤ, List, [], ◌++◌, ◌∷◌, length, take, min, Bool, true, false, Option, None, Some, IfSome, get_or, slice_get, ◌⊎◌, Contains}
 use Rattle.nwq_value.specs.Engine.{EngineTable}
 use Rattle.ncs_code.specs.Plain.{PlainOp}
 use Rattle.ncs_code.specs.Plain as ops
@@ -29,9 +29,10 @@ use Rattle.stack_check.specs.declared.leads.Kind.TheVariants.{Call, Return, Stor
 use Rattle.stack_lists.specs.Shared.{read}
 use Rattle.stack_lists.specs.Held.{HeapGrows, IsIn, shape_of}
 use Rattle.stack_lists.specs.Rows.{RowAdded, row_in}
+use Rattle.stack_lists.specs.declared.rows.ShapeRow.{ShapeRow}
 use Rattle.stack_lists.specs.declared.todo.Call.{Call as KeptCall}
 use Rattle.stack_lists.specs.declared.todo.Spot.{Spot}
-use Rattle.stack_lists.specs.Worklist.{CallersAdded, Worklist, calls_of, waiting}
+use Rattle.stack_lists.specs.Worklist.{CallersAdded, IsMarked, Worklist, calls_of, waiting}
 use Rattle.stack_check.specs.Facts.{FindsMore, current, first_place, first_held, callee_of, trial_table, unseen_cells, unseen_under}
 
 -- ---- the facts hang together
@@ -191,11 +192,6 @@ pub record AddsCalls (before after : Worklist) (count : ℕ) : Type 0 where
 abbrev pub HandedIn : Worklist → Worklist → Spot → Seen → Type 0
 HandedIn before after spot seen = WhereChanged seen (waiting after ≡ waiting before ++ spot ∷ [])
 
--- the spot is looked at next
-pub record IsNext (w : Worklist) (spot : Spot) : Type 0 where
-  pub others : List Spot
-  pub is : waiting w ≡ others ++ spot ∷ []
-
 -- the call is kept of the routine that begins there, so it is looked at when more is known of that
 abbrev pub IsKept : Worklist → ℕ → Spot → Type 0
 IsKept w target spot = Contains (calls_of w target) (record { spot = spot; target = target })
@@ -240,8 +236,16 @@ pub record TrialAdded (before after : Facts) (trial : Trial) : Type 0 where
       ⊎ ((t ≡ length before.trials) × (p ≡ first_place trial.entry) × (h ≡ first_held trial))
   pub more : length after.rows ≡ length before.rows + 1
   pub room : length before.rows < 2 ^ 25
+  pub end : after.rows ≡ before.rows ++ record {
+    trial = length before.trials;
+    place = first_place trial.entry;
+    held = first_held trial;
+  } ∷ []
   pub currents : (entry : Entry) (n : ℕ) → current after entry ≡ Some n
       → (current before entry ≡ Some n) ⊎ ((entry ≡ trial.entry) × (n ≡ length before.trials))
+  -- what counted for another entry counts still
+  pub counts : (entry : Entry) (n : ℕ) → current before entry ≡ Some n
+      → current after entry ≡ Some n
 
 -- how a trial that begins compares with a table
 pub record FirstFits (table : ShapeTable) (heap : Heap) (trial : Trial) : Type 0 where
@@ -341,6 +345,7 @@ pub record CurrentSet (before after : Facts) (entry : Entry) (number : ℕ) : Ty
   pub rows : after.rows ≡ before.rows
   pub only : (e : Entry) (n : ℕ) → current after e ≡ Some n
       → (current before e ≡ Some n) ⊎ ((e ≡ entry) × (n ≡ number))
+  pub others : (e : Entry) → e ≢ entry → current after e ≡ current before e
 
 -- ---- calls
 
@@ -469,6 +474,27 @@ pub record CallsOfWait (before after : Worklist) (facts : Facts) (number : ℕ) 
   pub has : slice_get facts.trials number ≡ Some trial
   pub by : CallsWait before after trial.entry
 
+-- ---- each call that is kept is of a row of its own
+
+-- so many of the first rows have a mark
+abbrev pub marked : List ℕ → ℕ → ℕ
+marked marks zero = 0
+marked marks (suc n) = marked marks n + min (get_or marks n 0) 1
+
+-- the call is the one of the row with this number
+pub record IsCallOf (code : List PlainOp) (rows : List ShapeRow) (number : ℕ)
+    (call : KeptCall) : Type 0 where
+  pub row : ShapeRow
+  pub has : slice_get rows number ≡ Some row
+  pub spot : call.spot ≡ record { trial = row.trial; place = row.place }
+  pub calls : IsCall code call.spot.place call.target
+
+-- Each mark is of the call of its row, and there are as many calls as marks.
+pub record CallsAreOfRows (code : List PlainOp) (rows : List ShapeRow) (w : Worklist) : Type 0 where
+  pub inside : (number : ℕ) → get_or w.marks number 0 ≢ 0 → number < length rows
+  pub of : (number : ℕ) (call : KeptCall) → IsMarked w number call → IsCallOf code rows number call
+  pub count : length w.calls ≡ marked w.marks (length rows)
+
 -- ---- what is found is handed in
 
 -- What waited waits still, and calls that were kept are kept.
@@ -477,15 +503,25 @@ pub record Stays (before after : Worklist) : Type 0 where
   pub calls : (target : ℕ) (call : KeptCall) → Contains (calls_of before target) call
       → Contains (calls_of after target) call
 
+-- Of a trial more is known: it has looked at more, or what its routine gives is found.
+pub record TrialGrows (before after : Trial) : Type 0 where
+  pub entry : after.entry ≡ before.entry
+  pub taken : after.taken ≡ before.taken
+  pub under : after.under ≡ before.under
+  pub unseen_cells : after.unseen.cells ≤ before.unseen.cells
+  pub unseen_under : after.unseen.under ≤ before.unseen.under
+  pub given : (given : ℕ) → before.given ≡ Some given → after.given ≡ Some given
+
 -- One trial may be another one of its entry, and the others are as before.
 pub record TrialIs (before after : Facts) (changed number : ℕ) (trial : Trial) : Type 0 where
   pub now : Trial
   pub has : slice_get after.trials number ≡ Some now
-  pub entry : now.entry ≡ trial.entry
+  pub grows : TrialGrows trial now
   pub known : (now ≡ trial) ⊎ (number ≡ changed)
 
 pub record TrialSet (before after : Facts) (changed : ℕ) : Type 0 where
   pub rows : after.rows ≡ before.rows
+  pub counts : (entry : Entry) → current after entry ≡ current before entry
   pub by : (number : ℕ) (trial : Trial) → slice_get before.trials number ≡ Some trial
       → TrialIs before after changed number trial
 
@@ -493,18 +529,30 @@ pub record TrialSet (before after : Facts) (changed : ℕ) : Type 0 where
 pub record TrialStays (after : Facts) (w w' : Worklist) (number : ℕ) (trial : Trial) : Type 0 where
   pub now : Trial
   pub has : slice_get after.trials number ≡ Some now
-  pub entry : now.entry ≡ trial.entry
+  pub grows : TrialGrows trial now
   pub known : (now ≡ trial) ⊎ CallsWait w w' trial.entry
+
+-- Rows are only added, and what counts for an entry counts on.
+pub record FactsGrow (before after : Facts) : Type 0 where
+  pub rows : (trial place : ℕ) (held : Held) → row_in before.rows trial place ≡ Some held
+      → row_in after.rows trial place ≡ Some held
+  pub counts : (entry : Entry) (number : ℕ) → current before entry ≡ Some number
+      → current after entry ≡ Some number
+  pub only : (entry : Entry) (number : ℕ) (trial : Trial)
+      → slice_get before.trials number ≡ Some trial → current after entry ≡ Some number
+      → current before entry ≡ Some number
 
 -- Whatever was found waits: each row that is new, and the calls of each routine of which more is
 -- known, what it gives or how deep it looks.
-pub record HandsIn (before after : Facts) (w w' : Worklist) : Type 0 where
+pub record HandsIn (code : List PlainOp) (before after : Facts) (w w' : Worklist) : Type 0 where
   pub rows : (trial place : ℕ) (held : Held) → row_in after.rows trial place ≡ Some held
       → (row_in before.rows trial place ≡ Some held)
       ⊎ Contains (waiting w') (record { trial = trial; place = place })
   pub trials : (number : ℕ) (trial : Trial) → slice_get before.trials number ≡ Some trial
       → TrialStays after w w' number trial
+  pub grows : FactsGrow before after
   pub stays : Stays w w'
+  pub marks : CallsAreOfRows code before.rows w → CallsAreOfRows code after.rows w'
 
 -- ---- stored states
 
@@ -547,33 +595,57 @@ pub record RowSound (header : EngineTable) (code : List PlainOp) (heap : Heap) (
   pub by : (held : Held) → row_in facts.rows number place ≡ Some held
       → Sound header code heap facts number place held
 
-pub record SeesRow (header : EngineTable) (code : List PlainOp) (heap heap' : Heap)
-    (facts facts' : Facts) (number place : ℕ) (seen : Seen) : Type 0 where
-  pub grows : HeapGrows heap heap'
-  pub keeps : Visited header code heap' facts' seen
-  pub quiet : WhereQuiet seen ((facts' ≡ facts) × RowSound header code heap facts number place)
-  pub takes : Takes facts facts' seen
+-- what the look at a spot leaves
+pub record SeesRow (header : EngineTable) (code : List PlainOp) (heap : Heap)
+    (before facts : Facts) (seen : Seen) : Type 0 where
+  pub keeps : Visited header code heap facts seen
+  pub same : WhereQuiet seen (facts ≡ before)
+  pub takes : Takes before facts seen
 
--- and all of them
-pub record SeesAll (header : EngineTable) (code : List PlainOp) (heap heap' : Heap)
-    (facts facts' : Facts) (seen : Seen) : Type 0 where
-  pub grows : HeapGrows heap heap'
-  pub keeps : Visited header code heap' facts' seen
-  pub quiet : WhereQuiet seen ((facts' ≡ facts) × MeetsRules header code (trial_table heap facts))
-  pub takes : Takes facts facts' seen
+-- ---- what waits, and what is settled
 
--- what is left where all that was handed in was looked at
-pub record SeesDrained (header : EngineTable) (code : List PlainOp) (heap heap' : Heap)
-    (facts facts' : Facts) (seen : Seen) : Type 0 where
-  pub grows : HeapGrows heap heap'
-  pub keeps : Visited header code heap' facts' seen
-  pub same : WhereQuiet seen (facts' ≡ facts)
-  pub takes : Takes facts facts' seen
+-- If the instruction there is a call, it is kept of the routine that it calls.
+pub record IsCallKept (code : List PlainOp) (w : Worklist) (number place : ℕ) : Type 0 where
+  pub by : (target : ℕ) → IsCall code place target
+      → IsKept w target (record { trial = number; place = place })
+
+-- The row obeys the rules, and does so until more is known of the routine that it calls.
+pub record IsSettled (header : EngineTable) (code : List PlainOp) (heap : Heap) (facts : Facts)
+    (w : Worklist) (number place : ℕ) (held : Held) : Type 0 where
+  pub sound : Sound header code heap facts number place held
+  pub kept : IsCallKept code w number place
+
+abbrev pub WaitsOrStands : EngineTable → List PlainOp → Heap → Facts → Worklist → ℕ → ℕ → Held
+    → Type 0
+WaitsOrStands header code heap facts w number place held =
+    Contains (waiting w) (record { trial = number; place = place })
+    ⊎ IsSettled header code heap facts w number place held
+
+-- Each row waits or is settled. So once nothing waits, the table that was found meets the rules.
+pub record AreSettled (header : EngineTable) (code : List PlainOp) (heap : Heap) (facts : Facts)
+    (w : Worklist) : Type 0 where
+  pub rows : (number place : ℕ) (held : Held) → row_in facts.rows number place ≡ Some held
+      → WaitsOrStands header code heap facts w number place held
+  pub marks : CallsAreOfRows code facts.rows w
+
+-- each but the one that is looked at
+pub record AreSettledBut (header : EngineTable) (code : List PlainOp) (heap : Heap) (facts : Facts)
+    (w : Worklist) (spot : Spot) : Type 0 where
+  pub rows : (number place : ℕ) (held : Held) → row_in facts.rows number place ≡ Some held
+      → (record { trial = number; place = place } ≡ spot)
+      ⊎ WaitsOrStands header code heap facts w number place held
+  pub marks : CallsAreOfRows code facts.rows w
+
+abbrev pub Goes : Seen → Type 0 → Type 0
+Goes Quiet P = P
+Goes Changed P = P
+Goes Bad P = Unit {0}
 
 -- what one turn of the inference leaves
 pub record SeesTurn (header : EngineTable) (code : List PlainOp) (heap : Heap)
-    (before facts : Facts) (seen : Seen) : Type 0 where
+    (before facts : Facts) (w : Worklist) (seen : Seen) : Type 0 where
   pub keeps : Visited header code heap facts seen
+  pub settled : Goes seen (AreSettled header code heap facts w)
   pub quiet : WhereQuiet seen ((facts ≡ before) × MeetsRules header code (trial_table heap facts))
   pub takes : Takes before facts seen
 

@@ -1,12 +1,12 @@
-ghost use Rattle.std.specs.Prelude.{◌+◌, ◌-◌, ◌≡◌, ◌<◌, ◌≤◌, ◌++◌, None, Some, IfOk, IfSome, OnOk};
-ghost use Rattle.std.specs.Prelude.{IsTrue, length, take, true, ◌↔◌};
+ghost use Rattle.std.specs.Prelude.{◌+◌, ◌-◌, ◌≡◌, ◌<◌, ◌≤◌, ◌++◌, None, Some, IfOk, OnOk};
+ghost use Rattle.std.specs.Prelude.{IsTrue, MatchOption, length, take, true, ◌↔◌};
 ghost use Rattle.stack_shape.specs.declared.shape.Entry.TheVariants.{Called};
 ghost use Rattle.stack_lists.specs.Shared.{read};
 ghost use Rattle.stack_lists.specs.Rows.{row_in};
 ghost use Rattle.stack_lists.specs.Held.{IsIn, shape_of};
-ghost use Rattle.stack_check.specs.Facts.{FindsMore};
-ghost use Rattle.stack_check.specs.Inference.{AllIn, BeginsAlike, Calls, IsCall, Keeps, NothingNew};
-ghost use Rattle.stack_check.specs.Inference.{IsKept, RowIs, Sees, TrialIn, Within, window};
+ghost use Rattle.stack_check.specs.Facts.{FindsMore, current};
+ghost use Rattle.stack_check.specs.Inference.{AllIn, BeginsAlike, Calls, Formed, IsCall, Keeps};
+ghost use Rattle.stack_check.specs.Inference.{IsKept, NothingNew, RowIs, Sees, TrialIn, Within, window};
 ghost use Rattle.stack_check.specs.Inference.{Adds, AddsCalls};
 ghost use Rattle.stack_check.specs.Inference.{HandsIn};
 ghost use Rattle.stack_rules.specs.Rules.{WellStacked};
@@ -43,11 +43,12 @@ fn call_first(
     requires keeps { Keeps judged.now.table.now judged.now.code.now heap.now facts.old }
     requires row { row_in facts.old.rows from.trial from.place ≡ Some from.held }
     requires op { IsCall judged.now.code.now from.place target }
+    requires fresh { current facts.old (Called target) ≡ None }
     ensures keeps { IfOk result (λ _. Keeps judged.now.table.now judged.now.code.now heap.now
         facts.new) }
     ensures takes { IfOk result (λ _. FindsMore facts.old facts.new) }
     ensures few { OnOk result (Adds todo.old todo.new 1) }
-    ensures hands { OnOk result (HandsIn facts.old facts.new todo.old todo.new) }
+    ensures hands { OnOk result (HandsIn judged.now.code.now facts.old facts.new todo.old todo.new) }
 {
     let unseen = Unseen {
         cells: heap.slots.depth(from.held.cells),
@@ -170,7 +171,7 @@ fn call_given(
         heap.new facts.old facts.new at.from.trial at.from.place at.from.held seen) }
     ensures waits { IfOk result (λ seen. NothingNew todo.old todo.new seen) }
     ensures few { IfOk result (λ _. AddsCalls todo.old todo.new 3) }
-    ensures hands { IfOk result (λ _. HandsIn facts.old facts.new todo.old todo.new) }
+    ensures hands { IfOk result (λ _. HandsIn judged.now.code.now facts.old facts.new todo.old todo.new) }
 {
     let count = (heap.slots.depth(given) - callee.unseen.cells) as usize;
     let rest = heap
@@ -232,7 +233,7 @@ fn call_known(
         heap.new facts.old facts.new at.from.trial at.from.place at.from.held seen) }
     ensures waits { IfOk result (λ seen. NothingNew todo.old todo.new seen) }
     ensures few { IfOk result (λ _. AddsCalls todo.old todo.new 3) }
-    ensures hands { IfOk result (λ _. HandsIn facts.old facts.new todo.old todo.new) }
+    ensures hands { IfOk result (λ _. HandsIn judged.now.code.now facts.old facts.new todo.old todo.new) }
 {
     if !begins(heap, at.from.held, callee)? {
         return Ok(Seen::Bad);
@@ -278,7 +279,7 @@ fn call_routine(
         heap.new facts.old facts.new at.from.trial at.from.place at.from.held seen) }
     ensures waits { IfOk result (λ seen. NothingNew todo.old todo.new seen) }
     ensures few { IfOk result (λ _. AddsCalls todo.old todo.new 3) }
-    ensures hands { IfOk result (λ _. HandsIn facts.old facts.new todo.old todo.new) }
+    ensures hands { IfOk result (λ _. HandsIn judged.now.code.now facts.old facts.new todo.old todo.new) }
 {
     match counting(facts, at.target) {
         None => {
@@ -290,7 +291,7 @@ fn call_routine(
 }
 
 /// JSR. The call is kept, and looked at again when more is known of the routine.
-#[tactic(auto, using(crate::proofs::Following::keeping, crate::proofs::Handing::keeping))]
+#[tactic(auto, using(crate::proofs::Following::keeping))]
 pub fn call(
     alloc: Global,
     judged: &Judged<'_>,
@@ -307,7 +308,7 @@ pub fn call(
         heap.new facts.old facts.new at.from.trial at.from.place at.from.held seen) }
     ensures waits { IfOk result (λ seen. NothingNew todo.old todo.new seen) }
     ensures few { IfOk result (λ _. AddsCalls todo.old todo.new 3) }
-    ensures hands { IfOk result (λ _. HandsIn facts.old facts.new todo.old todo.new) }
+    ensures hands { IfOk result (λ _. HandsIn judged.now.code.now facts.old facts.new todo.old todo.new) }
     ensures kept { IfOk result (λ _. IsKept todo.new at.target
         (record { trial = at.from.trial; place = at.from.place })) }
 {
@@ -327,7 +328,9 @@ pub fn call(
 /// The trial that counts for the routine that begins at a place.
 #[tactic(auto, using(crate::proofs::CallSteps::counting))]
 fn counting(facts: &Facts, target: u32) -> Option<Trial>
-    ensures { IfSome result (λ callee. Calls facts.now target callee) }
+    requires formed { Formed facts.now }
+    ensures { MatchOption result (current facts.now (Called target) ≡ None)
+        (λ callee. Calls facts.now target callee) }
 {
     let number = facts.called.get(target);
     if number == 0 {

@@ -1,4 +1,4 @@
-ghost use Rattle.std.specs.Prelude.{◌≡◌, ◌≤◌, ◌↔◌, IfOk, Err, IsTrue, length};
+ghost use Rattle.std.specs.Prelude.{◌≡◌, ◌≤◌, ◌+◌, ◌↔◌, IfOk, Err, IsTrue, length};
 ghost use Rattle.stack_rules.specs.Tables.{ShapeTable};
 ghost use Rattle.stack_rules.specs.Fits.{Fits};
 ghost use Rattle.stack_rules.specs.Rules.{MeetsRules, WellStacked};
@@ -87,9 +87,11 @@ pub fn check(alloc: Global, code: Code, table: &Table) -> Result<Checked, CheckF
     ensures within { IfOk result (λ c. IsWithinBudget c) }
     // Each turn but the last finds a row, what a routine gives, or a slot of a window.
     ensures turns { IfOk result (λ c. c.turns ≤ most_turns c) }
-    // Each turn looks at what waits, and at each row once.
-    ensures looks { IfOk result (λ c. c.looks ≤ most_looks (most_turns c) (length c.facts.rows)
-        c.calls) }
+    // Each turn hands in the calls that are kept at most, and four spots, and what was handed in is
+    // looked at once.
+    ensures looks { IfOk result (λ c. c.looks ≤ most_looks (most_turns c) c.calls + 1) }
+    // Each call that is kept is of a row of its own.
+    ensures calls { IfOk result (λ c. c.calls ≤ length c.facts.rows) }
     // Where no table is found there is none.
     ensures unstacked { result ≡ Err Unstacked → WellStacked table.now code → ⊥ }
 {

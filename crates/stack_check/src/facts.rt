@@ -1,8 +1,9 @@
-ghost use Rattle.std.specs.Prelude.{◌≡◌, ◌≢◌, ◌<◌, ◌≤◌, ◌^◌, ◌++◌, ◌∷◌, [], Some, IfOk, OnOk};
+ghost use Rattle.std.specs.Prelude.{◌≡◌, ◌≢◌, ◌<◌, ◌≤◌, ◌^◌, ◌++◌, ◌∷◌, [], None, Some, IfOk};
+ghost use Rattle.std.specs.Prelude.{OnOk};
 ghost use Rattle.std.specs.Prelude.{length, slice_get};
 ghost use Rattle.stack_lists.specs.Worklist.{waiting};
 ghost use Rattle.stack_shape.specs.declared.shape.Entry.TheVariants.{Start};
-ghost use Rattle.stack_check.specs.Facts.{FindsMore, first_place, first_held};
+ghost use Rattle.stack_check.specs.Facts.{FindsMore, current, first_place, first_held};
 ghost use Rattle.stack_check.specs.Inference.{TrialBegins, Formed, GivenOwed, Keeps, SeesMore};
 ghost use Rattle.stack_check.specs.Inference.{TrialAdded, TrialIn, UnseenOwed};
 ghost use Rattle.stack_check.specs.Inference.{CurrentSet};
@@ -89,6 +90,7 @@ fn set_current(facts: &mut Facts, entry: Entry, number: u32) -> Result<(), NoMem
 fn add_trial(facts: &mut Facts, trial: Trial) -> Result<u32, NoMemory>
     requires formed { Formed facts.old }
     requires entry { trial.entry ≢ Start }
+    requires fresh { current facts.old trial.entry ≡ None }
     requires place { first_place trial.entry < 2 ^ 32 }
     ensures added { IfOk result (λ _. TrialAdded facts.old facts.new trial) }
     ensures number { IfOk result (λ number. number ≡ length facts.old.trials) }
@@ -115,6 +117,7 @@ pub fn begin(
 ) -> Result<(), NoMemory>
     requires keeps { Keeps judged.now.table.now judged.now.code.now heap.now facts.old }
     requires entry { trial.entry ≢ Start }
+    requires fresh { current facts.old trial.entry ≡ None }
     requires place { first_place trial.entry < 2 ^ 32 }
     requires begins { TrialBegins judged.now.table.now judged.now.code.now heap.now trial }
     requires inside { TrialIn heap.now trial }
@@ -124,7 +127,7 @@ pub fn begin(
     ensures handed { OnOk result (waiting todo.new ≡ waiting todo.old
         ++ record { trial = length facts.old.trials; place = first_place trial.entry } ∷ []) }
     ensures few { OnOk result (Adds todo.old todo.new 1) }
-    ensures hands { OnOk result (HandsIn facts.old facts.new todo.old todo.new) }
+    ensures hands { OnOk result (HandsIn judged.now.code.now facts.old facts.new todo.old todo.new) }
 {
     let _ = judged;
     let _ = heap;

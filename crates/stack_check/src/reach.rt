@@ -1,6 +1,7 @@
 ghost use Rattle.std.specs.Prelude.{◌≡◌, IfOk, OnOk};
 ghost use Rattle.ncs_code.specs.Plain.{plain};
 ghost use Rattle.stack_lists.specs.Held.{IsIn, shape_of};
+ghost use Rattle.stack_lists.specs.Worklist.{SameCalls};
 ghost use Rattle.stack_check.specs.Inference.{AllLed, IsLed, IsStep, Keeps, NothingNew, Owed};
 ghost use Rattle.stack_check.specs.Inference.{HandedIn, Reached};
 ghost use Rattle.stack_check.specs.Inference.{RowIs, RowsKept, Takes};
@@ -44,12 +45,13 @@ fn reach(
     }
 }
 
-/// Has a place looked at where its shape is new.
+/// Has a place looked at where something was found.
 #[tactic(auto, using(crate::proofs::Following::handing, crate::proofs::Handing::noting))]
-fn note(todo: &mut Todo, seen: Seen, spot: Spot) -> Result<(), NoMemory>
+pub fn note(todo: &mut Todo, seen: Seen, spot: Spot) -> Result<(), NoMemory>
     ensures waits { NothingNew todo.old todo.new seen }
     ensures few { OnOk result (Adds todo.old todo.new 1) }
     ensures stays { OnOk result (Stays todo.old todo.new) }
+    ensures calls { OnOk result (SameCalls todo.old todo.new) }
     ensures handed { OnOk result (HandedIn todo.old todo.new spot seen) }
 {
     match seen {
@@ -81,7 +83,7 @@ pub fn follow(
         × RowIs heap.now facts.old spot.trial spot.place (shape_of heap.now held))) }
     ensures waits { IfOk result (λ seen. NothingNew todo.old todo.new seen) }
     ensures few { IfOk result (λ _. Adds todo.old todo.new 1) }
-    ensures hands { IfOk result (λ _. HandsIn facts.old facts.new todo.old todo.new) }
+    ensures hands { IfOk result (λ _. HandsIn judged.now.code.now facts.old facts.new todo.old todo.new) }
     ensures handed { IfOk result (λ seen. HandedIn todo.old todo.new spot seen) }
 {
     let _ = judged;
@@ -141,7 +143,7 @@ fn lead_to(
         × RowIs heap.now facts.old at.now.from.trial place (shape_of heap.now after))) }
     ensures waits { IfOk result (λ seen. NothingNew todo.old todo.new seen) }
     ensures few { IfOk result (λ _. Adds todo.old todo.new 1) }
-    ensures hands { IfOk result (λ _. HandsIn facts.old facts.new todo.old todo.new) }
+    ensures hands { IfOk result (λ _. HandsIn judged.now.code.now facts.old facts.new todo.old todo.new) }
 {
     rules_look_from_the_top();
     let _ = lead;
@@ -173,7 +175,7 @@ pub fn lead(
         × AllLed heap.now facts.old at.now.from.trial lead (shape_of heap.now after))) }
     ensures waits { IfOk result (λ seen. NothingNew todo.old todo.new seen) }
     ensures few { IfOk result (λ _. Adds todo.old todo.new 2) }
-    ensures hands { IfOk result (λ _. HandsIn facts.old facts.new todo.old todo.new) }
+    ensures hands { IfOk result (λ _. HandsIn judged.now.code.now facts.old facts.new todo.old todo.new) }
 {
     match lead {
         Lead::One(place) => lead_to(judged, heap, facts, todo, at, after, lead, place),

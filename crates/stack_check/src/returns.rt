@@ -1,10 +1,10 @@
-ghost use Rattle.std.specs.Prelude.{◌≡◌, [], Some, IfOk, slice_get};
+ghost use Rattle.std.specs.Prelude.{◌≡◌, ◌++◌, [], Some, IfOk, map, slice_get};
 ghost use Rattle.stack_lists.specs.Shared.{read};
 ghost use Rattle.ncs_code.specs.Plain.{Retn};
 ghost use Rattle.ncs_code.specs.File.{op_at};
 ghost use Rattle.stack_shape.specs.declared.shape.Entry.TheVariants.{Called};
 ghost use Rattle.stack_lists.specs.Rows.{row_in};
-ghost use Rattle.stack_lists.specs.Worklist.{CallersAdded};
+ghost use Rattle.stack_lists.specs.Worklist.{calls_of, stands_at, waiting};
 ghost use Rattle.stack_check.specs.Inference.{Keeps, NothingNew, Sees, WhereChanged};
 ghost use Rattle.stack_check.specs.Inference.{AddsCalls};
 ghost use Rattle.stack_check.specs.Inference.{HandsIn};
@@ -39,15 +39,15 @@ fn return_cells(
         heap.now facts.old facts.new from.trial from.place from.held seen) }
     ensures waits { IfOk result (λ seen. NothingNew todo.old todo.new seen) }
     ensures few { IfOk result (λ _. AddsCalls todo.old todo.new 3) }
-    ensures hands { IfOk result (λ _. HandsIn facts.old facts.new todo.old todo.new) }
-    // Once it is known what the routine gives, its calls are looked at again.
-    ensures again { IfOk result (λ seen. WhereChanged seen (CallersAdded todo.old todo.new
-        target)) }
+    ensures hands { IfOk result (λ _. HandsIn judged.now.code.now facts.old facts.new todo.old todo.new) }
+    // Once it is known what the routine gives, its calls are looked at again, before all else.
+    ensures again { IfOk result (λ seen. WhereChanged seen (waiting todo.new ≡ waiting todo.old
+        ++ map stands_at (calls_of todo.old target))) }
 {
     match trial.given {
         None => {
             give(judged, heap, facts, from.trial, from.held.cells)?;
-            todo.add_callers(target)?;
+            todo.call_again(target)?;
             Ok(Seen::Changed)
         }
         Some(given) => {
@@ -80,7 +80,7 @@ fn return_called(
         heap.now facts.old facts.new from.trial from.place from.held seen) }
     ensures waits { IfOk result (λ seen. NothingNew todo.old todo.new seen) }
     ensures few { IfOk result (λ _. AddsCalls todo.old todo.new 3) }
-    ensures hands { IfOk result (λ _. HandsIn facts.old facts.new todo.old todo.new) }
+    ensures hands { IfOk result (λ _. HandsIn judged.now.code.now facts.old facts.new todo.old todo.new) }
 {
     if from.held.pending != 0 {
         return Ok(Seen::Bad);
@@ -109,7 +109,7 @@ pub fn returned(
         heap.now facts.old facts.new from.trial from.place from.held seen) }
     ensures waits { IfOk result (λ seen. NothingNew todo.old todo.new seen) }
     ensures few { IfOk result (λ _. AddsCalls todo.old todo.new 3) }
-    ensures hands { IfOk result (λ _. HandsIn facts.old facts.new todo.old todo.new) }
+    ensures hands { IfOk result (λ _. HandsIn judged.now.code.now facts.old facts.new todo.old todo.new) }
 {
     match trial.entry {
         Entry::Start => Ok(Seen::Quiet),

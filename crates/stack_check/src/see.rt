@@ -3,7 +3,7 @@ ghost use Rattle.stack_lists.specs.Rows.{row_in};
 ghost use Rattle.stack_lists.specs.Worklist.{SameCalls, waiting};
 ghost use Rattle.stack_check.specs.Facts.{FindsMore};
 ghost use Rattle.stack_lists.specs.Held.{shape_of};
-ghost use Rattle.stack_check.specs.Inference.{CallsAgain, CallsOfWait, IsNext, IsThere, Keeps};
+ghost use Rattle.stack_check.specs.Inference.{CallsAgain, CallsOfWait, IsThere, Keeps};
 ghost use Rattle.stack_check.specs.Inference.{LooksOwed, Within, narrowed, unseen_after};
 ghost use Rattle.stack_check.specs.Inference.{AddsCalls};
 ghost use Rattle.stack_check.specs.Inference.{HandsIn};
@@ -12,7 +12,7 @@ use crate::facts::{Facts, Trial, Unseen, narrow};
 use crate::judged::Judged;
 use crate::reach::Found;
 use nwq_value::NoMemory;
-use stack_lists::{Heap, Held, Side, Spot, Todo};
+use stack_lists::{Heap, Held, Side, Todo};
 use stack_shape::{Entry, Reach};
 
 fn least(a: u32, b: u32) -> u32
@@ -99,7 +99,7 @@ fn has_seen_all(trial: Trial) -> bool
 /// Looks so deep into a shape that was found. True where some of these slots lie in what the
 /// trial's routine took from its first caller, and no instruction had looked at them. `call` is
 /// the place of the call that looks, 0 where no call does.
-#[tactic(auto, using(crate::proofs::Seeing::seeing, crate::proofs::Following::nexting, crate::proofs::Following::adding, crate::proofs::Handing::handing))]
+#[tactic(auto, using(crate::proofs::Seeing::seeing, crate::proofs::Following::adding, crate::proofs::Handing::handing))]
 pub fn see(
     judged: &Judged<'_>,
     heap: &Heap,
@@ -120,10 +120,8 @@ pub fn see(
     ensures within { IfOk result (λ more. more ≡ false → (facts.new ≡ facts.old)
         × Within heap.now facts.old from.trial (shape_of heap.now from.held) reach) }
     ensures same { IfOk result (λ more. more ≡ false → todo.new ≡ todo.old) }
-    ensures handed { IfOk result (λ more. more ≡ true → IsNext todo.new
-        (record { trial = from.trial; place = from.place })) }
-    ensures few { IfOk result (λ _. AddsCalls todo.old todo.new 1) }
-    ensures hands { IfOk result (λ _. HandsIn facts.old facts.new todo.old todo.new) }
+    ensures few { IfOk result (λ _. AddsCalls todo.old todo.new 0) }
+    ensures hands { IfOk result (λ _. HandsIn judged.now.code.now facts.old facts.new todo.old todo.new) }
     // Once its window has grown, the routine's calls are looked at again.
     ensures again { IfOk result (λ more. more ≡ true → CallsOfWait todo.old todo.new facts.old
         from.trial) }
@@ -142,10 +140,6 @@ pub fn see(
             narrow(judged, heap, facts, from.trial, trial, unseen);
             note_growth(todo, from.trial, trial.unseen, unseen, call)?;
             look_again(todo, trial.entry)?;
-            todo.add(Spot {
-                trial: from.trial,
-                place: from.place,
-            })?;
             Ok(true)
         }
     }

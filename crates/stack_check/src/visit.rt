@@ -1,5 +1,5 @@
 ghost use Rattle.std.specs.Prelude.{◌≡◌, ◌+◌, ◌<◌, ◌^◌, Some, None, IfOk};
-ghost use Rattle.std.specs.Prelude.{IfSome};
+ghost use Rattle.std.specs.Prelude.{MatchOption};
 ghost use Rattle.ncs_code.specs.Plain.{plain, Retn, StoreState};
 ghost use Rattle.ncs_code.specs.File.{op_at};
 ghost use Rattle.ncs_code.specs.Spelling.{op_size};
@@ -13,7 +13,7 @@ ghost use Rattle.stack_check.specs.Inference.{IsPlain, IsStored, Keeps, NothingN
 ghost use Rattle.stack_check.specs.Inference.{SeesStep, StoresAs, Takes, Visited, WhereQuiet};
 ghost use Rattle.stack_check.specs.Inference.{leads_of};
 ghost use Rattle.stack_check.specs.Inference.{Adds, AddsCalls};
-ghost use Rattle.stack_check.specs.Inference.{HandsIn};
+ghost use Rattle.stack_check.specs.Inference.{HandsIn, IsCallKept};
 
 use crate::calls::{FoundCall, call};
 use crate::facts::{Facts, Trial, Unseen, begin};
@@ -52,7 +52,7 @@ fn visit_step(
         at.now.op.now) seen) }
     ensures waits { IfOk result (λ seen. NothingNew todo.old todo.new seen) }
     ensures few { IfOk result (λ _. AddsCalls todo.old todo.new 2) }
-    ensures hands { IfOk result (λ _. HandsIn facts.old facts.new todo.old todo.new) }
+    ensures hands { IfOk result (λ _. HandsIn judged.now.code.now facts.old facts.new todo.old todo.new) }
 {
     rules_look_from_the_top();
     rules_look_no_deeper();
@@ -73,7 +73,8 @@ fn visit_step(
 /// The trial that counts for what is stored at a place.
 #[tactic(auto, using(crate::proofs::Storing::counting))]
 fn stored_trial(facts: &Facts, site: u32) -> Option<u32>
-    ensures { IfSome result (λ number. current facts.now (Stored site) ≡ Some number) }
+    ensures { MatchOption result (current facts.now (Stored site) ≡ None)
+        (λ number. current facts.now (Stored site) ≡ Some number) }
 {
     let number = facts.stored.get(site);
     if number == 0 { None } else { Some(number) }
@@ -101,7 +102,7 @@ fn resume(
         × IsStored heap.now facts.old site (shape_of heap.now held))) }
     ensures waits { IfOk result (λ seen. NothingNew todo.old todo.new seen) }
     ensures few { IfOk result (λ _. Adds todo.old todo.new 1) }
-    ensures hands { IfOk result (λ _. HandsIn facts.old facts.new todo.old todo.new) }
+    ensures hands { IfOk result (λ _. HandsIn judged.now.code.now facts.old facts.new todo.old todo.new) }
 {
     match stored_trial(facts, site) {
         None => {
@@ -152,7 +153,7 @@ fn visit_store(
         heap.new facts.old facts.new at.now.from.trial at.now.from.place at.now.from.held seen) }
     ensures waits { IfOk result (λ seen. NothingNew todo.old todo.new seen) }
     ensures few { IfOk result (λ _. AddsCalls todo.old todo.new 3) }
-    ensures hands { IfOk result (λ _. HandsIn facts.old facts.new todo.old todo.new) }
+    ensures hands { IfOk result (λ _. HandsIn judged.now.code.now facts.old facts.new todo.old todo.new) }
 {
     rules_look_from_the_top();
     let first = visit_step(alloc, judged, heap, facts, todo, at)?;
@@ -191,7 +192,7 @@ fn visit_plain(
         heap.new facts.old facts.new at.now.from.trial at.now.from.place at.now.from.held seen) }
     ensures waits { IfOk result (λ seen. NothingNew todo.old todo.new seen) }
     ensures few { IfOk result (λ _. AddsCalls todo.old todo.new 3) }
-    ensures hands { IfOk result (λ _. HandsIn facts.old facts.new todo.old todo.new) }
+    ensures hands { IfOk result (λ _. HandsIn judged.now.code.now facts.old facts.new todo.old todo.new) }
 {
     let seen = visit_step(alloc, judged, heap, facts, todo, at)?;
     Ok(seen)
@@ -219,7 +220,7 @@ fn visit_stored(
         heap.new facts.old facts.new at.now.from.trial at.now.from.place at.now.from.held seen) }
     ensures waits { IfOk result (λ seen. NothingNew todo.old todo.new seen) }
     ensures few { IfOk result (λ _. AddsCalls todo.old todo.new 3) }
-    ensures hands { IfOk result (λ _. HandsIn facts.old facts.new todo.old todo.new) }
+    ensures hands { IfOk result (λ _. HandsIn judged.now.code.now facts.old facts.new todo.old todo.new) }
 {
     rules_look_from_the_top();
     match resumed(alloc, globals, locals, heap, at.from.held)? {
@@ -260,7 +261,7 @@ fn visit_return(
         heap.now facts.old facts.new from.trial from.place from.held seen) }
     ensures waits { IfOk result (λ seen. NothingNew todo.old todo.new seen) }
     ensures few { IfOk result (λ _. AddsCalls todo.old todo.new 3) }
-    ensures hands { IfOk result (λ _. HandsIn facts.old facts.new todo.old todo.new) }
+    ensures hands { IfOk result (λ _. HandsIn judged.now.code.now facts.old facts.new todo.old todo.new) }
 {
     match facts.trials.get(from.trial as usize) {
         None => unreachable!(),
@@ -272,7 +273,7 @@ fn visit_return(
 }
 
 /// The instruction at a place, which takes so many bytes.
-#[tactic(auto, using(crate::proofs::Storing::kinds))]
+#[tactic(auto, using(crate::proofs::Storing::kinds, crate::proofs::Settling::keeping))]
 fn visit_op(
     alloc: Global,
     judged: &Judged<'_>,
@@ -291,20 +292,29 @@ fn visit_op(
         heap.new facts.old facts.new from.trial from.place from.held seen) }
     ensures waits { IfOk result (λ seen. NothingNew todo.old todo.new seen) }
     ensures few { IfOk result (λ _. AddsCalls todo.old todo.new 3) }
-    ensures hands { IfOk result (λ _. HandsIn facts.old facts.new todo.old todo.new) }
+    ensures hands { IfOk result (λ _. HandsIn judged.now.code.now facts.old facts.new todo.old todo.new) }
+    ensures kept { IfOk result (λ _. IsCallKept judged.now.code.now todo.new from.trial from.place) }
 {
     let next = end_of(judged.code, op, from.place, size);
     let at = FoundOp { from, op, next };
     match kind_of(op, from.place) {
         Kind::Call(target) => {
             let at = FoundCall { from, target, next };
-            call(alloc, judged, heap, facts, todo, at)
+            let seen = call(alloc, judged, heap, facts, todo, at)?;
+            Ok(seen)
         }
-        Kind::Return => visit_return(judged, heap, facts, todo, from),
+        Kind::Return => {
+            let seen = visit_return(judged, heap, facts, todo, from)?;
+            Ok(seen)
+        }
         Kind::Store(globals, locals) => {
-            visit_stored(alloc, judged, heap, facts, todo, &at, globals, locals)
+            let seen = visit_stored(alloc, judged, heap, facts, todo, &at, globals, locals)?;
+            Ok(seen)
         }
-        Kind::Step => visit_plain(alloc, judged, heap, facts, todo, &at),
+        Kind::Step => {
+            let seen = visit_plain(alloc, judged, heap, facts, todo, &at)?;
+            Ok(seen)
+        }
     }
 }
 
@@ -325,7 +335,8 @@ pub fn visit(
         heap.new facts.old facts.new from.trial from.place from.held seen) }
     ensures waits { IfOk result (λ seen. NothingNew todo.old todo.new seen) }
     ensures few { IfOk result (λ _. AddsCalls todo.old todo.new 3) }
-    ensures hands { IfOk result (λ _. HandsIn facts.old facts.new todo.old todo.new) }
+    ensures hands { IfOk result (λ _. HandsIn judged.now.code.now facts.old facts.new todo.old todo.new) }
+    ensures kept { IfOk result (λ _. IsCallKept judged.now.code.now todo.new from.trial from.place) }
 {
     match judged.code.op_at(from.place) {
         None => Ok(Seen::Bad),

@@ -78,10 +78,6 @@ found_at (row ∷ rows) t p h e = elim (test_cases row t p) [
       record { number = suc s.number; row = s.row; has = s.has; key = s.key; held = s.held }
 ]
 
-pub row_number : (rows : List ShapeRow) (t p : ℕ) (h : Held) → row_in rows t p ≡ Some h
-    → (number : ℕ) × (row : ShapeRow) × (slice_get rows number ≡ Some row) × (row.trial ≡ t) × (row.place ≡ p)
-row_number rows t p h e = let s = found_at rows t p h e in (s.number, s.row, s.has, s.key.trial, s.key.place)
-
 -- ---- by its key
 
 held_row : (o : Option ShapeRow) (t p : ℕ) (h : Held) → held_in o t p ≡ Some h → (row : ShapeRow) × (o ≡ Some row) × HasKey row t p × (row.held ≡ h)
@@ -175,37 +171,31 @@ find_key rows firsts index t p first number other None all f n none k e = sym (n
 
 -- ---- the number of a row
 
+row_is : (row : ShapeRow) (t p : ℕ) (h : Held) → HasKey row t p → row.held ≡ h → row ≡ record { trial = t; place = p; held = h }
+row_is row t p h k e =
+    ap (λ t. let r : ShapeRow = record { trial = t; place = row.place; held = row.held } in r) k.trial
+    ∙ ap (λ p. let r : ShapeRow = record { trial = t; place = p; held = row.held } in r) k.place
+    ∙ ap (λ h. let r : ShapeRow = record { trial = t; place = p; held = h } in r) e
+
+numbered : (rows : List ShapeRow) (number t p : ℕ) (h : Held) → held_in (slice_get rows number) t p ≡ Some h
+    → slice_get rows number ≡ Some (record { trial = t; place = p; held = h })
+numbered rows number t p h e = let r = held_row (slice_get rows number) t p h e in r.1 ∙ ap Some (row_is r.0 t p h r.2 r.3)
+
 pub number_none : (rows : List ShapeRow) (t p number : ℕ) → None ≡ row_in rows t p → IsNumberOf rows t p number
 number_none rows t p number n held e = absurd (none_some held (n ∙ e))
 
 pub number_held : (rows : List ShapeRow) (firsts : List ℕ) (index : BTreeMap ℕ ℕ) (number : ℕ) (t p : ℕ) (h : Held) → AreIndexed rows firsts index
     → Some h ≡ held_in (slice_get rows number) t p → IsNumberOf rows t p number
-number_held rows firsts index number t p h all e held r = sym e ∙ find_held rows firsts index number t p h all e ∙ r
+number_held rows firsts index number t p h all e held r =
+    numbered rows number t p held (sym e ∙ find_held rows firsts index number t p h all e ∙ r)
 
 pub number_keyed : (rows : List ShapeRow) (firsts : List ℕ) (index : BTreeMap ℕ ℕ) (t p first number other : ℕ) → AreIndexed rows firsts index
     → first ≡ get_or firsts (p / 2) 0 → number ≡ first - 1 → None ≡ held_in (slice_get rows number) t p → Some other ≡ get nat_cmp index (row_key t p)
     → IsNumberOf rows t p other
 number_keyed rows firsts index t p first number other all f n none k held r =
-    find_key rows firsts index t p first number other (held_in (slice_get rows other) t p) all f n none k refl ∙ r
+    numbered rows other t p held (find_key rows firsts index t p first number other (held_in (slice_get rows other) t p) all f n none k refl ∙ r)
 
 pub ruleset counting = (number_none, number_held, number_keyed)
-
-number_inside : (rows : List ShapeRow) (number : ℕ) (row : ShapeRow) → slice_get rows number ≡ Some row → number < length rows
-number_inside [] number row h = absurd cc
-number_inside (r ∷ rows) zero row h = omega arith
-number_inside (r ∷ rows) (suc number) row h = omega (arith, number_inside rows number row h)
-
-pub number_few : (rows : List ShapeRow) (firsts : List ℕ) (index : BTreeMap ℕ ℕ) (number : ℕ) (row : ShapeRow) → AreIndexed rows firsts index
-    → Some row ≡ slice_get rows number → number < 33554432
-number_few rows firsts index number row all h = let l = number_inside rows number row (sym h) in omega (arith, l, all.few)
-
--- the row with a number is the one that is found
-pub number_found : (rows : List ShapeRow) (firsts : List ℕ) (index : BTreeMap ℕ ℕ) (number : ℕ) (row : ShapeRow) → AreIndexed rows firsts index
-    → Some row ≡ slice_get rows number → row_in rows row.trial row.place ≡ Some row.held
-number_found rows firsts index number row all h =
-    sym (find_row rows firsts index number row row.trial row.place all (sym h) (record { trial = refl; place = refl }))
-
-pub ruleset numbering = (number_few, number_found)
 
 pub ruleset finding = (find_held, find_none, find_no_key, find_key)
 
@@ -250,6 +240,7 @@ row_added before after trial place held a new room =
         | inr is ↦ inr (sym is.0.trial, sym is.0.place, is.1)
       ];
       more = length-append before (row ∷ []);
+      end = refl;
       room = room;
     })
 

@@ -1,5 +1,5 @@
 -- The worklist: what is handed in and out, and the calls that are kept.
-use Rattle.std.proofs.Common.{arith, ◌≡◌, ◌≤◌, ◌<◌, ℕ, zero, suc, List, [], ◌∷◌, ◌++◌, length, map, get_or, Option, None, Some, slice_get, inl, inr, sym, subst, ◌∙◌, ap, refl, append-nil}
+use Rattle.std.proofs.Common.{arith, ◌≡◌, ◌≢◌, ◌≤◌, ◌<◌, ◌⊎◌, ℕ, zero, suc, List, [], ◌∷◌, ◌++◌, length, map, get_or, Option, None, Some, slice_get, inl, inr, sym, subst, ◌∙◌, ap, refl, append-nil}
 use Rattle.std.specs.Prelude.{Result, Ok, Err, OnOk, Contains}
 use Rattle.std.proofs.lemmas.Bool.{cases_eq}
 use Rattle.std.proofs.lemmas.List.{append_assoc, length-append, map-append}
@@ -10,7 +10,7 @@ use Rattle.stack_lists.specs.declared.todo.Call.{Call}
 use Rattle.stack_lists.specs.declared.todo.Spot.{Spot}
 use Rattle.stack_lists.specs.Shared.{Grows, read, read_within, with_node}
 use Rattle.stack_lists.specs.Rows.{PutAt, SameNumbers}
-use Rattle.stack_lists.specs.Worklist.{AllWait, AreMarked, AreThere, CallKept, CallersAdded, CallsPut, IsMarked, IsTop, SameCalls, Worklist, calls_of, spot_of}
+use Rattle.stack_lists.specs.Worklist.{AllWait, AreMarked, AreThere, CallKept, CallersAdded, CallsPut, HasOther, IsMarked, IsMarkedAnew, IsTop, SameCalls, Worklist, calls_of, spot_of, stands_at, waiting}
 use Rattle.stack_lists.specs.Growth.{read_empty}
 use Rattle.stack_lists.specs.Budget.{most}
 
@@ -30,10 +30,12 @@ pub ruleset beginning = (there_none, no_calls)
 
 -- ---- handing in and out
 
-pub same_calls : (before after : Worklist) → after.calls ≡ before.calls → after.called ≡ before.called → SameCalls before after
-same_calls before after c d = record {
+pub same_calls : (before after : Worklist) → after.calls ≡ before.calls → after.called ≡ before.called → after.marks ≡ before.marks → SameCalls before after
+same_calls before after c d m = record {
   by = λ t. ap (λ (ns : List (Node Call)). read ns (get_or after.called t 0)) c ∙ ap (λ (ns : List ℕ). read before.calls (get_or ns t 0)) d;
   count = ap (λ (ns : List (Node Call)). length ns) c;
+  calls = c;
+  marks = m;
 }
 
 -- the last spot is handed out
@@ -197,15 +199,52 @@ call_marked w row call m is = record {
   marked = is;
   added = inl refl;
   once = λ h. refl;
+  anew = inl refl;
   others = λ t ne. refl;
   longer = omega arith;
 }
 
-pub call_added : (before after : Worklist) (row below number : ℕ) (call : Call) → AreThere before.calls before.called → Grows before.calls after.calls
+-- each list but the empty one has a top
+top_there : (calls : List (Node Call)) (number : ℕ) → number ≢ 0 → number ≤ length calls → (call : Call) × IsTop calls number call
+unfolding read
+top_there calls zero ne l = absurd (ne refl)
+top_there calls (suc k) ne l =
+    let n = there calls k (omega (arith, l)) in (
+      n.0.item,
+      record { inside = l; older = read_within k calls n.0.below; is = ap (λ o. with_node o (read_within k calls)) n.1 },
+    )
+  where
+    there : (nodes : List (Node Call)) (k : ℕ) → k < length nodes → (n : Node Call) × (slice_get nodes k ≡ Some n)
+    there [] k h = absurd (omega (arith, h))
+    there (n ∷ nodes) zero h = (n, refl)
+    there (n ∷ nodes) (suc k) h = there nodes k (omega (arith, h))
+
+had_other : (w : Worklist) (row : ℕ) (call : Call) → AreMarked w.calls w.called w.marks → (IsMarked w row call → ⊥)
+    → (get_or w.marks row 0 ≡ 0) ⊎ HasOther w row call
+had_other w row call m ne = elim (cases_eq (get_or w.marks row 0) 0) [
+  | inl e ↦ inl e
+  | inr some ↦
+      let t = top_there w.calls (get_or w.marks row 0) some (m.there row) in
+      inr (record { other = t.0; marked = t.1; differs = λ e. ne (subst (λ c. IsMarked w row c) e t.1) })
+]
+
+pub call_anew : (before after : Worklist) (row number : ℕ) (call : Call) (node : Node Call) → AreMarked before.calls before.called before.marks
+    → Grows before.calls after.calls → after.calls ≡ before.calls ++ node ∷ [] → PutAt before.marks after.marks row number → (IsMarked before row call → ⊥)
+    → IsMarkedAnew before after row call
+call_anew before after row number call node m g a k ne = record {
+  more = ap (λ (ns : List (Node Call)). length ns) a ∙ length-append before.calls (node ∷ []);
+  had = had_other before row call m ne;
+  others = k.others;
+  tops = λ n c other top.
+      let t = subst (λ z. IsTop after.calls z c) (k.others n other) top in still_top before.calls after.calls (get_or before.marks n 0) c g (m.there n) t;
+}
+
+pub call_added : (before after : Worklist) (row below number : ℕ) (call : Call) (node : Node Call) → AreThere before.calls before.called
+    → AreMarked before.calls before.called before.marks → Grows before.calls after.calls → after.calls ≡ before.calls ++ node ∷ []
     → below ≡ get_or before.called call.target 0 → read after.calls number ≡ call ∷ read before.calls below → number ≤ length after.calls
     → PutAt before.called after.called call.target number → PutAt before.marks after.marks row number
     → (IsMarked before row call → ⊥) → CallKept before after row call
-call_added before after row below number call there g b r l p k ne = record {
+call_added before after row below number call node there m g a b r l p k ne = record {
   here = among_newest (calls_of before call.target) (calls_of after call.target) call newest;
   marked = record {
     inside = (let z = k.here in omega (arith, z, l));
@@ -214,6 +253,7 @@ call_added before after row below number call there g b r l p k ne = record {
   };
   added = inr newest;
   once = λ h. absurd (ne h);
+  anew = inr (call_anew before after row number call node m g a k ne);
   others = λ t ne. ap (read after.calls) (p.others t ne) ∙ g.same (get_or before.called t 0) (there.by t);
   longer = g.longer;
 }
@@ -248,31 +288,70 @@ all_wait later now first spot c =
     ]))
 
 pub callers_added : (before after : Worklist) (target number : ℕ) → after.first ≡ before.first → after.soon ≡ before.soon → after.calls ≡ before.calls
-    → after.called ≡ before.called → number ≡ get_or before.called target 0 → AllWait before.calls before.waits (before.soon ++ before.later)
+    → after.called ≡ before.called → after.marks ≡ before.marks → number ≡ get_or before.called target 0 → AllWait before.calls before.waits (before.soon ++ before.later)
     → number ≤ length before.calls → CallsPut before.calls before.later before.waits after.later (read before.calls number)
     → CallersAdded before after target
-callers_added before after target number f w c d n all l p = record {
+callers_added before after target number f w c d k n all l p = record {
   first = f;
   soon = w;
   added = p.added;
   later = p.is;
-  few = let k = p.few in let s = read_short before.calls number in omega (arith, k, s, l);
+  few = let h = p.few in let s = read_short before.calls number in omega (arith, h, s, l);
   all = λ call i. all_wait after.later after.soon after.first call.spot
       (subst (λ z. Contains (map spot_of (z ++ after.later)) call.spot) (sym w)
       (p.by before.soon all call (subst (λ n. Contains (read before.calls n) call) (sym n) i)));
-  calls = same_calls before after c d;
+  calls = same_calls before after c d k;
 }
 
 pub callers_done : {E : Type 0} (before after : Worklist) (target number : ℕ) (r : Result (Unit {0}) E) → after.first ≡ before.first → after.soon ≡ before.soon
-    → after.calls ≡ before.calls → after.called ≡ before.called → number ≡ get_or before.called target 0
+    → after.calls ≡ before.calls → after.called ≡ before.called → after.marks ≡ before.marks → number ≡ get_or before.called target 0
     → AllWait before.calls before.waits (before.soon ++ before.later)
     → number ≤ length before.calls → OnOk r (CallsPut before.calls before.later before.waits after.later (read before.calls number))
     → OnOk r (CallersAdded before after target)
-callers_done before after target number (Ok u) f w c d n all l p = callers_added before after target number f w c d n all l p
-callers_done before after target number (Err e) f w c d n all l p = tt
+callers_done before after target number (Ok u) f w c d k n all l p = callers_added before after target number f w c d k n all l p
+callers_done before after target number (Err e) f w c d k n all l p = tt
 
 pub list_inside : (calls : List (Node Call)) (called : List ℕ) (target number : ℕ) → AreThere calls called → number ≡ get_or called target 0
     → number ≤ length calls
 list_inside calls called target number there n = let l = there.by target in omega (arith, l, n)
 
-pub ruleset calling = (list_inside, callers_added)
+-- so many calls of the list are put first
+pub record FirstSoFar (calls : List (Node Call)) (before now : List Spot) (number at : ℕ) : Type 0 where
+  pub added : List Spot
+  pub is : now ≡ before ++ added
+  pub rest : map stands_at (read calls number) ≡ added ++ map stands_at (read calls at)
+  pub inside : at ≤ length calls
+
+pub first_begin : (calls : List (Node Call)) (before : List Spot) (number : ℕ) → number ≤ length calls → FirstSoFar calls before before number number
+first_begin calls before number l = record { added = []; is = sym (append-nil before); rest = refl; inside = l }
+
+pub first_step : (calls : List (Node Call)) (before now next : List Spot) (number at below : ℕ) (call : Call) → FirstSoFar calls before now number at
+    → read calls at ≡ call ∷ read calls below → below ≤ length calls → next ≡ now ++ call.spot ∷ [] → FirstSoFar calls before next number below
+first_step calls before now next number at below call s r l e = record {
+  added = s.added ++ call.spot ∷ [];
+  is = e ∙ ap (λ z. z ++ call.spot ∷ []) s.is ∙ append_assoc before s.added (call.spot ∷ []);
+  rest = s.rest ∙ ap (λ z. s.added ++ map stands_at z) r ∙ sym (append_assoc s.added (call.spot ∷ []) (map stands_at (read calls below)));
+  inside = l;
+}
+
+pub first_all : (calls : List (Node Call)) (before now : List Spot) (number at : ℕ) → FirstSoFar calls before now number at → read calls at ≡ []
+    → now ≡ before ++ map stands_at (read calls number)
+first_all calls before now number at s r =
+    s.is ∙ ap (λ z. before ++ z) (sym (s.rest ∙ ap (λ z. s.added ++ map stands_at z) r ∙ append-nil s.added))
+
+pub ruleset putting = (first_begin, first_step, first_all)
+
+pub first_waits : {E : Type 0} (before after : Worklist) (target number : ℕ) (r : Result (Unit {0}) E) → after.soon ≡ before.soon → after.later ≡ before.later
+    → number ≡ get_or before.called target 0
+    → OnOk r (after.first ≡ before.first ++ map stands_at (read before.calls number))
+    → OnOk r (waiting after ≡ waiting before ++ map stands_at (calls_of before target))
+first_waits before after target number (Ok u) w l n e =
+    ap (λ z. map spot_of (after.later ++ z) ++ after.first) w ∙ ap (λ z. map spot_of (z ++ before.soon) ++ after.first) l
+    ∙ ap (λ z. map spot_of (before.later ++ before.soon) ++ z) (e ∙ ap (λ n. before.first ++ map stands_at (read before.calls n)) n)
+    ∙ sym (append_assoc (map spot_of (before.later ++ before.soon)) before.first (map stands_at (calls_of before target)))
+first_waits before after target number (Err x) w l n e = tt
+
+pub calls_short : (w : Worklist) (target : ℕ) → AreThere w.calls w.called → length (calls_of w target) ≤ length w.calls
+calls_short w target there = let s = read_short w.calls (get_or w.called target 0) in let l = there.by target in omega (arith, s, l)
+
+pub ruleset calling = (list_inside, callers_added, first_waits, calls_short, same_calls)

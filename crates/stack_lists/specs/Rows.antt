@@ -1,5 +1,5 @@
 -- The shapes that were found: by trial and place.
-use Rattle.std.specs.Prelude.{◌≡◌, ◌≢◌, ◌≤◌, ◌<◌, ◌+◌, ◌*◌, ◌/◌, ◌^◌, ℕ, suc, List, [], ◌∷◌, length, Option, None, Some, ◌==◌, ◌&&◌, if◌then◌else◌, get_or, slice_get, ◌⊎◌}
+use Rattle.std.specs.Prelude.{◌≡◌, ◌≢◌, ◌≤◌, ◌<◌, ◌+◌, ◌*◌, ◌/◌, ◌^◌, ℕ, suc, List, [], ◌∷◌, ◌++◌, length, Option, None, Some, ◌==◌, ◌&&◌, if◌then◌else◌, get_or, slice_get, ◌⊎◌}
 use Rattle.std.specs.Ordering.{nat_cmp}
 use Rattle.std.specs.BTreeMap.{BTreeMap, get}
 use Rattle.stack_lists.specs.declared.held.Held.{Held}
@@ -20,17 +20,10 @@ held_in None trial place = None
 held_in (Some row) trial place = if (row.trial == trial)
     && (row.place == place) then Some row.held else None
 
--- The shape at a place of a trial is held by a row that has a number.
-abbrev pub RowsAreNumbered : Type 0
-RowsAreNumbered = (rows : List ShapeRow) (trial place : ℕ) (held : Held)
-    → row_in rows trial place ≡ Some held
-    → (number : ℕ) × (row : ShapeRow) × (slice_get rows number ≡ Some row) × (row.trial ≡ trial)
-    × (row.place ≡ place)
-
 -- the row of a trial at a place has this number, if it has one there
 abbrev pub IsNumberOf : List ShapeRow → ℕ → ℕ → ℕ → Type 0
 IsNumberOf rows trial place number = (held : Held) → row_in rows trial place ≡ Some held
-    → held_in (slice_get rows number) trial place ≡ Some held
+    → slice_get rows number ≡ Some (record { trial = trial; place = place; held = held })
 
 -- ---- where rows are found
 
@@ -67,6 +60,7 @@ pub record RowAdded (before after : List ShapeRow) (trial place : ℕ) (held : H
   pub only : (t p : ℕ) (h : Held) → row_in after t p ≡ Some h
       → (row_in before t p ≡ Some h) ⊎ ((t ≡ trial) × (p ≡ place) × (h ≡ held))
   pub more : length after ≡ length before + 1
+  pub end : after ≡ before ++ record { trial = trial; place = place; held = held } ∷ []
   pub room : length before < 2 ^ 25
 
 -- ---- numbers by place

@@ -1,5 +1,5 @@
 -- Where to look next.
-use Rattle.std.specs.Prelude.{◌≡◌, ◌≢◌, ◌≤◌, ◌⊎◌, ℕ, List, ◌∷◌, ◌++◌, length, map, get_or, Contains}
+use Rattle.std.specs.Prelude.{◌≡◌, ◌≢◌, ◌≤◌, ◌+◌, ◌⊎◌, ℕ, List, ◌∷◌, ◌++◌, length, map, get_or, Contains}
 use Rattle.stack_lists.specs.declared.lists.Node.{Node}
 use Rattle.stack_lists.specs.declared.todo.Again.{Again}
 use Rattle.stack_lists.specs.declared.todo.Call.{Call}
@@ -93,13 +93,33 @@ pub record CallsPut (calls : List (Node Call)) (before : List Again) (waits : Li
 
 -- ---- what is kept
 
+-- where a call stands
+abbrev pub stands_at : Call → Spot
+stands_at call = call.spot
+
 pub record SameCalls (before after : Worklist) : Type 0 where
   pub by : (target : ℕ) → calls_of after target ≡ calls_of before target
   pub count : length after.calls ≡ length before.calls
+  -- with the same marks
+  pub calls : after.calls ≡ before.calls
+  pub marks : after.marks ≡ before.marks
 
 abbrev pub growths : Worklist → Side → List ℕ
 growths w Cells = w.cells
 growths w Under = w.under
+
+-- another call is marked for the row
+pub record HasOther (w : Worklist) (row : ℕ) (call : Call) : Type 0 where
+  pub other : Call
+  pub marked : IsMarked w row other
+  pub differs : other ≢ call
+
+-- One call more is kept, and the row's mark is its own: it had none, or was another call's.
+pub record IsMarkedAnew (before after : Worklist) (row : ℕ) (call : Call) : Type 0 where
+  pub more : length after.calls ≡ length before.calls + 1
+  pub had : (get_or before.marks row 0 ≡ 0) ⊎ HasOther before row call
+  pub others : (k : ℕ) → k ≢ row → get_or after.marks k 0 ≡ get_or before.marks k 0
+  pub tops : (k : ℕ) (c : Call) → k ≢ row → IsMarked after k c → IsMarked before k c
 
 -- A call is kept of its routine and marked, beside those that were kept. One that is marked isn't
 -- kept again.
@@ -109,6 +129,7 @@ pub record CallKept (before after : Worklist) (row : ℕ) (call : Call) : Type 0
   pub added : (calls_of after call.target ≡ calls_of before call.target)
       ⊎ (calls_of after call.target ≡ call ∷ calls_of before call.target)
   pub once : IsMarked before row call → after ≡ before
+  pub anew : (after ≡ before) ⊎ IsMarkedAnew before after row call
   pub others : (t : ℕ) → t ≢ call.target → calls_of after t ≡ calls_of before t
   pub longer : length before.calls ≤ length after.calls
 

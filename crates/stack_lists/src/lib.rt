@@ -10,7 +10,6 @@
 
 mod budget;
 mod held;
-mod laws;
 mod lists;
 mod notes;
 mod places;
@@ -22,7 +21,6 @@ mod todo;
 
 pub use budget::{MOST, room};
 pub use held::{Heap, Held, resumed, same_shape, step, stored_counts, with_cells};
-pub use laws::rows_are_numbered;
 pub use lists::{Lists, Node};
 pub use places::Places;
 pub use rows::{Rows, ShapeRow};

@@ -1,4 +1,4 @@
-ghost use Rattle.std.specs.Prelude.{◌≡◌, ◌≤◌, ◌^◌, [], None, Some, OnOk, IfSome, ◌<◌, length};
+ghost use Rattle.std.specs.Prelude.{◌≡◌, ◌≤◌, ◌^◌, [], None, Some, OnOk, ◌<◌, length};
 ghost use Rattle.std.specs.Prelude.{slice_get};
 ghost use Rattle.stack_lists.specs.Budget.{most};
 ghost use Rattle.stack_lists.specs.Rows.{IsKept, IsNumberOf, RowAdded, StillKept, held_in, row_in};
@@ -104,20 +104,6 @@ impl Rows {
         ensures few { result ≤ 2 ^ 25 }
     {
         self.rows.len()
-    }
-
-    /// The row with a number.
-    #[tactic(auto, using(crate::proofs::RowLemmas::numbering))]
-    pub fn get(&self, number: usize) -> Option<ShapeRow>
-        ensures row { result ≡ slice_get self.now number }
-        ensures inside { IfSome result (λ _. number < 2 ^ 25) }
-        ensures found { IfSome result (λ row.
-            row_in self.now row.trial row.place ≡ Some row.held) }
-    {
-        match self.rows.get(number) {
-            None => None,
-            Some(row) => Some(row),
-        }
     }
 
     /// What the row with a number holds, if it is of this trial and place.

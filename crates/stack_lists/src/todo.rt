@@ -1,9 +1,9 @@
 ghost use Rattle.std.specs.Prelude.{◌≡◌, ◌++◌, ◌∷◌, ◌↔◌, [], ℕ, MatchOption, OnOk, IsTrue, get_or};
-ghost use Rattle.std.specs.Prelude.{◌≤◌, length, true, false};
+ghost use Rattle.std.specs.Prelude.{◌≤◌, length, map, true, false};
 ghost use Rattle.stack_lists.specs.Rows.{PutAt};
 ghost use Rattle.stack_lists.specs.Shared.{read};
 ghost use Rattle.stack_lists.specs.Worklist.{CallKept, CallersAdded, CallsPut, IsMarked, IsTop};
-ghost use Rattle.stack_lists.specs.Worklist.{KeepsWaiting, SameCalls, calls_of, growths, waiting};
+ghost use Rattle.stack_lists.specs.Worklist.{KeepsWaiting, SameCalls, calls_of, growths, stands_at, waiting};
 
 use crate::budget::room;
 use crate::lists::Lists;
@@ -42,7 +42,7 @@ pub enum Side {
     Under,
 }
 
-/// Where to look next. It only makes the inference quick: a pass over all rows ends it.
+/// Where to look next.
 #[derive(Drop)]
 pub struct Todo {
     first: Vec<Spot>,
@@ -143,11 +143,27 @@ fn put_all(
     Ok(())
 }
 
+/// Has all calls of a list looked at first.
+#[tactic(auto, using(crate::proofs::Worklists::putting))]
+fn put_first(first: &mut Vec<Spot>, calls: &Lists<Call>, number: u32) -> Result<(), NoMemory>
+    requires inside { number ≤ length calls.now }
+    ensures put { OnOk result (first.new.items ≡ first.old.items ++ map stands_at (read calls.now
+        number)) }
+{
+    let mut at = number;
+    while let Some((call, below)) = calls.pop(at) {
+        first.push(call.spot)?;
+        at = below;
+    }
+    Ok(())
+}
+
 impl Todo {
     #[tactic(auto, using(crate::proofs::Worklists::beginning, crate::proofs::Waits::beginning))]
     pub fn new(alloc: Global) -> Todo
         ensures empty { waiting result ≡ [] }
         ensures none { (target : ℕ) → calls_of result target ≡ [] }
+        ensures unmarked { (result.calls ≡ []) × (result.marks ≡ []) }
     {
         Todo {
             first: Vec::new(alloc),
@@ -263,6 +279,19 @@ impl Todo {
     {
         let number = self.called.get(target);
         put_all(&mut self.later, &mut self.waits, &self.calls, number)
+    }
+
+    /// Has the calls of a routine looked at first. So whatever control comes to behind them is found
+    /// before windows that have grown are followed.
+    #[tactic(auto, using(crate::proofs::Worklists::calling))]
+    pub fn call_again(&mut self, target: u32) -> Result<(), NoMemory>
+        ensures added { OnOk result (waiting self.new ≡ waiting self.old ++ map stands_at (calls_of
+            self.old target)) }
+        ensures few { length (calls_of self.old target) ≤ length self.old.calls }
+        ensures calls { SameCalls self.old self.new }
+    {
+        let number = self.called.get(target);
+        put_first(&mut self.first, &self.calls, number)
     }
 
     /// The place of the call that made a window of a trial grow last, 0 where no call did.

@@ -1,4 +1,4 @@
-use Rattle.stack_check.proofs.Handing.{trial_set}
+use Rattle.stack_check.proofs.Handing.{seen_grows, trial_set}
 use Rattle.std.proofs.Common.{ap, refl}
 use Rattle.stack_check.proofs.Seeing.{narrow_keeps, narrow_more}
 use Rattle.stack_check.proofs.facts.narrow.Goals as goal
@@ -16,4 +16,5 @@ returns-clause-takes c =
 
 pub returns-clause-set : goal.returns-clause-set
 returns-clause-set c =
-    trial_set c.args.facts.now _ c.args.number c.args.trial _ c.requires.trial (ap (λ trials. record c.args.facts.now { trials = trials }) c.set.ensures.set) refl
+    trial_set c.args.facts.now _ c.args.number c.args.trial _ c.requires.trial (ap (λ trials. record c.args.facts.now { trials = trials }) c.set.ensures.set)
+    (seen_grows c.args.trial c.args.unseen c.requires.less)

@@ -1,6 +1,6 @@
 use Rattle.std.proofs.Common.{[], ◌∷◌, ◌++◌, ◌∙◌, None, ap}
 use Rattle.stack_shape.specs.declared.shape.Entry.TheVariants.{Start}
-use Rattle.stack_check.proofs.Ending.{empty_row, starts, starts_found}
+use Rattle.stack_check.proofs.Ending.{empty_row, one_waits, starts, starts_found, starts_settled}
 use Rattle.stack_check.proofs.infer.first_facts.Goals as goal
 
 pub add-requires : goal.add-requires
@@ -32,4 +32,7 @@ returns c = record {
         at_first = record { cells = 0; under = 0 };
       } ∷ []) c.new-trials.ensures.empty)
       c.new.ensures.empty c.new-2.ensures.empty;
+  settled = starts_settled c.args.judged.now.table.now c.args.judged.now.code.now c.args.heap.now c.new-rows.result _ c.args.todo.now c.add-2.new.self
+      c.new-rows.ensures.empty c.in_ok-add.ensures.added c.in_ok-add-2.ensures.added c.in_ok-add-2.ensures.calls c.requires.empty;
+  one = one_waits c.args.todo.now c.add-2.new.self _ c.in_ok-add-2.ensures.added;
 }

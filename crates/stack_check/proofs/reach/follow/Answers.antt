@@ -12,4 +12,4 @@ returns-clause-takes c = reached_takes c.args.heap.now c.args.facts.now c.reach.
 pub returns-clause-hands : goal.returns-clause-hands
 returns-clause-hands c =
     hands_row c.args.heap.now c.args.facts.now c.reach.new.facts c.args.todo.now c.note.new.todo c.args.spot c.args.held c.in_ok-seen.seen c.in_ok-seen.ensures
-    c.in_ok-note.ensures.handed c.in_ok-note.ensures.stays
+    c.in_ok-note.ensures.handed c.in_ok-note.ensures.stays c.in_ok-note.ensures.calls

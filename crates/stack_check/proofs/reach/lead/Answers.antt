@@ -79,7 +79,7 @@ returns-in_ok-seen-in-Changed-clause-few c =
 
 pub returns-in-Quiet-clause-hands : goal.returns-in-Quiet-clause-hands
 returns-in-Quiet-clause-hands c =
-    IfOk-weaker c.lead_to-in-Quiet.result _ (λ seen. HandsIn c.args.facts.now c.lead_to-in-Quiet.new.facts c.args.todo.now c.lead_to-in-Quiet.new.todo)
+    IfOk-weaker c.lead_to-in-Quiet.result _ (λ seen. HandsIn c.args.judged.now.code.now c.args.facts.now c.lead_to-in-Quiet.new.facts c.args.todo.now c.lead_to-in-Quiet.new.todo)
     (λ seen k. hands_then c.args.facts.now c.lead_to-in-Two.new.facts c.lead_to-in-Quiet.new.facts c.args.todo.now c.lead_to-in-Two.new.todo
     c.lead_to-in-Quiet.new.todo c.in_ok-seen-in-Two.ensures.hands k) c.lead_to-in-Quiet.ensures.hands
 

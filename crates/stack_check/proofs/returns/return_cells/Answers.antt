@@ -27,8 +27,8 @@ returns-else-same c = record {
   again = tt;
 }
 
-pub returns-in_ok-add_callers-in-None-clause-hands :
-    goal.returns-in_ok-add_callers-in-None-clause-hands
-returns-in_ok-add_callers-in-None-clause-hands c =
-    hands_given c.args.facts.now c.give.new.facts c.args.todo.now c.add_callers.new.self c.args.from.trial c.args.target c.args.trial
-    c.in_ok-give-in-None.ensures.set c.requires.trial c.requires.entry c.in_ok-add_callers-in-None.ensures.added
+pub returns-in_ok-call_again-in-None-clause-hands :
+    goal.returns-in_ok-call_again-in-None-clause-hands
+returns-in_ok-call_again-in-None-clause-hands c =
+    hands_given c.args.facts.now c.give.new.facts c.args.todo.now c.call_again.new.self c.args.from.trial c.args.target c.args.trial
+    c.in_ok-give-in-None.ensures.set c.requires.trial c.requires.entry c.in_ok-call_again-in-None.ensures.added c.call_again.ensures.calls

@@ -37,13 +37,13 @@ narrow-requires-clause-owed c =
 
 pub returns-clause-again : goal.returns-clause-again
 returns-clause-again c = λ e.
-    calls_wait c.args.todo.now c.note_growth.new.todo c.look_again.new.todo c.add.new.self c.args.facts.now c.args.from.trial c.in-Some.trial.now _
-    (sym c.in-Some.ensures.item) c.in_ok-note_growth-in-Some.ensures.calls c.in_ok-look_again-in-Some.ensures c.in_ok-add-in-Some.ensures.added
+    calls_wait c.args.todo.now c.note_growth.new.todo c.look_again.new.todo c.args.facts.now c.args.from.trial c.in-Some.trial.now
+    (sym c.in-Some.ensures.item) c.in_ok-note_growth-in-Some.ensures.calls c.in_ok-look_again-in-Some.ensures
 
 pub returns-clause-few : goal.returns-clause-few
 returns-clause-few c =
-    sees_few c.args.todo.now c.note_growth.new.todo c.look_again.new.todo c.add.new.self c.in-Some.trial.now.entry _ c.in_ok-note_growth-in-Some.ensures.waits
-    c.in_ok-note_growth-in-Some.ensures.calls c.in_ok-look_again-in-Some.ensures c.in_ok-add-in-Some.ensures.added c.in_ok-add-in-Some.ensures.calls
+    sees_few c.args.todo.now c.note_growth.new.todo c.look_again.new.todo c.in-Some.trial.now.entry c.in_ok-note_growth-in-Some.ensures.waits
+    c.in_ok-note_growth-in-Some.ensures.calls c.in_ok-look_again-in-Some.ensures
 
 some_is : {A : Type 0} (a b : A) → Some a ≡ Some b → a ≡ b
 some_is a b h = cc
@@ -54,10 +54,9 @@ wait_of a b facts number trial h k = subst (λ (t : Trial). CallsWait a b t.entr
 
 pub returns-clause-hands : goal.returns-clause-hands
 returns-clause-hands c =
-    hands_seen c.args.facts.now c.narrow.new.facts c.args.todo.now c.note_growth.new.todo c.look_again.new.todo c.add.new.self c.args.from.trial
-    c.in-Some.trial.now _ c.narrow.ensures.set (sym c.in-Some.ensures.item) c.in_ok-note_growth-in-Some.ensures.waits c.in_ok-note_growth-in-Some.ensures.calls
+    hands_seen c.args.facts.now c.narrow.new.facts c.args.todo.now c.note_growth.new.todo c.look_again.new.todo c.args.from.trial
+    c.in-Some.trial.now c.narrow.ensures.set (sym c.in-Some.ensures.item) c.in_ok-note_growth-in-Some.ensures.waits c.in_ok-note_growth-in-Some.ensures.calls
     c.in_ok-look_again-in-Some.ensures
-    (wait_of c.args.todo.now c.add.new.self c.args.facts.now c.args.from.trial c.in-Some.trial.now (sym c.in-Some.ensures.item)
-    (calls_wait c.args.todo.now c.note_growth.new.todo c.look_again.new.todo c.add.new.self c.args.facts.now c.args.from.trial c.in-Some.trial.now _
-    (sym c.in-Some.ensures.item) c.in_ok-note_growth-in-Some.ensures.calls c.in_ok-look_again-in-Some.ensures c.in_ok-add-in-Some.ensures.added))
-    c.in_ok-add-in-Some.ensures.added c.in_ok-add-in-Some.ensures.calls
+    (wait_of c.args.todo.now c.look_again.new.todo c.args.facts.now c.args.from.trial c.in-Some.trial.now (sym c.in-Some.ensures.item)
+    (calls_wait c.args.todo.now c.note_growth.new.todo c.look_again.new.todo c.args.facts.now c.args.from.trial c.in-Some.trial.now
+    (sym c.in-Some.ensures.item) c.in_ok-note_growth-in-Some.ensures.calls c.in_ok-look_again-in-Some.ensures))

@@ -1,6 +1,7 @@
 use Rattle.stack_check.proofs.Handing.{hands_none}
 use Rattle.stack_check.proofs.Following.{adds_calls_none}
 use Rattle.stack_check.proofs.Storing.{no_op_bad}
+use Rattle.stack_check.proofs.Settling.{kept_nothing}
 use Rattle.stack_check.proofs.visit.visit.Goals as goal
 
 pub returns-in-None : goal.returns-in-None
@@ -10,4 +11,5 @@ returns-in-None c = record {
   waits = tt;
   few = adds_calls_none c.args.todo.now 3;
   hands = hands_none c.args.facts.now c.args.todo.now;
+  kept = kept_nothing c.args.judged.now.code.now c.args.todo.now c.args.from.trial c.args.from.place c.in-None.ensures.op;
 }

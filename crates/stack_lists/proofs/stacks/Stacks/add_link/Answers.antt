@@ -1,4 +1,4 @@
-use Rattle.std.proofs.Common.{arith, subst, sym}
+use Rattle.std.proofs.Common.{subst, sym}
 use Rattle.stack_lists.specs.Stacks.{IsNew}
 use Rattle.stack_lists.specs.Notes.{IsFresh}
 use Rattle.stack_lists.proofs.Noting.{added_whole}

@@ -63,6 +63,7 @@ returns-clause-kept c =
       cells = c.self.inside.cells;
       under = c.self.inside.under;
     })
-    _ c.args.row c.get-below.result c.in_ok-number.number c.args.call c.self.invariant.0 c.in_ok-number.ensures.grows c.get-below.ensures.number
+    _ c.args.row c.get-below.result c.in_ok-number.number c.args.call _ c.self.invariant.0 c.self.invariant.1 c.in_ok-number.ensures.grows
+    c.in_ok-number.ensures.added c.get-below.ensures.number
     c.in_ok-number.ensures.reads c.in_ok-number.ensures.inside c.in_ok-put.ensures.put c.in_ok-put-2.ensures.put)
     (c.is_marked.ensures.none c.if-is_marked.false)

@@ -28,6 +28,6 @@ returns c = record {
         cells = c.self.inside.cells;
         under = c.self.inside.under;
       })
-      _ c.args.target c.get-number.result c.put_all.result refl refl refl refl c.get-number.ensures.number c.self.invariant.2
+      _ c.args.target c.get-number.result c.put_all.result refl refl refl refl refl c.get-number.ensures.number c.self.invariant.2
       (list_inside c.self.inside.calls c.self.inside.called c.args.target c.get-number.result c.self.invariant.0 c.get-number.ensures.number) c.put_all.ensures.put);
 }
