@@ -204,13 +204,13 @@ hands_then a b c u v w h k = record {
     both trial mid now e (inr x) y = inr (wait_then u v w trial.entry x k.stays)
 
 pub hands_from : {code : List PlainOp} (a b c : Facts) (u v w : Worklist) → b ≡ a → v ≡ u → HandsIn code b c v w → HandsIn code a c u w
-hands_from a b c u v w e f h = subst (λ a. HandsIn _ a c u w) e (subst (λ u. HandsIn _ b c u w) f h)
+hands_from {code} a b c u v w e f h = subst (λ a. HandsIn code a c u w) e (subst (λ u. HandsIn code b c u w) f h)
 
 pub hands_after : {code : List PlainOp} (a b : Facts) (u v w : Worklist) → HandsIn code a b u v → w ≡ v → HandsIn code a b u w
-hands_after a b u v w h e = subst (λ w. HandsIn _ a b u w) (sym e) h
+hands_after {code} a b u v w h e = subst (λ w. HandsIn code a b u w) (sym e) h
 
 pub hands_same : {code : List PlainOp} (a b : Facts) (u v : Worklist) → b ≡ a → v ≡ u → HandsIn code a b u v
-hands_same a b u v e f = subst (λ b. HandsIn _ a b u v) (sym e) (subst (λ v. HandsIn _ a a u v) (sym f) (hands_none a u))
+hands_same {code} a b u v e f = subst (λ b. HandsIn code a b u v) (sym e) (subst (λ v. HandsIn code a a u v) (sym f) (hands_none a u))
 
 -- the call of a row is kept
 pub hands_kept : {code : List PlainOp} (a b : Facts) (u v w : Worklist) (row target : ℕ) (spot : Spot) (held : Held) → HandsIn code a b u v
@@ -243,9 +243,9 @@ hands_kept a b u v w row target spot held h r n call e k =
 
 pub hands_row : {code : List PlainOp} (heap : Heap) (before after : Facts) (w v : Worklist) (spot : Spot) (held : Held) (seen : Seen)
     → Reached heap before after spot.trial spot.place held seen → HandedIn w v spot seen → Stays w v → SameCalls w v → HandsIn code before after w v
-hands_row heap before after w v spot held Quiet r i s c = subst (λ f. HandsIn _ before f w v) (sym r.0) (hands_stays before w v s c)
-hands_row heap before after w v spot held Bad r i s c = subst (λ f. HandsIn _ before f w v) (sym r.2) (hands_stays before w v s c)
-hands_row heap before after w v spot held Changed r i s c = record {
+hands_row {code} heap before after w v spot held Quiet r i s c = subst (λ f. HandsIn code before f w v) (sym r.0) (hands_stays before w v s c)
+hands_row {code} heap before after w v spot held Bad r i s c = subst (λ f. HandsIn code before f w v) (sym r.2) (hands_stays before w v s c)
+hands_row {code} heap before after w v spot held Changed r i s c = record {
   rows = λ t p h e. elim (r.0.only t p h e) [
     | inl old ↦ inl old
     | inr new ↦ inr (subst (λ z. Contains z (record { trial = t; place = p })) (sym i)

@@ -1,4 +1,5 @@
 use Rattle.stack_check.proofs.Costs.{drain_counts_all, drain_counts_last}
+use Rattle.stack_check.proofs.Ending.{drain_done}
 use Rattle.stack_check.proofs.Settling.{settled_out}
 use Rattle.stack_check.proofs.infer.drain.Goals as goal
 
@@ -21,3 +22,8 @@ pub returns-clause-looks : goal.returns-clause-looks
 returns-clause-looks c =
     drain_counts_all c.args.todo.now c.loop-spot.todo c.next.new.self c.args.looks.now c.loop-spot.looks c.loop-spot.invariant.1 c.in_default.ensures.next
     c.in_default.ensures.calls
+
+pub returns-clause-sees : goal.returns-clause-sees
+returns-clause-sees c =
+    drain_done c.args.judged.now.table.now c.args.judged.now.code.now c.loop-spot.heap c.args.facts.now c.loop-spot.facts c.loop-spot.todo c.next.new.self
+    c.loop-spot.invariant.0 c.in_default.ensures.next c.in_default.ensures.calls

@@ -6,9 +6,14 @@ use Rattle.stack_check.specs.declared.facts.Trial.{Trial}
 use Rattle.stack_lists.specs.Held.{shape_of}
 use Rattle.stack_check.specs.Inference.{CallsOfWait, CallsWait, UnseenOwed}
 use Rattle.stack_check.proofs.Following.{calls_wait, sees_few}
-use Rattle.stack_check.proofs.Seeing.{see_owed, see_within}
+use Rattle.stack_check.proofs.Seeing.{see_owed, see_trial, see_within}
 use Rattle.stack_check.proofs.Windows.{whole_same}
 use Rattle.stack_check.proofs.see.see.Goals as goal
+
+pub unreachable-requires : goal.unreachable-requires
+unreachable-requires c =
+    see_trial c.args.judged.now.table.now c.args.judged.now.code.now c.args.heap.now c.args.facts.now c.args.from.trial c.args.from.place c.args.from.held
+    c.requires.keeps c.requires.row c.in-None.ensures.item
 
 pub returns-then-has_seen_all-clause-within : goal.returns-then-has_seen_all-clause-within
 returns-then-has_seen_all-clause-within c =

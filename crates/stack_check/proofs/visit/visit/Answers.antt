@@ -1,3 +1,4 @@
+use Rattle.std.proofs.Common.{sym}
 use Rattle.stack_check.proofs.Handing.{hands_none}
 use Rattle.stack_check.proofs.Following.{adds_calls_none}
 use Rattle.stack_check.proofs.Storing.{no_op_bad}
@@ -11,5 +12,5 @@ returns-in-None c = record {
   waits = tt;
   few = adds_calls_none c.args.todo.now 3;
   hands = hands_none c.args.facts.now c.args.todo.now;
-  kept = kept_nothing c.args.judged.now.code.now c.args.todo.now c.args.from.trial c.args.from.place c.in-None.ensures.op;
+  kept = kept_nothing c.args.judged.now.code.now c.args.todo.now c.args.from.trial c.args.from.place (sym c.in-None.ensures.op);
 }
