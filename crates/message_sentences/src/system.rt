@@ -47,7 +47,7 @@ pub enum Budget {
     Strings,
     /// The bytes that the tree of a GFF file is charged.
     Tree,
-    /// The rows and nodes for the shapes of a file of bytecode.
+    /// The rows, nodes and joined slots for the shapes of a file of bytecode.
     Shapes,
 }
 
@@ -55,7 +55,10 @@ fn budget_text(budget: Budget) -> &'static str {
     match budget {
         Budget::Strings => "268,435,456 bytes for the strings of the header",
         Budget::Tree => "268,435,456 bytes for the tree of the GFF file",
-        Budget::Shapes => "33,554,432 rows or nodes for the shapes of a file of bytecode",
+        Budget::Shapes => {
+            "33,554,432 rows or nodes, or 134,217,728 joined slots, \
+                for the shapes of a file of bytecode"
+        }
     }
 }
 

@@ -207,7 +207,8 @@ fn budgets(rt: HostRuntime) {
             8,
             "nwq: error: memory was refused by the system, or a fixed budget is used up: \
                 268,435,456 bytes for the strings of the header, or \
-                33,554,432 rows or nodes for the shapes of a file of bytecode [memory]\n"
+                33,554,432 rows or nodes, or 134,217,728 joined slots, \
+                for the shapes of a file of bytecode [memory]\n"
         )
     );
     assert!(rt;
