@@ -15,5 +15,5 @@ mod remarks;
 mod telling;
 
 pub use game::{GameNames, play_files};
-pub use remarks::Remarks;
+pub use remarks::{Remarks, remark_endings};
 pub use telling::{tell_end, tell_limit};

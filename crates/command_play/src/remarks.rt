@@ -47,8 +47,28 @@ fn names_of(alloc: Global, scripts: &Scripts) -> Result<Items<Text>, NoMemory>
     Ok(names)
 }
 
-/// Remarks of a play's last world whether it has random numbers left, and takes from it where
-/// entries ended before their end, with the names of the scripts.
+/// Takes from a play's last world where entries ended before their end, with the names of the
+/// scripts.
+pub fn remark_endings(
+    alloc: Global,
+    world: &mut World<Saved>,
+    scripts: &Scripts,
+    remarks: &mut Remarks,
+)
+    ensures same { world.new ≡ world.old }
+    ensures names { AreNames scripts.now remarks.old.scripts remarks.new.scripts }
+    ensures used_up { remarks.new.random_used_up ≡ remarks.old.random_used_up }
+{
+    remarks.endings = world.take_remarks();
+    if remarks.endings.as_slice().is_empty() {
+        return;
+    }
+    if let Ok(names) = names_of(alloc, scripts) {
+        remarks.scripts = names;
+    }
+}
+
+/// The same, and whether that world has random numbers left.
 pub(crate) fn remark(
     alloc: Global,
     world: &mut World<Saved>,
@@ -60,11 +80,5 @@ pub(crate) fn remark(
     ensures names { AreNames scripts.now remarks.old.scripts remarks.new.scripts }
 {
     remarks.random_used_up = world.random_left() == 0;
-    remarks.endings = world.take_remarks();
-    if remarks.endings.as_slice().is_empty() {
-        return;
-    }
-    if let Ok(names) = names_of(alloc, scripts) {
-        remarks.scripts = names;
-    }
+    remark_endings(alloc, world, scripts, remarks);
 }
