@@ -377,8 +377,6 @@ pub(crate) fn notes_on<F: Files>(
         put_ended(alloc, &mut out, inputs, end, files)?;
         put_played(alloc, &mut out, inputs, end, files)?;
     }
-    if end.number == 0 {
-        put_overwritten(alloc, &mut out, command, files)?;
-    }
+    put_overwritten(alloc, &mut out, command, end.number == 0, files)?;
     Ok(out)
 }

@@ -1,6 +1,9 @@
 //! Notes on files that a command read and then wrote over.
 
-ghost use Rattle.std.specs.Prelude.{◌≡◌};
+ghost use Rattle.std.specs.Prelude.{◌≡◌, ◌∷◌, ◌++◌, [], codes, string_bytes, IfOk, OnOk};
+ghost use Rattle.message_text.specs.Shown.{Appends};
+ghost use Rattle.command_messages.specs.Overwritten as spec;
+ghost use Rattle.command_messages.specs.Overwritten.{ShowAllLost, ShowsLost};
 
 use command_words::Command;
 use message_places::read_named;
@@ -12,17 +15,19 @@ use std::alloc::Global;
 
 const READ: &str = "the command read this file as %, and then wrote over it";
 
+const CODE: &str = "the command read this file as %, and then wrote the code of a script over it";
+
 const SCRIPT: &str = "the command read this file as a script of the plan, and then wrote over it";
 
 /// A word of a command's form, and the file that it names.
 #[derive(Clone, Copy)]
-struct Input<'a> {
+pub(crate) struct Input<'a> {
     word: &'static str,
     file: &'a str,
 }
 
-/// The name under which a command writes, unless no word gives it.
-fn written_by<'a>(command: Command<'a>) -> Option<&'a str> {
+/// The name under which a command leaves its work, unless no word gives it.
+fn left_under<'a>(command: Command<'a>) -> Option<&'a str> {
     match command {
         Command::Disassemble(_file, to) | Command::Assemble(_file, to) => Some(to),
         Command::Play { to, .. } | Command::Resume { to, .. } => Some(to),
@@ -36,16 +41,22 @@ fn add<'a>(inputs: &mut Vec<Input<'a>>, word: &'static str, file: &'a str) -> Re
     Ok(())
 }
 
-/// What the play of a plan reads by its words. The built-in header is no file.
+/// The header, unless it is the built-in one, which is no file.
+fn add_header<'a>(inputs: &mut Vec<Input<'a>>, header: &'a str) -> Result<(), NoMemory> {
+    if header == "-" {
+        return Ok(());
+    }
+    add(inputs, "HEADER", header)
+}
+
+/// What the play of a plan reads by its words.
 fn add_plan<'a>(
     inputs: &mut Vec<Input<'a>>,
     header: &'a str,
     area: &'a str,
     plan: &'a str,
 ) -> Result<(), NoMemory> {
-    if header != "-" {
-        add(inputs, "HEADER", header)?;
-    }
+    add_header(inputs, header)?;
     add(inputs, "AREA", area)?;
     add(inputs, "PLAN", plan)
 }
@@ -61,6 +72,7 @@ fn add_list<'a>(inputs: &mut Vec<Input<'a>>, list: Option<&'a str>) -> Result<()
 fn read_by<'a>(alloc: Global, command: Command<'a>) -> Result<Vec<Input<'a>>, NoMemory> {
     let mut inputs = Vec::new(alloc);
     match command {
+        Command::Compile(header, _script) => add_header(&mut inputs, header)?,
         Command::Disassemble(file, _to) | Command::Assemble(file, _to) => {
             add(&mut inputs, "FILE", file)?;
         }
@@ -111,6 +123,17 @@ fn ends_as_script(file: &[u8]) -> bool {
     file.ends_with(b".ncs") || file.ends_with(b".nss")
 }
 
+/// The plan of this name.
+fn plan_named<F: Files>(alloc: Global, name: &str, files: &mut F) -> Option<Plan>
+    ensures same { F.contents files.new ≡ F.contents files.old }
+{
+    let bytes = read_named(alloc, name, files)?;
+    match read_plan(alloc, bytes.as_slice()) {
+        Ok(plan) => Some(plan),
+        Err(_) => None,
+    }
+}
+
 /// Whether a plan lists a script that has this file. The plan is read only for a file that a script
 /// could have.
 fn is_listed<F: Files>(alloc: Global, plan: &str, file: &str, files: &mut F) -> bool
@@ -119,44 +142,163 @@ fn is_listed<F: Files>(alloc: Global, plan: &str, file: &str, files: &mut F) -> 
     if !ends_as_script(file.as_bytes()) {
         return false;
     }
-    match read_named(alloc, plan, files) {
+    match plan_named(alloc, plan, files) {
         None => false,
-        Some(bytes) => match read_plan(alloc, bytes.as_slice()) {
-            Ok(plan) => lists(&plan, file),
-            Err(_) => false,
-        },
+        Some(plan) => lists(&plan, file),
     }
 }
 
-/// Appends a note for each word that names the file under which the command wrote.
-fn put_inputs(out: &mut Vec<u8>, inputs: &[Input<'_>], file: &str) -> Result<(), NoMemory> {
-    for input in inputs {
-        if input.file == file {
-            put_note(out, file.as_bytes(), READ, input.word.as_bytes())?;
+/// The name of a script's file of bytecode.
+fn code_name(alloc: Global, script: &str) -> Result<String, NoMemory>
+    ensures named { IfOk result (λ name. string_bytes name ≡ script.now ++ codes ".ncs") }
+{
+    let mut name = String::from_str(alloc, script)?;
+    name.push_str(".ncs")?;
+    Ok(name)
+}
+
+/// The files of bytecode of a plan's sources, which its play writes.
+fn codes_of(alloc: Global, plan: &Plan) -> Result<Vec<String>, NoMemory> {
+    let mut names = Vec::new(alloc);
+    for script in plan.scripts.as_slice() {
+        if !script.binary {
+            let name = String::from_utf8_lossy(alloc, script.name.bytes())?;
+            names.push(code_name(alloc, name.as_str())?)?;
         }
+    }
+    Ok(names)
+}
+
+/// The same for the plan of this name, which is read only where a word could name such a file.
+fn codes_by_plan<F: Files>(
+    alloc: Global,
+    plan: &str,
+    inputs: &[Input<'_>],
+    files: &mut F,
+) -> Result<Vec<String>, NoMemory>
+    ensures same { F.contents files.new ≡ F.contents files.old }
+{
+    if !inputs
+        .iter()
+        .any(|input| ends_as_script(input.file.as_bytes()))
+    {
+        return Ok(Vec::new(alloc));
+    }
+    match plan_named(alloc, plan, files) {
+        None => Ok(Vec::new(alloc)),
+        Some(plan) => codes_of(alloc, &plan),
+    }
+}
+
+fn one_name(alloc: Global, name: String) -> Result<Vec<String>, NoMemory>
+    ensures one { IfOk result (λ names. names.items ≡ name ∷ []) }
+{
+    let mut names = Vec::new(alloc);
+    names.push(name)?;
+    Ok(names)
+}
+
+/// The files of bytecode that a command writes.
+fn codes_by<F: Files>(
+    alloc: Global,
+    command: Command<'_>,
+    inputs: &[Input<'_>],
+    files: &mut F,
+) -> Result<Vec<String>, NoMemory>
+    ensures same { F.contents files.new ≡ F.contents files.old }
+{
+    match command {
+        Command::Compile(_header, script) => one_name(alloc, code_name(alloc, script)?),
+        Command::Play { plan, .. } | Command::Save { plan, .. } => {
+            codes_by_plan(alloc, plan, inputs, files)
+        }
+        _ => Ok(Vec::new(alloc)),
+    }
+}
+
+/// Whether a file is one of those that the command wrote.
+fn is_written(written: &[String], file: &str) -> bool
+    ensures { result ≡ spec.is_written written.now file.now }
+{
+    written.iter().any(|name| name.as_str() == file)
+}
+
+/// Appends the note on a word, if the command wrote over the file that it names.
+#[tactic(auto, using(crate::proofs::LostLemmas::lost, crate::proofs::LostLemmas::kept))]
+fn put_lost(
+    out: &mut Vec<u8>,
+    input: Input<'_>,
+    written: &[String],
+    sentence: &str,
+) -> Result<(), NoMemory>
+    ensures shows { OnOk result (Appends (ShowsLost
+        (spec.is_written written.now input.entry.file.now) sentence.now input.entry)
+        out.old.items out.new.items) }
+{
+    if is_written(written, input.file) {
+        put_note(out, input.file.as_bytes(), sentence, input.word.as_bytes())
+    } else {
+        Ok(())
+    }
+}
+
+/// Appends a note for each word whose file the command wrote over.
+fn put_all_lost(
+    out: &mut Vec<u8>,
+    inputs: &[Input<'_>],
+    written: &[String],
+    sentence: &str,
+) -> Result<(), NoMemory>
+    ensures shows { OnOk result (Appends (ShowAllLost written.now sentence.now inputs.now)
+        out.old.items out.new.items) }
+{
+    for input in inputs {
+        put_lost(out, *input, written, sentence)?;
     }
     Ok(())
 }
 
-/// Appends notes on what a command that did its work read and then wrote over.
-pub(crate) fn put_overwritten<F: Files>(
+/// Appends notes on what a command read before it left its work under the same name.
+fn put_left<F: Files>(
     alloc: Global,
     out: &mut Vec<u8>,
     command: Command<'_>,
+    inputs: &[Input<'_>],
     files: &mut F,
 ) -> Result<(), NoMemory>
     ensures same { F.contents files.new ≡ F.contents files.old }
 {
-    let Some(file) = written_by(command) else {
+    let Some(file) = left_under(command) else {
         return Ok(());
     };
-    let inputs = read_by(alloc, command)?;
-    put_inputs(out, inputs.as_slice(), file)?;
+    let left = one_name(alloc, String::from_str(alloc, file)?)?;
+    put_all_lost(out, inputs, left.as_slice(), READ)?;
     match command {
         Command::Play { plan, .. } | Command::Save { plan, .. }
             if is_listed(alloc, plan, file, files) => {
             put_note(out, file.as_bytes(), SCRIPT, &[])
         }
         _ => Ok(()),
+    }
+}
+
+/// Appends notes on what a command read and then wrote over. What a play leaves isn't written where
+/// a limit ended it, and the code of its scripts is.
+pub(crate) fn put_overwritten<F: Files>(
+    alloc: Global,
+    out: &mut Vec<u8>,
+    command: Command<'_>,
+    is_left: bool,
+    files: &mut F,
+) -> Result<(), NoMemory>
+    ensures same { F.contents files.new ≡ F.contents files.old }
+{
+    let inputs = read_by(alloc, command)?;
+    let codes = codes_by(alloc, command, inputs.as_slice(), files)?;
+    put_all_lost(out, inputs.as_slice(), codes.as_slice(), CODE)?;
+    if is_left {
+        put_left(alloc, out, command, inputs.as_slice(), files)
+    } else {
+        Ok(())
     }
 }

@@ -17,6 +17,7 @@ ghost use Rattle.command_run.specs.Tellings.{default_limits, StopsPlay};
 
 use crate::telling::tell_end;
 use command_files::load_checked;
+use command_play::Remarks;
 use command_plays::{list_one, play_world};
 use command_work::Status;
 use hook_table::Hooks;
@@ -55,6 +56,7 @@ fn play_listed<S: Sink>(
     setting: &PlaySetting<'_, '_>,
     name: &[u8],
     out: &mut S,
+    remarks: &mut Remarks,
 ) -> Result<(), Status>
     ensures does { IsTrue S.tells → (ops : List PlainOp) → scripts_in (seen setting.now) ≡ listed
         name.now ops → DoesPuts S.taken (plays_code (cells_of (seen setting.now).hooks)
@@ -66,7 +68,14 @@ fn play_listed<S: Sink>(
         Err(NoMemory) => Err(Status::Memory),
         Ok(world) => match play_world(alloc, setting, world, limits(), out) {
             Err(status) => Err(status),
-            Ok((world, played)) => tell_end(alloc, world, setting.code.scripts(), &played, out),
+            Ok((world, played)) => tell_end(
+                alloc,
+                world,
+                setting.code.scripts(),
+                &played,
+                out,
+                remarks,
+            ),
         },
     }
 }
@@ -80,6 +89,7 @@ fn play_code<S: Sink>(
     code: Checked,
     hooks: &Hooks,
     out: &mut S,
+    remarks: &mut Remarks,
 ) -> Result<(), Status>
     requires meets { MeetsRules table.now code.code (kept_table code) }
     requires hooks { AreServing (known_by hooks.now) }
@@ -92,7 +102,7 @@ fn play_code<S: Sink>(
         Err(NoMemory) => Err(Status::Memory),
         Ok(scripts) => {
             let setting = PlaySetting::of(&scripts, table, hooks);
-            play_listed(alloc, &setting, name, out)
+            play_listed(alloc, &setting, name, out, remarks)
         }
     }
 }
@@ -107,6 +117,7 @@ pub fn play_file<S: Sink>(
     bytes: Vec<u8>,
     hooks: &Hooks,
     out: &mut S,
+    remarks: &mut Remarks,
 ) -> Result<(), Status>
     requires small { length bytes.items ≤ file_limit }
     requires hooks { AreServing (known_by hooks.now) }
@@ -119,6 +130,6 @@ pub fn play_file<S: Sink>(
 {
     match load_checked(alloc, table, file, bytes, out) {
         Err(status) => Err(status),
-        Ok(code) => play_code(alloc, table, name, code, hooks, out),
+        Ok(code) => play_code(alloc, table, name, code, hooks, out, remarks),
     }
 }

@@ -12,6 +12,7 @@ ghost use Rattle.command_run.specs.Runs.{runs, StopsRun};
 
 use crate::play::play_file;
 use command_compile::{code_name, read_compiled};
+use command_play::Remarks;
 use command_sources::read_table;
 use command_work::Status;
 use hook_table::Hooks;
@@ -28,6 +29,7 @@ fn play_compiled<S: Sink>(
     bytes: Items<u8>,
     hooks: &Hooks,
     out: &mut S,
+    remarks: &mut Remarks,
 ) -> Result<(), Status>
     requires small { length bytes ≤ file_limit }
     requires stacked { IsStackedFile table.now bytes }
@@ -47,6 +49,7 @@ fn play_compiled<S: Sink>(
             bytes.into_vec(),
             hooks,
             out,
+            remarks,
         ),
     }
 }
@@ -60,6 +63,7 @@ pub fn run<F: Files, S: Sink>(
     files: &mut F,
     out: &mut S,
     hooks: &Hooks,
+    remarks: &mut Remarks,
 ) -> Result<(), Status>
     requires hooks { AreServing (known_by hooks.now) }
     ensures does { IsTrue F.tells → IsTrue S.tells → DoesOn F.contents S.taken (runs (cells_of
@@ -78,7 +82,7 @@ pub fn run<F: Files, S: Sink>(
                 drop(table);
                 Err(status)
             }
-            Ok(bytes) => play_compiled(alloc, &table, script, bytes, hooks, out),
+            Ok(bytes) => play_compiled(alloc, &table, script, bytes, hooks, out, remarks),
         },
     }
 }

@@ -9,6 +9,7 @@ ghost use Rattle.command_work.specs.Counts.{Refusing};
 ghost use Rattle.command_work.specs.Calls.{TalliesPuts, DoesPuts};
 ghost use Rattle.command_plays.specs.Scripts.{tells_end};
 
+use command_play::{Remarks, remark_endings};
 use command_plays::ending_of;
 use command_work::{Status, put};
 use module_player::{Played, end_text};
@@ -40,7 +41,8 @@ fn text_of(
     }
 }
 
-/// Puts the text at the end of a play, and ends as the play did.
+/// Puts the text at the end of a play, and ends as the play did. What is remarked of its last world
+/// is no part of it.
 #[tactic(auto, using(crate::proofs::TellLemmas::ends))]
 pub(crate) fn tell_end<S: Sink>(
     alloc: Global,
@@ -48,6 +50,7 @@ pub(crate) fn tell_end<S: Sink>(
     scripts: &Scripts,
     played: &Played,
     out: &mut S,
+    remarks: &mut Remarks,
 ) -> Result<(), Status>
     requires told { HasText played.now.how }
     ensures does { IsTrue S.tells → (p : PlayedView SavedView) → IsEnding played.now p world.world →
@@ -55,6 +58,8 @@ pub(crate) fn tell_end<S: Sink>(
     ensures counts { TalliesPuts S.faults result out.old out.new }
     ensures only { IfErr result (Refusing Status.Limit) }
 {
+    let mut world = world;
+    remark_endings(alloc, &mut world, scripts, remarks);
     match put(text_of(alloc, world, scripts, played), out) {
         Err(status) => Err(status),
         Ok(()) => ending_of(played.how),

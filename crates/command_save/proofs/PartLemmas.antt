@@ -108,3 +108,7 @@ pub counted_on : (r : Result Finished Status) (before between after : Counts) �
 counted_on r before between after same tallies = subst (λ (x : Counts). Tallies r x after) same tallies
 
 pub ruleset parts = (first_cut, first_whole, counted_on)
+
+-- what is said of a world and of how far its play came, is said of equal ones
+pub of_equal : {W P : Type 0} (Q : W → P → Type 0) (w w' : W) (p p' : P) → w ≡ w' → p ≡ p' → Q w' p' → Q w p
+of_equal Q w w' p p' one two holds = subst (λ x. Q x p) (sym one) (subst (λ y. Q w' y) (sym two) holds)

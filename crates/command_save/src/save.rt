@@ -16,7 +16,8 @@ ghost use Rattle.command_save.specs.Saves.{saves_under};
 ghost use Rattle.command_save.specs.Tellings.{MayBegin, TakesSome};
 
 use crate::inputs::{AreaFile, HeaderFile, read_area_file, read_header};
-use crate::saving::{BrokenPlay, ListedPlan, save_broken};
+use crate::saving::{ListedPlan, broken_off, save_broken};
+use command_play::Remarks;
 use command_plays::play_first;
 use command_work::Status;
 use hook_table::Hooks;
@@ -39,30 +40,40 @@ pub struct SaveWords<'a> {
     pub state: &'a str,
 }
 
+/// The header and the area of a play, by their files.
+#[derive(Drop)]
+struct PlayFiles {
+    header: HeaderFile,
+    area: AreaFile,
+}
+
 /// Plays so many entries of a plan over an area, and saves the play.
 #[tactic(auto, using(crate::proofs::PartLemmas::parts))]
 fn save_plan<F: Files, S: Sink>(
     alloc: Global,
-    header: HeaderFile,
-    area: AreaFile,
+    given: PlayFiles,
     listed: &ListedPlan<'_>,
     words: SaveWords<'_>,
     hooks: &Hooks,
     files: &mut F,
     out: &mut S,
+    remarks: &mut Remarks,
 ) -> Result<(), Status>
-    requires begins { MayBegin header listed.now.plan.now listed.now.scripts.now words.entries }
+    requires begins { MayBegin given.header listed.now.plan.now listed.now.scripts.now
+        words.entries }
     requires hooks { AreServing (known_by hooks.now) }
-    requires area { IsAreaOf area.area.tree area.bytes }
+    requires area { IsAreaOf given.area.area.tree given.area.bytes }
     ensures does { IsTrue F.tells → IsTrue S.tells → DoesOn F.contents S.taken (saves_plan (cells_of
-        (known_by hooks.now)) header listed.now.plan.now (scripts_of listed.now.scripts.now)
-        words.entry.entries words.entry.state.now area) files.old out.old result files.new out.new }
+        (known_by hooks.now)) given.header listed.now.plan.now (scripts_of listed.now.scripts.now)
+        words.entry.entries words.entry.state.now given.area) files.old out.old result files.new
+        out.new }
     ensures keeps { KeepsTo F.counts S.faults F.contents (IsName words.entry.state.now) StopsGame
         result files.old out.old files.new out.new }
     ensures unread { F.reads files.new ≡ F.reads files.old }
 {
     plays_can_rest();
     plan_worlds_are_fresh();
+    let PlayFiles { header, area } = given;
     let AreaFile { bytes, area } = area;
     let setting = PlaySetting::of(listed.scripts, &header.table, hooks);
     match play_first(alloc, &setting, area, listed.plan, words.entries, out) {
@@ -72,7 +83,7 @@ fn save_plan<F: Files, S: Sink>(
             Err(status)
         }
         Ok((world, played)) => {
-            let broken = BrokenPlay { world, played };
+            let broken = broken_off(alloc, world, played, listed.scripts, remarks);
             save_broken(
                 alloc,
                 header,
@@ -96,6 +107,7 @@ fn save_area<F: Files, S: Sink>(
     hooks: &Hooks,
     files: &mut F,
     out: &mut S,
+    remarks: &mut Remarks,
 ) -> Result<(), Status>
     requires begins { MayBegin header listed.now.plan.now listed.now.scripts.now words.entries }
     requires hooks { AreServing (known_by hooks.now) }
@@ -112,7 +124,10 @@ fn save_area<F: Files, S: Sink>(
             drop(header);
             Err(status)
         }
-        Ok(area) => save_plan(alloc, header, area, listed, words, hooks, files, out),
+        Ok(area) => {
+            let given = PlayFiles { header, area };
+            save_plan(alloc, given, listed, words, hooks, files, out, remarks)
+        }
     }
 }
 
@@ -126,6 +141,7 @@ fn save_scripts<F: Files, S: Sink>(
     hooks: &Hooks,
     files: &mut F,
     out: &mut S,
+    remarks: &mut Remarks,
 ) -> Result<(), Status>
     requires header { IsHeaderOf header.text header.table }
     requires hooks { AreServing (known_by hooks.now) }
@@ -148,7 +164,7 @@ fn save_scripts<F: Files, S: Sink>(
                 plan,
                 scripts: &scripts,
             };
-            save_area(alloc, header, &listed, words, hooks, files, out)
+            save_area(alloc, header, &listed, words, hooks, files, out, remarks)
         }
     }
 }
@@ -162,6 +178,7 @@ fn save_under<F: Files, S: Sink>(
     hooks: &Hooks,
     files: &mut F,
     out: &mut S,
+    remarks: &mut Remarks,
 ) -> Result<(), Status>
     requires hooks { AreServing (known_by hooks.now) }
     requires takes { TakesSome plan.now words.entries }
@@ -176,7 +193,7 @@ fn save_under<F: Files, S: Sink>(
 {
     match read_header(alloc, words.header, files, out) {
         Err(status) => Err(status),
-        Ok(header) => save_scripts(alloc, words, plan, header, hooks, files, out),
+        Ok(header) => save_scripts(alloc, words, plan, header, hooks, files, out, remarks),
     }
 }
 
@@ -189,6 +206,7 @@ pub fn save_play<F: Files, S: Sink>(
     hooks: &Hooks,
     files: &mut F,
     out: &mut S,
+    remarks: &mut Remarks,
 ) -> Result<(), Status>
     requires hooks { AreServing (known_by hooks.now) }
     requires some { 1 ≤ words.entries }
@@ -206,6 +224,6 @@ pub fn save_play<F: Files, S: Sink>(
 {
     match read_plan_file(alloc, words.plan, files, out) {
         Err(status) => Err(status),
-        Ok(plan) => save_under(alloc, words, &plan, hooks, files, out),
+        Ok(plan) => save_under(alloc, words, &plan, hooks, files, out, remarks),
     }
 }

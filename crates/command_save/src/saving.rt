@@ -20,7 +20,7 @@ ghost use Rattle.command_save.specs.Tellings.{IsListing, IsProgress, MaySave, Wh
 
 use crate::inputs::HeaderFile;
 use crate::written::write_bytes;
-use command_play::tell_limit;
+use command_play::{Remarks, remark_endings, tell_limit};
 use command_plays::limits_of;
 use command_work::{AreaFlaw, Status, refuse_area};
 use module_player::{How, Played, end_text};
@@ -45,6 +45,22 @@ pub(crate) struct ListedPlan<'a> {
 pub(crate) struct BrokenPlay {
     pub world: World<Saved>,
     pub played: Played,
+}
+
+/// A play that was broken off in this world. What is remarked of the world is no part of it.
+pub(crate) fn broken_off(
+    alloc: Global,
+    world: World<Saved>,
+    played: Played,
+    scripts: &Scripts,
+    remarks: &mut Remarks,
+) -> BrokenPlay
+    ensures world { result.world ≡ world }
+    ensures played { result.played ≡ played }
+{
+    let mut world = world;
+    remark_endings(alloc, &mut world, scripts, remarks);
+    BrokenPlay { world, played }
 }
 
 /// The text of a header, where it has one.

@@ -265,6 +265,57 @@ const OVERWRITTEN: &[Row] = &[
         line: b"assembled p.ncs 2\n",
         said: "",
     },
+    Row {
+        words: &["nwq", "compile", "q.ncs", "q"],
+        files: &[],
+        number: 0,
+        line: b"compiled q.ncs 23\n",
+        said: "q.ncs: note: the command read this file as HEADER, and then wrote the code of a \
+            script over it\n",
+    },
+    Row {
+        words: &["nwq", "compile", "q.nss", "q"],
+        files: &[],
+        number: 0,
+        line: b"compiled q.ncs 23\n",
+        said: "",
+    },
+    // Code is written before a limit ends the play.
+    Row {
+        words: &["nwq", "play", "-", "a.git", "a.plan", "b.git", "cat.ncs"],
+        files: &[Held {
+            name: "a.plan",
+            bytes: b"NWQ PLAN 1\nbinary dog\nscript cat\n",
+        }],
+        number: 5,
+        line: b"end entries clock 0 entries 0 instructions 0\n",
+        said: "cat.ncs: note: the command read this file as TABLES, and then wrote the code of a \
+            script over it\n",
+    },
+    // A binary is only read.
+    Row {
+        words: &["nwq", "play", "dog.ncs", "a.git", "a.plan", "b.git"],
+        files: &[Held {
+            name: "a.plan",
+            bytes: b"NWQ PLAN 1\nbinary dog\nscript cat\n",
+        }],
+        number: 0,
+        line: b"end done clock 0 entries 0 instructions 0\n",
+        said: "",
+    },
+    // Written twice: the code of a script, and the state.
+    Row {
+        words: &["nwq", "save", "cat.ncs", "a.git", "a.plan", "4", "cat.ncs"],
+        files: &[Held {
+            name: "a.plan",
+            bytes: b"NWQ PLAN 1\nscript cat\n",
+        }],
+        number: 0,
+        line: b"saved cat.ncs entries 4\n",
+        said: "cat.ncs: note: the command read this file as HEADER, and then wrote the code of a \
+            script over it\ncat.ncs: note: the command read this file as HEADER, and then wrote \
+            over it\n",
+    },
 ];
 
 /// Plays that were saved: what is left stands in the state, unless a limit stopped an entry.

@@ -30,6 +30,11 @@ const DEEP: &[u8] = b"\
     \x20       PrintInteger(1);\n    }\n}\n\nvoid main() {\n\
     \x20   if (GetLocalInt(OBJECT_SELF, \"loop\")) Loop();\n    PrintInteger(Deep(0));\n}\n";
 
+/// A division in a call of a call.
+const NEST: &[u8] = b"\
+    int Part(int n) {\n    return 100 % n;\n}\n\nint Half(int n) {\n    return Part(n) / 2;\n}\n\n\
+    void main() {\n    PrintInteger(Half(0));\n}\n";
+
 /// The start of a binary, which calls a routine behind it.
 const START: &[u8] = b"NCS V1.0B\0\0\0\x15\x1e\0\0\0\0\x08\x20\0";
 
@@ -58,6 +63,8 @@ const PLAN: &[Held] = &[
 ];
 
 const PLAY: &[&str] = &["nwq", "play", "-", "a.git", "a.plan", "b.git"];
+
+const SAVE: &[&str] = &["nwq", "save", "-", "a.git", "a.plan", "4", "s.nwq"];
 
 const NAMES: &[&str] = &["guard", "later"];
 
@@ -248,15 +255,51 @@ const DIVISIONS: &[Row] = &[
     },
 ];
 
-#[test]
-fn divisions(rt: HostRuntime) {
-    let played = Played {
-        words: PLAY,
+/// What is said of a play of the plan after these words.
+fn of_plan(words: &'static [&'static str]) -> Played {
+    Played {
+        words,
         files: PLAN,
         names: NAMES,
         number: 0,
+    }
+}
+
+#[test]
+fn divisions(rt: HostRuntime) {
+    let alloc = rt.alloc();
+    assert!(rt; are_said(alloc, &of_plan(PLAY), DIVISIONS));
+    assert!(rt; are_said(alloc, &of_plan(SAVE), DIVISIONS));
+}
+
+/// In the run of a script, in a call of a call.
+const NESTED: &[Row] = &[Row {
+    ending: Ending::Divide,
+    time: 0,
+    at: (0, 35),
+    returns: &[(0, 77), (0, 123), (0, 19)],
+    begun: (0, 13),
+    values: &[],
+    said: "\
+        nest.nss:2:16: note: a division by 0 ended the entry at 0 here, in `Part` [divide]\n\
+        \u{20}   return 100 % n;\n\
+        \u{20}              ^\n\
+        nest.nss:6:12: note: called from `Half`\n\
+        nest.nss:10:18: note: called from `main`\n",
+}];
+
+#[test]
+fn runs(rt: HostRuntime) {
+    let played = Played {
+        words: &["nwq", "run", "-", "nest"],
+        files: &[Held {
+            name: "nest.nss",
+            bytes: NEST,
+        }],
+        names: &["nest"],
+        number: 0,
     };
-    assert!(rt; are_said(rt.alloc(), &played, DIVISIONS));
+    assert!(rt; are_said(rt.alloc(), &played, NESTED));
 }
 
 /// A loop that meets the limit, and a recursion that does.
@@ -292,18 +335,31 @@ const ENDLESS: &[Row] = &[
     },
 ];
 
-#[test]
-fn limits(rt: HostRuntime) {
-    let played = Played {
-        words: &["nwq", "run", "-", "deep"],
-        files: &[Held {
-            name: "deep.nss",
-            bytes: DEEP,
-        }],
+/// What is said after these words of a play of that script, which a limit stopped.
+fn of_deep(words: &'static [&'static str]) -> Played {
+    Played {
+        words,
+        files: &[
+            Held {
+                name: "a.plan",
+                bytes: b"NWQ PLAN 1\nscript deep\n",
+            },
+            Held {
+                name: "deep.nss",
+                bytes: DEEP,
+            },
+        ],
         names: &["deep"],
         number: 5,
-    };
-    assert!(rt; are_said(rt.alloc(), &played, ENDLESS));
+    }
+}
+
+#[test]
+fn limits(rt: HostRuntime) {
+    let alloc = rt.alloc();
+    assert!(rt; are_said(alloc, &of_deep(&["nwq", "run", "-", "deep"]), ENDLESS));
+    assert!(rt; are_said(alloc, &of_deep(PLAY), ENDLESS));
+    assert!(rt; are_said(alloc, &of_deep(SAVE), ENDLESS));
 }
 
 /// In a routine of a binary, and in the rest of a play, whose sources aren't there.
@@ -373,16 +429,27 @@ const ALONE: Row = Row {
             later: note: the action was deferred at offset 154; it captured 3, 0\n",
 };
 
-/// What ends the notes where there are more than sixteen.
-const MORE: &[u8] = b"\ns.nwq: note: further entries ended before their end\n";
+/// How many entries are noted.
+const MOST: usize = 16;
 
-/// Whether the notes on so many entries are sixteen, and that there are more.
+/// What ends the notes where there are more.
+const MORE: &[u8] = b"s.nwq: note: further entries ended before their end\n";
+
+/// What is said of sixteen such entries, and that there are more.
+fn sixteen_and_more(alloc: Global) -> Result<Vec<u8>, NoMemory> {
+    let mut all = Vec::new(alloc);
+    for _turn in 0..MOST {
+        all.extend_from_slice(ALONE.said.as_bytes())?;
+    }
+    all.extend_from_slice(MORE)?;
+    Ok(all)
+}
+
+/// Whether that is said of so many.
 fn are_cut(alloc: Global, count: usize) -> Result<bool, NoMemory> {
     let remarks = remarks_of(alloc, &ALONE, count)?;
     let err = told(alloc, &RESUMED, remarks.as_slice())?;
-    let notes = err.bytes();
-    let lines = notes.iter().filter(|byte| **byte == b'\n').count();
-    Ok(lines == 33 && notes.ends_with(MORE))
+    Ok(err.bytes() == sixteen_and_more(alloc)?.as_slice())
 }
 
 #[test]

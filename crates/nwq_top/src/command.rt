@@ -47,7 +47,7 @@ pub fn command<F: Files, S: Sink>(
 {
     match command_of(words) {
         Command::NoForm => Err(refuse_form(alloc, out)),
-        Command::Run(header, script) => run(alloc, header, script, files, out, hooks),
+        Command::Run(header, script) => run(alloc, header, script, files, out, hooks, remarks),
         Command::Compile(header, script) => compile_file(alloc, header, script, files, out),
         Command::Tree(file) => show_tree(alloc, file, files, out),
         Command::Check(header, file) => check_file(alloc, header, file, files, out),
@@ -84,7 +84,7 @@ pub fn command<F: Files, S: Sink>(
                 entries,
                 state,
             };
-            save_play(alloc, save, hooks, files, out)
+            save_play(alloc, save, hooks, files, out, remarks)
         }
         Command::Resume { state, to, .. } => {
             resume_play(alloc, state, to, hooks, files, out, remarks)

@@ -27,6 +27,8 @@ pub enum Base {
     Two,
     /// Plans with random numbers.
     Randoms,
+    /// A script that divides by 0.
+    Divided,
     /// The example `examples/town`.
     Town,
 }
@@ -45,5 +47,6 @@ pub fn files_of(base: Base) -> &'static [Named<'static>] {
         Base::Cells => contents::CELLS,
         Base::Two => contents::TWO,
         Base::Randoms => contents::RANDOMS,
+        Base::Divided => contents::DIVIDED,
     }
 }

@@ -247,3 +247,19 @@ pub const RANDOMS: &[Named] = &[
         Held::Bytes(b"NWQ PLAN 2\nrandom 3 1 4\nscript r\nstart 0 - r\nstart 1 - r\n"),
     ),
 ];
+
+/// An area, a script that divides by 0 in a call, and a plan that starts it twice.
+pub const DIVIDED: &[Named] = &[
+    ("a.git", Held::Of(Sample::Notified)),
+    (
+        "d.nss",
+        Held::Bytes(
+            b"int Half(int n) {\n    return 1 / n;\n}\n\nvoid main() {\n    \
+                PrintInteger(Half(0));\n}\n",
+        ),
+    ),
+    (
+        "d.plan",
+        Held::Bytes(b"NWQ PLAN 2\nscript d\nstart 5 - d\nstart 9 - d\n"),
+    ),
+];

@@ -54,12 +54,12 @@ pub const ROWS: &[Program] = &[
     ended!("nwq run", 1, "refused words\n"),
 ];
 
-/// Words over the plans.
-macro_rules! noted {
-    ($line:expr, $left:expr, $said:expr) => {
+/// Words over files of which all that is noted is asked.
+macro_rules! noted_of {
+    ($base:expr, $line:expr, $left:expr, $said:expr) => {
         Program {
             line: $line,
-            base: Base::Randoms,
+            base: $base,
             left: $left,
             number: 0,
             text: None,
@@ -68,8 +68,23 @@ macro_rules! noted {
     };
 }
 
-/// What is noted of random numbers after each of these commands over the same files, of which the
-/// later ones go on from states that the earlier ones left.
+/// Words over the plans.
+macro_rules! noted {
+    ($line:expr, $left:expr, $said:expr) => {
+        noted_of!(Base::Randoms, $line, $left, $said)
+    };
+}
+
+/// Words over the script that divides by 0.
+macro_rules! divided {
+    ($line:expr, $left:expr, $said:expr) => {
+        noted_of!(Base::Divided, $line, $left, $said)
+    };
+}
+
+/// What is noted of random numbers, and of entries that ended before their end, after each of these
+/// commands over the same files, of which the later ones go on from states that the earlier ones
+/// left.
 pub const NOTED: &[Program] = &[
     noted!(
         "nwq play - a.git none.plan b.git",
@@ -98,6 +113,31 @@ pub const NOTED: &[Program] = &[
             `Random` gives 0\n"
     ),
     noted!("nwq resume s.nwq b.git", true, ""),
+    divided!(
+        "nwq run - d",
+        false,
+        "d.nss:2:14: note: a division by 0 ended the entry at 0 here, in `Half` [divide]\n    \
+            return 1 / n;\n             ^\nd.nss:6:18: note: called from `main`\n"
+    ),
+    divided!(
+        "nwq play - a.git d.plan b.git",
+        true,
+        "d.nss:2:14: note: a division by 0 ended the entry at 5 here, in `Half` [divide]\n    \
+            return 1 / n;\n             ^\nd.nss:6:18: note: called from `main`\nd.nss:2:14: \
+            note: a division by 0 ended the entry at 9 here, in `Half` [divide]\n    return 1 / \
+            n;\n             ^\nd.nss:6:18: note: called from `main`\n"
+    ),
+    divided!(
+        "nwq save - a.git d.plan 1 s.nwq",
+        true,
+        "d.nss:2:14: note: a division by 0 ended the entry at 5 here, in `Half` [divide]\n    \
+            return 1 / n;\n             ^\nd.nss:6:18: note: called from `main`\n"
+    ),
+    divided!(
+        "nwq resume s.nwq b.git",
+        true,
+        "d: note: a division by 0 ended the entry at 9 at offset 35 [divide]\n"
+    ),
 ];
 
 /// Whether standard error is told why the program ended, exactly where that is no success.
