@@ -13,6 +13,8 @@ mod lines;
 #[cfg(test)]
 mod listed;
 #[cfg(test)]
+mod long;
+#[cfg(test)]
 mod messages;
 #[cfg(test)]
 mod notes;
