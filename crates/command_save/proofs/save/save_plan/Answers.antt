@@ -32,7 +32,7 @@ pub play_first-requires-clause-some : goal.play_first-requires-clause-some
 play_first-requires-clause-some g c = c.requires.begins.some
 
 pub save_broken-requires-clause-told : goal.save_broken-requires-clause-told
-save_broken-requires-clause-told g c = subst (λ p. cut_of p.how ≡ None) (sym c.broken_off.ensures.played) c.in-Ok.ensures.told
+save_broken-requires-clause-told g c = subst (λ p. cut_of p.how ≡ None) (sym c.broken_off-broken.ensures.played) c.in-Ok.ensures.told
 
 pub save_broken-requires-clause-listing : goal.save_broken-requires-clause-listing
 save_broken-requires-clause-listing g c = c.requires.begins.listing
@@ -40,7 +40,7 @@ save_broken-requires-clause-listing g c = c.requires.begins.listing
 pub save_broken-requires-clause-broken : goal.save_broken-requires-clause-broken
 save_broken-requires-clause-broken g c =
     of_equal (λ w p. WhereBroken p.how (MaySave c.args.listed.now.scripts.now c.args.given.area.bytes (limits_of c.args.listed.now.plan.now) w.world p))
-    c.broken_off.result.world c.in-Ok.world c.broken_off.result.played c.in-Ok.played c.broken_off.ensures.world c.broken_off.ensures.played
+    c.broken_off-broken.result.world c.in-Ok.world c.broken_off-broken.result.played c.in-Ok.played c.broken_off-broken.ensures.world c.broken_off-broken.ensures.played
     (may_save c.plays_can_rest.ensures.rest c.plan_worlds_are_fresh.ensures.fresh c.args.listed.now.scripts.now c.args.given.header.table (known_by c.args.hooks.now) c.args.given.area.area
     c.args.given.area.bytes c.args.listed.now.plan.now c.args.words.entries c.requires.begins.listing.kept c.requires.area c.in-Ok.world.world c.in-Ok.played
     (first_in (seen c.of-setting.result) c.args.listed.now.scripts.now c.args.given.header.table (known_by c.args.hooks.now) c.of-setting.ensures.setting c.args.listed.now.plan.now
@@ -58,8 +58,8 @@ returns-in-Ok-clause-does g c = λ files_tell sink_tells.
     c.args.words.entries (plan_world c.args.given.area.area c.args.listed.now.plan.now) (λ p. g.S.Sink.taken c.play_first.new.out ≡ g.S.Sink.taken c.args.out.now ++ trace_text p.last.trace)
     (c.in-Ok.ensures.trace sink_tells))
     (c.save_broken.ensures.does files_tell sink_tells p
-    (of_equal (λ w a. IsEnding a p w.world) c.broken_off.result.world c.in-Ok.world c.broken_off.result.played c.in-Ok.played
-    c.broken_off.ensures.world c.broken_off.ensures.played (first_in (seen c.of-setting.result) c.args.listed.now.scripts.now c.args.given.header.table (known_by c.args.hooks.now) c.of-setting.ensures.setting c.args.listed.now.plan.now
+    (of_equal (λ w a. IsEnding a p w.world) c.broken_off-broken.result.world c.in-Ok.world c.broken_off-broken.result.played c.in-Ok.played
+    c.broken_off-broken.ensures.world c.broken_off-broken.ensures.played (first_in (seen c.of-setting.result) c.args.listed.now.scripts.now c.args.given.header.table (known_by c.args.hooks.now) c.of-setting.ensures.setting c.args.listed.now.plan.now
     c.args.words.entries (plan_world c.args.given.area.area c.args.listed.now.plan.now) (λ p. IsEnding c.in-Ok.played p c.in-Ok.world.world) c.in-Ok.ensures.ending)))
 
 pub returns-in-Err-clause-keeps : goal.returns-in-Err-clause-keeps
