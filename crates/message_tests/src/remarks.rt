@@ -69,6 +69,7 @@ const SAVE: &[&str] = &["nwq", "save", "-", "a.git", "a.plan", "4", "s.nwq"];
 const NAMES: &[&str] = &["guard", "later"];
 
 /// What is remarked of an entry, each place with the number of its script, and what is said of it.
+#[derive(Drop)]
 struct Row {
     ending: Ending,
     time: u32,
