@@ -8,8 +8,10 @@ ghost use Rattle.typing_rules.specs.Rules.{assign_rule, binary_rule, member_at, 
 ghost use Rattle.typing_rules.specs.Rules.{postfix_rule, prefix_rule, return_rule};
 ghost use Rattle.typing_rules.specs.Sight.{members_in};
 ghost use Rattle.typing_rules.specs.Typed.{type_of};
-ghost use Rattle.expression_reasons.specs.Why.{assign_reason, because, condition_reason, condition_rule};
-ghost use Rattle.expression_reasons.specs.Why.{member_reason, operands, postfix_reason, prefix_reason};
+ghost use Rattle.expression_reasons.specs.Why.{assign_reason, because, condition_reason};
+ghost use Rattle.expression_reasons.specs.Why.{condition_rule};
+ghost use Rattle.expression_reasons.specs.Why.{member_reason, operands, postfix_reason};
+ghost use Rattle.expression_reasons.specs.Why.{prefix_reason};
 ghost use Rattle.expression_reasons.specs.Why.{result_is, return_reason, step_reason};
 
 use crate::reason::Reason;

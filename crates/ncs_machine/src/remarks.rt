@@ -1,5 +1,6 @@
 //! What is remarked where an entry ends before its end.
-ghost use Rattle.std.specs.Prelude.{◌≡◌, ◌≤◌, ◌++◌, ◌∷◌, [], length, take, IfOk, IfSome, OnOk, Some};
+ghost use Rattle.std.specs.Prelude.{◌≡◌, ◌≤◌, ◌++◌, ◌∷◌, [], length, take, IfOk, IfSome, OnOk};
+ghost use Rattle.std.specs.Prelude.{Some};
 ghost use Rattle.std.specs.List.{flat_map};
 ghost use Rattle.ncs_machine.specs.Remarks.{IsRemark, MayRemark, returns_of};
 ghost use Rattle.ncs_machine.specs.Remarks.{time_of, under_way, waits_for};

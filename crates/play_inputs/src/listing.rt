@@ -31,7 +31,8 @@ pub fn list_scripts<F: Files, S: Sink>(
     ensures does { IsTrue F.tells → IsTrue S.tells → DoesOn F.contents S.taken (scripts_listed
         table.now lines.now) files.old out.old (listed_answer result) files.new out.new }
     ensures counts { TalliesOn F.counts S.faults result files.old out.old files.new out.new }
-    ensures names { KeepsBut (IsSourceFile lines.now) (F.contents files.old) (F.contents files.new) }
+    ensures names { KeepsBut (IsSourceFile lines.now) (F.contents files.old) (F.contents
+        files.new) }
     ensures once { IsTrue F.tells → OnOk result (ReadsLines lines.now (F.contents files.old)
         (F.contents files.new) (F.reads files.old) (F.reads files.new)) }
     ensures kept { IfOk result (KeepTables table.now) }

@@ -171,7 +171,7 @@ marks_kept code rows v w number target spot held r n call kept c = elim kept.ane
           of = λ k other top. elim (cases_eq k number) [
             | inl e ↦
                 let is : mine ≡ other = top_is mine other kept.marked.older top.older
-                    (sym kept.marked.is ∙ ap (λ n. read w.calls (get_or w.marks n 0)) (sym e) ∙ top.is) in
+                (sym kept.marked.is ∙ ap (λ n. read w.calls (get_or w.marks n 0)) (sym e) ∙ top.is) in
                 subst (λ k. IsCallOf code rows k other) (sym e) (subst (λ c. IsCallOf code rows number c) is own)
             | inr ne ↦ c.of k other (m.tops k other ne top)
           ];

@@ -6,7 +6,8 @@ ghost use Rattle.stack_lists.specs.Rows.{row_in};
 ghost use Rattle.stack_lists.specs.Held.{IsIn, shape_of};
 ghost use Rattle.stack_check.specs.Facts.{FindsMore, current};
 ghost use Rattle.stack_check.specs.Inference.{AllIn, BeginsAlike, Calls, Formed, IsCall, Keeps};
-ghost use Rattle.stack_check.specs.Inference.{IsKept, NothingNew, RowIs, Sees, TrialIn, Within, window};
+ghost use Rattle.stack_check.specs.Inference.{IsKept, NothingNew, RowIs, Sees, TrialIn, Within};
+ghost use Rattle.stack_check.specs.Inference.{window};
 ghost use Rattle.stack_check.specs.Inference.{Adds, AddsCalls};
 ghost use Rattle.stack_check.specs.Inference.{HandsIn};
 ghost use Rattle.stack_rules.specs.Rules.{WellStacked};
@@ -48,7 +49,8 @@ fn call_first(
         facts.new) }
     ensures takes { IfOk result (λ _. FindsMore facts.old facts.new) }
     ensures few { OnOk result (Adds todo.old todo.new 1) }
-    ensures hands { OnOk result (HandsIn judged.now.code.now facts.old facts.new todo.old todo.new) }
+    ensures hands { OnOk result (HandsIn judged.now.code.now facts.old facts.new todo.old
+        todo.new) }
 {
     let unseen = Unseen {
         cells: heap.slots.depth(from.held.cells),
@@ -171,7 +173,8 @@ fn call_given(
         heap.new facts.old facts.new at.from.trial at.from.place at.from.held seen) }
     ensures waits { IfOk result (λ seen. NothingNew todo.old todo.new seen) }
     ensures few { IfOk result (λ _. AddsCalls todo.old todo.new 3) }
-    ensures hands { IfOk result (λ _. HandsIn judged.now.code.now facts.old facts.new todo.old todo.new) }
+    ensures hands { IfOk result (λ _. HandsIn judged.now.code.now facts.old facts.new todo.old
+        todo.new) }
 {
     let count = (heap.slots.depth(given) - callee.unseen.cells) as usize;
     let rest = heap
@@ -233,7 +236,8 @@ fn call_known(
         heap.new facts.old facts.new at.from.trial at.from.place at.from.held seen) }
     ensures waits { IfOk result (λ seen. NothingNew todo.old todo.new seen) }
     ensures few { IfOk result (λ _. AddsCalls todo.old todo.new 3) }
-    ensures hands { IfOk result (λ _. HandsIn judged.now.code.now facts.old facts.new todo.old todo.new) }
+    ensures hands { IfOk result (λ _. HandsIn judged.now.code.now facts.old facts.new todo.old
+        todo.new) }
 {
     if !begins(heap, at.from.held, callee)? {
         return Ok(Seen::Bad);
@@ -279,7 +283,8 @@ fn call_routine(
         heap.new facts.old facts.new at.from.trial at.from.place at.from.held seen) }
     ensures waits { IfOk result (λ seen. NothingNew todo.old todo.new seen) }
     ensures few { IfOk result (λ _. AddsCalls todo.old todo.new 3) }
-    ensures hands { IfOk result (λ _. HandsIn judged.now.code.now facts.old facts.new todo.old todo.new) }
+    ensures hands { IfOk result (λ _. HandsIn judged.now.code.now facts.old facts.new todo.old
+        todo.new) }
 {
     match counting(facts, at.target) {
         None => {
@@ -308,7 +313,8 @@ pub fn call(
         heap.new facts.old facts.new at.from.trial at.from.place at.from.held seen) }
     ensures waits { IfOk result (λ seen. NothingNew todo.old todo.new seen) }
     ensures few { IfOk result (λ _. AddsCalls todo.old todo.new 3) }
-    ensures hands { IfOk result (λ _. HandsIn judged.now.code.now facts.old facts.new todo.old todo.new) }
+    ensures hands { IfOk result (λ _. HandsIn judged.now.code.now facts.old facts.new todo.old
+        todo.new) }
     ensures kept { IfOk result (λ _. IsKept todo.new at.target
         (record { trial = at.from.trial; place = at.from.place })) }
 {

@@ -127,7 +127,8 @@ pub fn begin(
     ensures handed { OnOk result (waiting todo.new ≡ waiting todo.old
         ++ record { trial = length facts.old.trials; place = first_place trial.entry } ∷ []) }
     ensures few { OnOk result (Adds todo.old todo.new 1) }
-    ensures hands { OnOk result (HandsIn judged.now.code.now facts.old facts.new todo.old todo.new) }
+    ensures hands { OnOk result (HandsIn judged.now.code.now facts.old facts.new todo.old
+        todo.new) }
 {
     let _ = judged;
     let _ = heap;

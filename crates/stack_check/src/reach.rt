@@ -83,7 +83,8 @@ pub fn follow(
         × RowIs heap.now facts.old spot.trial spot.place (shape_of heap.now held))) }
     ensures waits { IfOk result (λ seen. NothingNew todo.old todo.new seen) }
     ensures few { IfOk result (λ _. Adds todo.old todo.new 1) }
-    ensures hands { IfOk result (λ _. HandsIn judged.now.code.now facts.old facts.new todo.old todo.new) }
+    ensures hands { IfOk result (λ _. HandsIn judged.now.code.now facts.old facts.new todo.old
+        todo.new) }
     ensures handed { IfOk result (λ seen. HandedIn todo.old todo.new spot seen) }
 {
     let _ = judged;
@@ -143,7 +144,8 @@ fn lead_to(
         × RowIs heap.now facts.old at.now.from.trial place (shape_of heap.now after))) }
     ensures waits { IfOk result (λ seen. NothingNew todo.old todo.new seen) }
     ensures few { IfOk result (λ _. Adds todo.old todo.new 1) }
-    ensures hands { IfOk result (λ _. HandsIn judged.now.code.now facts.old facts.new todo.old todo.new) }
+    ensures hands { IfOk result (λ _. HandsIn judged.now.code.now facts.old facts.new todo.old
+        todo.new) }
 {
     rules_look_from_the_top();
     let _ = lead;
@@ -175,7 +177,8 @@ pub fn lead(
         × AllLed heap.now facts.old at.now.from.trial lead (shape_of heap.now after))) }
     ensures waits { IfOk result (λ seen. NothingNew todo.old todo.new seen) }
     ensures few { IfOk result (λ _. Adds todo.old todo.new 2) }
-    ensures hands { IfOk result (λ _. HandsIn judged.now.code.now facts.old facts.new todo.old todo.new) }
+    ensures hands { IfOk result (λ _. HandsIn judged.now.code.now facts.old facts.new todo.old
+        todo.new) }
 {
     match lead {
         Lead::One(place) => lead_to(judged, heap, facts, todo, at, after, lead, place),

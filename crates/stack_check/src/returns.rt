@@ -39,7 +39,8 @@ fn return_cells(
         heap.now facts.old facts.new from.trial from.place from.held seen) }
     ensures waits { IfOk result (λ seen. NothingNew todo.old todo.new seen) }
     ensures few { IfOk result (λ _. AddsCalls todo.old todo.new 3) }
-    ensures hands { IfOk result (λ _. HandsIn judged.now.code.now facts.old facts.new todo.old todo.new) }
+    ensures hands { IfOk result (λ _. HandsIn judged.now.code.now facts.old facts.new todo.old
+        todo.new) }
     // Once it is known what the routine gives, its calls are looked at again, before all else.
     ensures again { IfOk result (λ seen. WhereChanged seen (waiting todo.new ≡ waiting todo.old
         ++ map stands_at (calls_of todo.old target))) }
@@ -80,7 +81,8 @@ fn return_called(
         heap.now facts.old facts.new from.trial from.place from.held seen) }
     ensures waits { IfOk result (λ seen. NothingNew todo.old todo.new seen) }
     ensures few { IfOk result (λ _. AddsCalls todo.old todo.new 3) }
-    ensures hands { IfOk result (λ _. HandsIn judged.now.code.now facts.old facts.new todo.old todo.new) }
+    ensures hands { IfOk result (λ _. HandsIn judged.now.code.now facts.old facts.new todo.old
+        todo.new) }
 {
     if from.held.pending != 0 {
         return Ok(Seen::Bad);
@@ -109,7 +111,8 @@ pub fn returned(
         heap.now facts.old facts.new from.trial from.place from.held seen) }
     ensures waits { IfOk result (λ seen. NothingNew todo.old todo.new seen) }
     ensures few { IfOk result (λ _. AddsCalls todo.old todo.new 3) }
-    ensures hands { IfOk result (λ _. HandsIn judged.now.code.now facts.old facts.new todo.old todo.new) }
+    ensures hands { IfOk result (λ _. HandsIn judged.now.code.now facts.old facts.new todo.old
+        todo.new) }
 {
     match trial.entry {
         Entry::Start => Ok(Seen::Quiet),

@@ -121,7 +121,8 @@ pub fn see(
         × Within heap.now facts.old from.trial (shape_of heap.now from.held) reach) }
     ensures same { IfOk result (λ more. more ≡ false → todo.new ≡ todo.old) }
     ensures few { IfOk result (λ _. AddsCalls todo.old todo.new 0) }
-    ensures hands { IfOk result (λ _. HandsIn judged.now.code.now facts.old facts.new todo.old todo.new) }
+    ensures hands { IfOk result (λ _. HandsIn judged.now.code.now facts.old facts.new todo.old
+        todo.new) }
     // Once its window has grown, the routine's calls are looked at again.
     ensures again { IfOk result (λ more. more ≡ true → CallsOfWait todo.old todo.new facts.old
         from.trial) }

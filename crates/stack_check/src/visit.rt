@@ -52,7 +52,8 @@ fn visit_step(
         at.now.op.now) seen) }
     ensures waits { IfOk result (λ seen. NothingNew todo.old todo.new seen) }
     ensures few { IfOk result (λ _. AddsCalls todo.old todo.new 2) }
-    ensures hands { IfOk result (λ _. HandsIn judged.now.code.now facts.old facts.new todo.old todo.new) }
+    ensures hands { IfOk result (λ _. HandsIn judged.now.code.now facts.old facts.new todo.old
+        todo.new) }
 {
     rules_look_from_the_top();
     rules_look_no_deeper();
@@ -102,7 +103,8 @@ fn resume(
         × IsStored heap.now facts.old site (shape_of heap.now held))) }
     ensures waits { IfOk result (λ seen. NothingNew todo.old todo.new seen) }
     ensures few { IfOk result (λ _. Adds todo.old todo.new 1) }
-    ensures hands { IfOk result (λ _. HandsIn judged.now.code.now facts.old facts.new todo.old todo.new) }
+    ensures hands { IfOk result (λ _. HandsIn judged.now.code.now facts.old facts.new todo.old
+        todo.new) }
 {
     match stored_trial(facts, site) {
         None => {
@@ -153,7 +155,8 @@ fn visit_store(
         heap.new facts.old facts.new at.now.from.trial at.now.from.place at.now.from.held seen) }
     ensures waits { IfOk result (λ seen. NothingNew todo.old todo.new seen) }
     ensures few { IfOk result (λ _. AddsCalls todo.old todo.new 3) }
-    ensures hands { IfOk result (λ _. HandsIn judged.now.code.now facts.old facts.new todo.old todo.new) }
+    ensures hands { IfOk result (λ _. HandsIn judged.now.code.now facts.old facts.new todo.old
+        todo.new) }
 {
     rules_look_from_the_top();
     let first = visit_step(alloc, judged, heap, facts, todo, at)?;
@@ -192,7 +195,8 @@ fn visit_plain(
         heap.new facts.old facts.new at.now.from.trial at.now.from.place at.now.from.held seen) }
     ensures waits { IfOk result (λ seen. NothingNew todo.old todo.new seen) }
     ensures few { IfOk result (λ _. AddsCalls todo.old todo.new 3) }
-    ensures hands { IfOk result (λ _. HandsIn judged.now.code.now facts.old facts.new todo.old todo.new) }
+    ensures hands { IfOk result (λ _. HandsIn judged.now.code.now facts.old facts.new todo.old
+        todo.new) }
 {
     let seen = visit_step(alloc, judged, heap, facts, todo, at)?;
     Ok(seen)
@@ -220,7 +224,8 @@ fn visit_stored(
         heap.new facts.old facts.new at.now.from.trial at.now.from.place at.now.from.held seen) }
     ensures waits { IfOk result (λ seen. NothingNew todo.old todo.new seen) }
     ensures few { IfOk result (λ _. AddsCalls todo.old todo.new 3) }
-    ensures hands { IfOk result (λ _. HandsIn judged.now.code.now facts.old facts.new todo.old todo.new) }
+    ensures hands { IfOk result (λ _. HandsIn judged.now.code.now facts.old facts.new todo.old
+        todo.new) }
 {
     rules_look_from_the_top();
     match resumed(alloc, globals, locals, heap, at.from.held)? {
@@ -261,7 +266,8 @@ fn visit_return(
         heap.now facts.old facts.new from.trial from.place from.held seen) }
     ensures waits { IfOk result (λ seen. NothingNew todo.old todo.new seen) }
     ensures few { IfOk result (λ _. AddsCalls todo.old todo.new 3) }
-    ensures hands { IfOk result (λ _. HandsIn judged.now.code.now facts.old facts.new todo.old todo.new) }
+    ensures hands { IfOk result (λ _. HandsIn judged.now.code.now facts.old facts.new todo.old
+        todo.new) }
 {
     match facts.trials.get(from.trial as usize) {
         None => unreachable!(),
@@ -292,8 +298,10 @@ fn visit_op(
         heap.new facts.old facts.new from.trial from.place from.held seen) }
     ensures waits { IfOk result (λ seen. NothingNew todo.old todo.new seen) }
     ensures few { IfOk result (λ _. AddsCalls todo.old todo.new 3) }
-    ensures hands { IfOk result (λ _. HandsIn judged.now.code.now facts.old facts.new todo.old todo.new) }
-    ensures kept { IfOk result (λ _. IsCallKept judged.now.code.now todo.new from.trial from.place) }
+    ensures hands { IfOk result (λ _. HandsIn judged.now.code.now facts.old facts.new todo.old
+        todo.new) }
+    ensures kept { IfOk result (λ _. IsCallKept judged.now.code.now todo.new from.trial
+        from.place) }
 {
     let next = end_of(judged.code, op, from.place, size);
     let at = FoundOp { from, op, next };
@@ -335,8 +343,10 @@ pub fn visit(
         heap.new facts.old facts.new from.trial from.place from.held seen) }
     ensures waits { IfOk result (λ seen. NothingNew todo.old todo.new seen) }
     ensures few { IfOk result (λ _. AddsCalls todo.old todo.new 3) }
-    ensures hands { IfOk result (λ _. HandsIn judged.now.code.now facts.old facts.new todo.old todo.new) }
-    ensures kept { IfOk result (λ _. IsCallKept judged.now.code.now todo.new from.trial from.place) }
+    ensures hands { IfOk result (λ _. HandsIn judged.now.code.now facts.old facts.new todo.old
+        todo.new) }
+    ensures kept { IfOk result (λ _. IsCallKept judged.now.code.now todo.new from.trial
+        from.place) }
 {
     match judged.code.op_at(from.place) {
         None => Ok(Seen::Bad),

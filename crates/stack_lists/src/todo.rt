@@ -3,7 +3,8 @@ ghost use Rattle.std.specs.Prelude.{◌≤◌, length, map, true, false};
 ghost use Rattle.stack_lists.specs.Rows.{PutAt};
 ghost use Rattle.stack_lists.specs.Shared.{read};
 ghost use Rattle.stack_lists.specs.Worklist.{CallKept, CallersAdded, CallsPut, IsMarked, IsTop};
-ghost use Rattle.stack_lists.specs.Worklist.{KeepsWaiting, SameCalls, calls_of, growths, stands_at, waiting};
+ghost use Rattle.stack_lists.specs.Worklist.{KeepsWaiting, SameCalls, calls_of, growths};
+ghost use Rattle.stack_lists.specs.Worklist.{stands_at, waiting};
 
 use crate::budget::room;
 use crate::lists::Lists;
@@ -281,8 +282,8 @@ impl Todo {
         put_all(&mut self.later, &mut self.waits, &self.calls, number)
     }
 
-    /// Has the calls of a routine looked at first. So whatever control comes to behind them is found
-    /// before windows that have grown are followed.
+    /// Has the calls of a routine looked at first. So whatever control comes to behind them is
+    /// found before windows that have grown are followed.
     #[tactic(auto, using(crate::proofs::Worklists::calling))]
     pub fn call_again(&mut self, target: u32) -> Result<(), NoMemory>
         ensures added { OnOk result (waiting self.new ≡ waiting self.old ++ map stands_at (calls_of

@@ -6,7 +6,8 @@ ghost use Rattle.std.specs.Prelude.{◌≡◌, ◌↔◌, ◌<◌, [], length, m
 ghost use Rattle.std.specs.List.{IsDistinct};
 ghost use Rattle.local_variables.specs.Variables.{same_variable};
 ghost use Rattle.state_parts.specs.World.{variable_of};
-ghost use Rattle.state_objects.specs.Places.{hash_of, hash_under, once_more, place_of, shares_place};
+ghost use Rattle.state_objects.specs.Places.{hash_of, hash_under, once_more, place_of};
+ghost use Rattle.state_objects.specs.Places.{shares_place};
 ghost use Rattle.state_objects.specs.Places.{CountsPlace, CountsPlaces};
 
 use crate::things::variable;

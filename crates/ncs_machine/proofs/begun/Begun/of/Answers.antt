@@ -18,10 +18,10 @@ pub loop-i-preserved : goal.loop-i-preserved
 loop-i-preserved c =
     let inside : c.min-cells.result ≤ length c.args.frame.now.stack.cells = omega (arith, c.min-cells.ensures, c.height.ensures.count) in
     elim c.match-int_at.branch [
-      in-Some w ↦ next_some int_in _ _ c.loop-i.i c.args.frame.now.stack.cells c.loop-i.begun c.match-int_at.begun c.int_at.result w.in-Some.n inside c.loop-i-test.true
+      | in-Some w ↦ next_some int_in _ _ c.loop-i.i c.args.frame.now.stack.cells c.loop-i.begun c.match-int_at.begun c.int_at.result w.in-Some.n inside c.loop-i-test.true
           c.loop-i.invariant c.int_at.ensures.int w.in-Some.is (w.begun-is ∙ w.put.ensures.put
           ∙ ap (λ n. record { spot = c.loop-i.begun.spot; ints = c.loop-i.begun.ints ++ n ∷ [] }) (to_z-of_z w32 w.in-Some.n (record { sfits = (rw w.in-Some.is at c.int_at.type_inv).1.1.1.1.0.1 })))
-    | in-None w ↦ next_none int_in _ _ c.loop-i.i c.args.frame.now.stack.cells c.loop-i.begun c.match-int_at.begun c.int_at.result inside c.loop-i-test.true
+      | in-None w ↦ next_none int_in _ _ c.loop-i.i c.args.frame.now.stack.cells c.loop-i.begun c.match-int_at.begun c.int_at.result inside c.loop-i-test.true
           c.loop-i.invariant c.int_at.ensures.int w.in-None.is w.begun-is
     ]
 
